@@ -1,0 +1,4 @@
+pub mod Plainly
+pub mod SamePictures
+pub mod NothingEmpty
+pub mod Deciding

@@ -1,0 +1,33 @@
+-- What the contents of a book must keep.
+use Prim.Native.Nat.{ℕ, _≤_, _<_}
+use mathlib.Core.List.{List, List·Memᴰ}
+use lib.ListN.{length}
+use Rattle.names.specs.Spelling.{ColoursOk}
+use Rattle.books.specs.Contents.{Contents}
+use Rattle.books.specs.declared.rule.Rule.{Rule}
+use Rattle.books.specs.declared.rule.Body.{Body}
+use Rattle.books.specs.declared.rule.Body.the-variants.{Colour, Across, Down}
+
+-- a body's numbers stand below the counts of motifs and colours
+abbrev pub BodyFits : ℕ → ℕ → Body → Type 0
+BodyFits m n (Colour c) = c < n
+BodyFits m n (Across l r) = (l < m) × (r < m)
+BodyFits m n (Down u v) = (u < m) × (v < m)
+
+pub record RuleFits (m n : ℕ) (r : Rule) : Type 0 where
+  pub head-fits : r .head < m
+  pub body-fits : BodyFits m n (r .body)
+
+-- start and rules stand below the counts
+pub record Sound (b : Contents) : Type 0 where
+  pub start-fits : b .start < b .motifs
+  pub rules-fit : (r : Rule) → List·Memᴰ r (b .rules) → RuleFits (b .motifs) (length (b .colours)) r
+
+-- ... and the counts stand in their ranges: 1 to 64 colours, 1 to 32 motifs, 1 to 200 rules
+pub record Keeps (b : Contents) : Type 0 where
+  pub colours-ok : ColoursOk (b .colours)
+  pub motifs-some : 1 ≤ b .motifs
+  pub motifs-few : b .motifs ≤ 32
+  pub rules-some : 1 ≤ length (b .rules)
+  pub rules-few : length (b .rules) ≤ 200
+  pub sound : Sound b

@@ -1,0 +1,13 @@
+// A rule is a head motif with one of three bodies.
+
+// A colour; a left and a right motif; an upper and a lower motif.
+pub enum Body {
+    Colour(u8),
+    Across(u8, u8),
+    Down(u8, u8),
+}
+
+pub struct Rule {
+    pub head: u8,
+    pub body: Body,
+}

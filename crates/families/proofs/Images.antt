@@ -1,0 +1,120 @@
+-- Mirrored, flipped and transposed books derive exactly the images of what the book derives. A derivation turns into one of the image, cut for cut; since
+-- each change undoes itself, on books and on pictures, the way back is the way forth. To flip is to transpose, mirror and transpose.
+use Prim.Native.Nat.{ℕ, _-_, _<_}
+use mathlib.Core.Path.{_≡_, refl, _∙_, ap, subst}
+use mathlib.Core.List.{List, map, map-map, map-id, Memᴰ·map}
+use mathlib.Core.Logic.{_↔_}
+use native.Mathlib.Omega.{arith}
+use Rattle.books.specs.Contents.{Contents}
+use Rattle.books.specs.Picture.{Picture, Same, Dir, across, down, first, rest}
+use Rattle.books.specs.Derives.{Derives, paint, join, Family}
+use Rattle.books.specs.declared.rule.Rule.{Rule}
+use Rattle.books.specs.declared.rule.Body.{Body}
+use Rattle.books.specs.declared.rule.Body.the-variants.{Colour, Across, Down}
+use Rattle.books.proofs.SamePictures.{same-refl, derives-same}
+use Rattle.families.specs.Images.{reversed, transpose, Image}
+use Rattle.families.specs.Combine.{rebodied, turned, swapped, transposed, swapping, mirrored, flipped}
+
+-- Two changes of every body are one.
+rebodied-as : (t u v : Body → Body) → ((x : Body) → t (u x) ≡ v x) → (b : Contents) → rebodied t (rebodied u b) ≡ rebodied v b
+rebodied-as t u v e b =
+    ap (λ (rs : List Rule). record { colours = b .colours; motifs = b .motifs; start = b .start; rules = rs })
+    (map-map _ _ (b .rules) ∙ (λ i. map (λ (r : Rule). record { head = r .head; body = e (r .body) i }) (b .rules)))
+
+rebodied-twice : (t : Body → Body) → ((x : Body) → t (t x) ≡ x) → (b : Contents) → rebodied t (rebodied t b) ≡ b
+rebodied-twice t e b =
+    rebodied-as t t (λ x. x) e b
+    ∙ ap (λ (rs : List Rule). record { colours = b .colours; motifs = b .motifs; start = b .start; rules = rs }) (map-id (b .rules))
+
+turned-twice : (x : Body) → turned (turned x) ≡ x
+turned-twice (Colour c) = refl
+turned-twice (Across l r) = refl
+turned-twice (Down u v) = refl
+
+swapped-twice : (d : Dir) (x : Body) → swapped d (swapped d x) ≡ x
+swapped-twice across (Colour c) = refl
+swapped-twice across (Across l r) = refl
+swapped-twice across (Down u v) = refl
+swapped-twice down (Colour c) = refl
+swapped-twice down (Across l r) = refl
+swapped-twice down (Down u v) = refl
+
+pub transposed-twice : (b : Contents) → transposed (transposed b) ≡ b
+transposed-twice = rebodied-twice turned turned-twice
+
+pub swapping-twice : (d : Dir) (b : Contents) → swapping d (swapping d b) ≡ b
+swapping-twice d = rebodied-twice (swapped d) (swapped-twice d)
+
+swapped-turned : (x : Body) → turned (swapped across (turned x)) ≡ swapped down x
+swapped-turned (Colour c) = refl
+swapped-turned (Across l r) = refl
+swapped-turned (Down u v) = refl
+
+pub flipped-turned : (b : Contents) → transposed (mirrored (transposed b)) ≡ flipped b
+flipped-turned b =
+    ap transposed (rebodied-as (swapped across) turned (λ x. swapped across (turned x)) (λ x. refl) b)
+    ∙ rebodied-as turned (λ x. swapped across (turned x)) (swapped down) swapped-turned b
+
+-- Pictures, the same way.
+pub same-turned : {p q : Picture} → Same p q → Same (transpose p) (transpose q)
+same-turned s = record { same-rows = s .same-cols; same-cols = s .same-rows; same-cell = λ i j hi hj. s .same-cell j i hj hi }
+
+mirrored-twice : (p : Picture) → Same (reversed across (reversed across p)) p
+mirrored-twice p = record { same-rows = refl; same-cols = refl; same-cell = λ i j hi hj. ap (p .cell i) (omega arith) }
+
+pub reversed-twice : (d : Dir) (p : Picture) → Same (reversed d (reversed d p)) p
+reversed-twice across p = mirrored-twice p
+reversed-twice down p = same-turned (mirrored-twice (transpose p))
+
+-- Transposed, a cut across is a cut down.
+transposed-forth : {b : Contents} {a : ℕ} {p : Picture} → Derives b a p → Derives (transposed b) a (transpose p)
+transposed-forth (paint c h hr hc e) = paint c (Memᴰ·map _ h) hc hr e
+transposed-forth (join across l r k h hk hs x y) = join down l r k (Memᴰ·map _ h) hk hs (transposed-forth x) (transposed-forth y)
+transposed-forth (join down u v k h hk hs x y) = join across u v k (Memᴰ·map _ h) hk hs (transposed-forth x) (transposed-forth y)
+
+-- Mirrored, the rest of the columns comes first, and the first come last.
+mirrored-rest : (p : Picture) (k : ℕ) → k < p .cols → Same (reversed across (rest across k p)) (first across (p .cols - k) (reversed across p))
+mirrored-rest p k h = record { same-rows = refl; same-cols = refl; same-cell = λ i j hi hj. ap (p .cell i) (omega arith) }
+
+mirrored-first : (p : Picture) (k : ℕ) → k < p .cols → Same (reversed across (first across k p)) (rest across (p .cols - k) (reversed across p))
+mirrored-first p k h = record { same-rows = refl; same-cols = omega arith; same-cell = λ i j hi hj. ap (p .cell i) (omega arith) }
+
+mirrored-forth : {b : Contents} {a : ℕ} {p : Picture} → Derives b a p → Derives (mirrored b) a (reversed across p)
+mirrored-forth {p = p} (paint c h hr hc e) =
+    let first-last : p .cols - 1 - 0 ≡ 0 = omega arith in
+    paint c (Memᴰ·map _ h) hr hc (ap (p .cell 0) first-last ∙ e)
+mirrored-forth {p = p} (join across l r k h hk hs x y) =
+    join {p = reversed across p} across r l (p .cols - k) (Memᴰ·map _ h) (omega arith) (omega arith)
+    (derives-same (mirrored-rest p k hs) (mirrored-forth y))
+    (derives-same (mirrored-first p k hs) (mirrored-forth x))
+mirrored-forth (join down u v k h hk hs x y) = join down u v k (Memᴰ·map _ h) hk hs (mirrored-forth x) (mirrored-forth y)
+
+swapping-forth : (d : Dir) {b : Contents} {a : ℕ} {p : Picture} → Derives b a p → Derives (swapping d b) a (reversed d p)
+swapping-forth across x = mirrored-forth x
+swapping-forth down {b} {a} {p} x =
+    subst (λ (c : Contents). Derives c a (reversed down p)) (flipped-turned b) (transposed-forth (mirrored-forth (transposed-forth x)))
+
+-- Forth and back.
+pub transposed-derives : (b : Contents) (a : ℕ) (p : Picture) → Derives (transposed b) a p ↔ Derives b a (transpose p)
+transposed-derives b a p = (
+  λ x. subst (λ (c : Contents). Derives c a (transpose p)) (transposed-twice b) (transposed-forth x),
+  λ x. transposed-forth x,
+)
+
+pub swapping-derives : (d : Dir) (b : Contents) (a : ℕ) (p : Picture) → Derives (swapping d b) a p ↔ Derives b a (reversed d p)
+swapping-derives d b a p = (
+  λ x. subst (λ (c : Contents). Derives c a (reversed d p)) (swapping-twice d b) (swapping-forth d x),
+  λ x. derives-same (reversed-twice d p) (swapping-forth d x),
+)
+
+pub transposed-image : (f : Contents) (p : Picture) → Family (transposed f) p ↔ Image transpose (Family f) p
+transposed-image f p = (
+  λ x. record { source = transpose p; source-in = transposed-derives f _ p .0 x; image = same-refl p },
+  λ y. derives-same (y .image) (transposed-forth (y .source-in)),
+)
+
+pub swapping-image : (d : Dir) (f : Contents) (p : Picture) → Family (swapping d f) p ↔ Image (reversed d) (Family f) p
+swapping-image d f p = (
+  λ x. record { source = reversed d p; source-in = swapping-derives d f _ p .0 x; image = reversed-twice d p },
+  λ y. derives-same (y .image) (swapping-forth d (y .source-in)),
+)

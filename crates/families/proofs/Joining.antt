@@ -1,0 +1,99 @@
+-- `Joined` is the join: it holds of two pictures of one breadth and the picture that they make glued together, and of no other picture. What is shown
+-- across holds down, since a picture joined down is one joined across, transposed.
+use Prim.Native.Nat.{ℕ, _+_, _-_, _≤_, _<_}
+use mathlib.Core.Path.{_≡_, refl, sym, _∙_, ap}
+use mathlib.Core.Bool.{Bool}
+use mathlib.Core.Logic.{⊎-elim, _↔_}
+use native.Mathlib.Omega.{arith}
+use lib.Dec.{ltb}
+use borrow.Author.Tests.{lt-ltb, le-ltb}
+use Rattle.names.specs.Pick.{pick}
+use Rattle.names.specs.Name.{Name}
+use Rattle.names.proofs.Tests.{lt-or-le}
+use Rattle.books.specs.Picture.{Picture, Same, Dir, across, down, size, first, rest}
+use Rattle.books.proofs.SamePictures.{same-refl, same-trans, same-size, same-first, same-rest}
+use Rattle.families.specs.Joined.{Joined, Both, other, glued}
+use Rattle.families.specs.Images.{transpose}
+use Rattle.families.proofs.Images.{same-turned}
+
+to-across : {p q r : Picture} → Joined down p q r → Joined across (transpose p) (transpose q) (transpose r)
+to-across j = record { sizes = j .sizes; front = same-turned (j .front); back = same-turned (j .back) }
+
+to-down : {p q r : Picture} → Joined across (transpose p) (transpose q) (transpose r) → Joined down p q r
+to-down j = record { sizes = j .sizes; front = same-turned (j .front); back = same-turned (j .back) }
+
+-- The glued picture is a join.
+at-first : (n j : ℕ) (x y : Name) → j < n → x ≡ pick (ltb j n) x y
+at-first n j x y h = sym (ap (λ (t : Bool). pick t x y) (lt-ltb j n h))
+
+at-rest : (n j : ℕ) (x y z : Name) → n ≤ j → z ≡ y → z ≡ pick (ltb j n) x y
+at-rest n j x y z h e = e ∙ sym (ap (λ (t : Bool). pick t x y) (le-ltb j n h))
+
+glued-across : (p q : Picture) → p .rows ≡ q .rows → Joined across p q (glued across p q)
+glued-across p q e =
+    record {
+      sizes = refl;
+      front = record { same-rows = refl; same-cols = refl; same-cell = λ i j hi hj. at-first (p .cols) j _ _ hj };
+      back = record {
+        same-rows = sym e;
+        same-cols = omega arith;
+        same-cell = λ i j hi hj. at-rest (p .cols) (p .cols + j) _ _ _ (omega arith) (ap (λ (n : ℕ). q .cell i n) (omega arith));
+      };
+    }
+
+pub glued-joined : (d : Dir) (p q : Picture) → size (other d) p ≡ size (other d) q → Joined d p q (glued d p q)
+glued-joined across p q e = glued-across p q e
+glued-joined down p q e = to-down (glued-across (transpose p) (transpose q) e)
+
+-- Two pictures that are joined are of one breadth.
+pub joined-level : (d : Dir) (p q r : Picture) → Joined d p q r → size (other d) p ≡ size (other d) q
+joined-level across p q r j = j .front .same-rows ∙ sym (j .back .same-rows)
+joined-level down p q r j = j .front .same-cols ∙ sym (j .back .same-cols)
+
+-- The join is one picture: each of its cells lies in the first part or in the rest.
+unique-across : (p q r s : Picture) → Joined across p q r → Joined across p q s → Same r s
+unique-across p q r s j k =
+    record {
+      same-rows = sym (j .front .same-rows) ∙ k .front .same-rows;
+      same-cols = sym (j .sizes) ∙ k .sizes;
+      same-cell = λ y x hy hx.
+          let hp : y < p .rows = omega (arith, j .front .same-rows) in
+          let hq : y < q .rows = omega (arith, j .back .same-rows) in
+          ⊎-elim
+          (λ (h : x < p .cols). sym (j .front .same-cell y x hp h) ∙ k .front .same-cell y x hp h)
+          (λ (h : p .cols ≤ x).
+          let hx′ : x - p .cols < q .cols = omega (arith, j .sizes) in
+          let e : p .cols + (x - p .cols) ≡ x = omega arith in
+          ap (r .cell y) (sym e) ∙ sym (j .back .same-cell y (x - p .cols) hq hx′) ∙ k .back .same-cell y (x - p .cols) hq hx′ ∙ ap (s .cell y) e)
+          (lt-or-le x (p .cols));
+    }
+
+pub joined-unique : (d : Dir) (p q r s : Picture) → Joined d p q r → Joined d p q s → Same r s
+joined-unique across p q r s j k = unique-across p q r s j k
+joined-unique down p q r s j k = same-turned (unique-across (transpose p) (transpose q) (transpose r) (transpose s) (to-across j) (to-across k))
+
+pub joined-same : (d : Dir) {p q r s : Picture} → Same r s → Joined d p q r → Joined d p q s
+joined-same d {p} {q} {r} {s} e j =
+    record {
+      sizes = j .sizes ∙ same-size d e;
+      front = same-trans (j .front) (same-first d (size d p) (omega (arith, j .sizes)) e);
+      back = same-trans (j .back) (same-rest d (size d p) e);
+    }
+
+-- So the join is exactly the picture glued, of two pictures of one breadth.
+pub joining : (d : Dir) (p q r : Picture) → Joined d p q r ↔ ((size (other d) p ≡ size (other d) q) × Same (glued d p q) r)
+joining d p q r = (
+  λ j. let e = joined-level d p q r j in (e, joined-unique d p q (glued d p q) r (glued-joined d p q e) j),
+  λ u. joined-same d (u .1) (glued-joined d p q (u .0)),
+)
+
+-- The two parts of a cut join to the whole.
+pub cut-joined : (d : Dir) (p : Picture) (k : ℕ) → k < size d p → Joined d (first d k p) (rest d k p) p
+cut-joined across p k h = record { sizes = omega arith; front = same-refl _; back = same-refl _ }
+cut-joined down p k h = record { sizes = omega arith; front = same-refl _; back = same-refl _ }
+
+-- Joins of sets grow with the sets.
+pub both-map : (d : Dir) {X Y X′ Y′ : Picture → Type 0} {r : Picture} → ((p : Picture) → X p → X′ p) → ((p : Picture) → Y p → Y′ p)
+    → Both d X Y r → Both d X′ Y′ r
+both-map d f g y =
+    record { left = y .left; right = y .right; left-in = f _ (y .left-in); right-in = g _ (y .right-in); whole = y .whole }

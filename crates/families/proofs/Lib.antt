@@ -1,0 +1,16 @@
+pub mod Theorems
+pub mod Joining
+pub mod EitherOf
+pub mod Joins
+pub mod Runs
+pub mod Images
+pub mod Fitting
+pub mod Keeping
+pub mod Merging
+pub mod MergingInOrder
+pub mod Copying
+pub mod Counting
+pub mod Heads
+pub mod Inside
+pub mod Standing
+pub mod Reheading

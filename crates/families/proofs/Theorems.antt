@@ -1,0 +1,91 @@
+-- What each of the eight combinations derives, for pictures of every size. Each is its law over a direction, or over both books, under its own name.
+use mathlib.Core.Path.{_≡_}
+use mathlib.Core.Logic.{_↔_, _⊎_}
+use Rattle.books.specs.Contents.{Contents}
+use Rattle.books.specs.Picture.{Picture, across, down}
+use Rattle.books.specs.Derives.{Family}
+use Rattle.books.specs.Keeps.{Sound, Keeps}
+use Rattle.families.specs.Joined.{Both, Run}
+use Rattle.families.specs.Images.{reversed, transpose, Image}
+use Rattle.families.specs.Combine.{either-of, beside, above, run, stack, mirrored, flipped, transposed}
+use Rattle.families.specs.Limits.{WithinLimits}
+use Rattle.families.proofs.EitherOf.{either-of-derives}
+use Rattle.families.proofs.Joins.{joined-derives}
+use Rattle.families.proofs.Runs.{repeated-derives}
+use Rattle.families.proofs.Images.{transposed-image, transposed-twice, swapping-image, swapping-twice}
+use Rattle.families.proofs.Fitting.{joined-sound, either-of-sound, repeated-sound, transposed-sound, swapping-sound}
+use Rattle.families.proofs.Keeping.{joined-keeps, either-of-keeps, repeated-keeps, transposed-keeps, swapping-keeps}
+
+-- Either-of: what the one or the other derives.
+pub either-of-holds : (f g : Contents) → Sound f → Sound g → (p : Picture) → Family (either-of f g) p ↔ (Family f p ⊎ Family g p)
+either-of-holds = either-of-derives
+
+-- Beside: a picture of the first with one of the second to its right.
+pub beside-holds : (f g : Contents) → Sound f → Sound g → (p : Picture) → Family (beside f g) p ↔ Both across (Family f) (Family g) p
+beside-holds = joined-derives across
+
+-- Above: a picture of the first with one of the second below it.
+pub above-holds : (f g : Contents) → Sound f → Sound g → (p : Picture) → Family (above f g) p ↔ Both down (Family f) (Family g) p
+above-holds = joined-derives down
+
+-- Run: one or more pictures side by side.
+pub run-holds : (f : Contents) → Sound f → (p : Picture) → Family (run f) p ↔ Run across (Family f) p
+run-holds = repeated-derives across
+
+-- Stack: one or more pictures on top of each other.
+pub stack-holds : (f : Contents) → Sound f → (p : Picture) → Family (stack f) p ↔ Run down (Family f) p
+stack-holds = repeated-derives down
+
+-- Mirrored, flipped, transposed: the images.
+pub mirrored-holds : (f : Contents) (p : Picture) → Family (mirrored f) p ↔ Image (reversed across) (Family f) p
+mirrored-holds = swapping-image across
+
+pub flipped-holds : (f : Contents) (p : Picture) → Family (flipped f) p ↔ Image (reversed down) (Family f) p
+flipped-holds = swapping-image down
+
+pub transposed-holds : (f : Contents) (p : Picture) → Family (transposed f) p ↔ Image transpose (Family f) p
+transposed-holds = transposed-image
+
+-- Each of them twice is the same contents.
+pub mirrored-again : (f : Contents) → mirrored (mirrored f) ≡ f
+mirrored-again = swapping-twice across
+
+pub flipped-again : (f : Contents) → flipped (flipped f) ≡ f
+flipped-again = swapping-twice down
+
+pub transposed-again : (f : Contents) → transposed (transposed f) ≡ f
+transposed-again = transposed-twice
+
+-- All eight are sound, ...
+pub all-sound : (f g : Contents) → Sound f → Sound g
+    → Sound (either-of f g) × Sound (beside f g) × Sound (above f g) × Sound (run f) × Sound (stack f)
+    × Sound (mirrored f) × Sound (flipped f) × Sound (transposed f)
+all-sound f g sf sg = (
+  either-of-sound f g sf sg,
+  joined-sound across f g sf sg,
+  joined-sound down f g sf sg,
+  repeated-sound across f sf,
+  repeated-sound down f sf,
+  swapping-sound across f sf,
+  swapping-sound down f sf,
+  transposed-sound f sf,
+)
+
+-- ... and keep the rules of a book, the first five where they are within the limits.
+pub all-keep : (f g : Contents) → Keeps f → Keeps g
+    → (WithinLimits (either-of f g) → Keeps (either-of f g))
+    × (WithinLimits (beside f g) → Keeps (beside f g))
+    × (WithinLimits (above f g) → Keeps (above f g))
+    × (WithinLimits (run f) → Keeps (run f))
+    × (WithinLimits (stack f) → Keeps (stack f))
+    × Keeps (mirrored f) × Keeps (flipped f) × Keeps (transposed f)
+all-keep f g kf kg = (
+  either-of-keeps f g kf kg,
+  joined-keeps across f g kf kg,
+  joined-keeps down f g kf kg,
+  repeated-keeps across f kf,
+  repeated-keeps down f kf,
+  swapping-keeps across f kf,
+  swapping-keeps down f kf,
+  transposed-keeps f kf,
+)

@@ -1,0 +1,1 @@
+// The eight combinations, and what each holds.

@@ -1,0 +1,61 @@
+-- Worked examples of document 01, computed from the definitions.
+use Prim.Native.Nat.{ℕ}
+use mathlib.Core.Path.{_≡_, refl}
+use mathlib.Core.List.{List, [], _∷_, _++_}
+use Rattle.names.specs.Pick.{fault}
+use Rattle.names.specs.Number.{numberAt, numberIn, spellNumber}
+use Rattle.names.specs.Name.{Name, nameOf, sameName, place}
+use Rattle.names.specs.Colours.{namesIn, findName, colourAt, coloursOf}
+use Rattle.names.specs.declared.number.Read.the-variants.{Value, Refused}
+
+pub record Numbers : Type 0 where
+  pub P7 : numberAt (128 ∷ 0 ∷ []) 0 ≡ Refused (fault 2 0)
+  pub P8 : numberAt (200 ∷ 1 ∷ []) 0 ≡ Value 200 2
+  pub least : spellNumber 0 ≡ 0 ∷ []
+  pub one-byte : spellNumber 127 ≡ 127 ∷ []
+  pub two-bytes : spellNumber 128 ≡ 128 ∷ 1 ∷ []
+  pub greatest : spellNumber 16383 ≡ 255 ∷ 127 ∷ []
+  pub greatest-read : numberAt (255 ∷ 127 ∷ []) 0 ≡ Value 16383 2
+  pub too-long : numberAt (255 ∷ 128 ∷ []) 0 ≡ Refused (fault 2 0)
+  pub ends : numberAt (128 ∷ []) 0 ≡ Refused (fault 1 1)
+
+pub numbers : Numbers
+unfolding numberAt spellNumber
+numbers =
+    record {
+      P7 = refl;
+      P8 = refl;
+      least = refl;
+      one-byte = refl;
+      two-bytes = refl;
+      greatest = refl;
+      greatest-read = refl;
+      too-long = refl;
+      ends = refl;
+    }
+
+-- the colour list of the house book, with what follows it
+pub slateC : Name
+slateC = 83 ∷ 108 ∷ 97 ∷ 116 ∷ 101 ∷ 32 ∷ 67 ∷ []
+
+pub slateU : Name
+slateU = 83 ∷ 108 ∷ 97 ∷ 116 ∷ 101 ∷ 32 ∷ 85 ∷ []
+
+pub house : List ℕ
+unfolding slateC slateU
+house = 2 ∷ 7 ∷ slateC ++ (7 ∷ slateU ++ (3 ∷ 0 ∷ 4 ∷ []))
+
+-- Slate C listed twice
+pub twice : List ℕ
+unfolding slateC
+twice = 2 ∷ 7 ∷ slateC ++ (7 ∷ slateC)
+
+pub record Lists : Type 0 where
+  pub fine : coloursOf house .fault ≡ fault 0 0
+  pub next : coloursOf house .next ≡ 17
+  pub names : namesIn house (coloursOf house .colours) ≡ slateC ∷ slateU ∷ []
+  pub repeated : coloursOf twice .fault ≡ fault 5 10
+
+pub lists : Lists
+unfolding house twice slateC slateU coloursOf numberIn numberAt colourAt nameOf findName place sameName
+lists = record { fine = refl; next = refl; names = refl; repeated = refl }

@@ -1,0 +1,14 @@
+pub mod Count
+pub mod Tests
+pub mod Picking
+pub mod SameNames
+pub mod Places
+pub mod ByteByByte
+pub mod Putting
+pub mod ReadingNumbers
+pub mod SpellingNumbers
+pub mod Finding
+pub mod ReadingNames
+pub mod ReadingColours
+pub mod SpellingColours
+pub mod Examples

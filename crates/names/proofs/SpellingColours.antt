@@ -1,0 +1,229 @@
+-- All names that keep the rules have exactly one accepted spelling as a colour list, and reading it gives them back: each name is spelled
+-- by its length and its bytes, and each of the two is read back at its place.
+use Prim.Native.Nat.{ℕ, zero, suc, _+_, _-_, _*_, _<_, _≤_}
+use mathlib.Core.Path.{_≡_, refl, subst, sym, ap, _∙_}
+use mathlib.Core.Logic.{⊎-elim}
+use mathlib.Core.Bool.{Bool, true, false}
+use mathlib.Core.List.{List, [], _∷_, _++_, append-assoc, append-nil, List·Memᴰ, List·Memᴰ·head, List·Memᴰ·tail, List·Memᴰ·cases-cons, List·Memᴰ·not-nil, Memᴰ·cast, Memᴰ·append-left, Memᴰ·append-right, List·Memᴰ·append-cases, List·Memᴰ·eq-of-singleton}
+use native.Mathlib.Omega.{arith}
+use borrow.Author.Tests.{ltb-true, ltb-false, lt-ltb, le-ltb}
+use lib.Dec.{ltb}
+use lib.ListN.{length, getD, take, drop, length-append, length-drop, take-append-drop, List·getD-append}
+use lib.Seq.{getD-take, drop-drop, drop-append-seam, take-append-seam, length-take-le}
+use Rattle.names.specs.Pick.{pick, fault}
+use Rattle.names.specs.Number.{numberIn, spellNumber}
+use Rattle.names.specs.Name.{Name, nameOf, place}
+use Rattle.names.specs.Colours.{namesIn, findName, colourAt, noColours, withColour, afterColour, coloursFrom, countedAt, coloursOf}
+use Rattle.names.specs.Spelling.{NameOk, Distinct, ColoursOk, spellNames, spellColours}
+use Rattle.names.specs.declared.number.Fault.{Fault}
+use Rattle.names.specs.declared.number.Read.{Read}
+use Rattle.names.specs.declared.number.Read.the-variants.{Value, Refused}
+use Rattle.names.specs.declared.name.NameRead.the-variants.{Whole}
+use Rattle.names.specs.declared.colours.ColourRead.{ColourRead}
+use Rattle.names.specs.declared.colours.ColourRead.the-variants.{At, Refused as RefusedColour}
+use Rattle.names.specs.declared.colours.Colours.{Colours}
+use Rattle.names.specs.declared.colours.ColoursRead.{ColoursRead}
+use Rattle.names.proofs.Picking.{pick-ind}
+use Rattle.names.proofs.Places.{place-le, place-found, place-mem}
+use Rattle.names.proofs.Finding.{find-place}
+use Rattle.names.proofs.ReadingNumbers.{number-there, number-in, number-in-range, number-in-refused}
+use Rattle.names.proofs.SpellingNumbers.{Bytes, number-spelled, number-reads-at}
+use Rattle.names.proofs.ReadingNames.{name-whole, name-good}
+use Rattle.names.proofs.ReadingColours.{colour-lies, colour-refused, Places, places-none, places-with, names-with, names-count, colours-lie}
+
+-- ── Names that are new after those that stood before ──
+
+abbrev Fresh : List Name → List Name → Type 0
+Fresh b [] = Unit {0}
+Fresh b (n ∷ ns) = NameOk n × (List·Memᴰ n b → ⊥) × Fresh (b ++ (n ∷ [])) ns
+
+fresh-each : (b ns : List Name) → Fresh b ns → (n : Name) → List·Memᴰ n ns → NameOk n
+fresh-each b [] f n m = absurd (List·Memᴰ·not-nil m)
+fresh-each b (x ∷ xs) f n m = ⊎-elim (λ e. subst NameOk (sym e) (f .0)) (λ t. fresh-each (b ++ (x ∷ [])) xs (f .2) n t) (List·Memᴰ·cases-cons m)
+
+fresh-absent : (b ns : List Name) → Fresh b ns → (n : Name) → List·Memᴰ n ns → List·Memᴰ n b → ⊥
+fresh-absent b [] f n m q = List·Memᴰ·not-nil m
+fresh-absent b (x ∷ xs) f n m q =
+    ⊎-elim (λ e. f .1 (Memᴰ·cast (sym e) q)) (λ t. fresh-absent (b ++ (x ∷ [])) xs (f .2) n t (Memᴰ·append-left (x ∷ []) q)) (List·Memᴰ·cases-cons m)
+
+fresh-distinct : (b ns : List Name) → Fresh b ns → Distinct ns
+fresh-distinct b [] f = tt
+fresh-distinct b (x ∷ xs) f =
+    (λ m. fresh-absent (b ++ (x ∷ [])) xs (f .2) x m (Memᴰ·append-right b (List·Memᴰ·head refl)), fresh-distinct (b ++ (x ∷ [])) xs (f .2))
+
+make-fresh : (b ns : List Name) → ((n : Name) → List·Memᴰ n ns → NameOk n) → Distinct ns → ((n : Name) → List·Memᴰ n ns → List·Memᴰ n b → ⊥) → Fresh b ns
+make-fresh b [] each d new = tt
+make-fresh b (x ∷ xs) each d new = (
+  each x (List·Memᴰ·head refl),
+  new x (List·Memᴰ·head refl),
+  make-fresh (b ++ (x ∷ [])) xs (λ n m. each n (List·Memᴰ·tail m)) (d .1)
+      (λ n m q. ⊎-elim (λ u. new n (List·Memᴰ·tail m) u) (λ u. d .0 (Memᴰ·cast (sym (List·Memᴰ·eq-of-singleton u)) m)) (List·Memᴰ·append-cases b q)),
+)
+
+-- the reader's test for a name that stood before
+module _ (s : List ℕ) (c : Colours) (n : Name) (g : Places s c) where
+  absent : ltb (findName s c n) (c .count) ≡ false → List·Memᴰ n (namesIn s c) → ⊥
+  absent e m = omega (arith, ltb-false (findName s c n) (c .count) e, find-place s c n (g .few), place-found (namesIn s c) n m .0, names-count s c)
+
+  not-named : (List·Memᴰ n (namesIn s c) → ⊥) → ltb (findName s c n) (c .count) ≡ false
+  not-named f = le-ltb (findName s c n) (c .count) (rw (find-place s c n (g .few)) (go (ltb (place (namesIn s c) n) (c .count)) refl))
+    where
+      go : (t : Bool) → ltb (place (namesIn s c) n) (c .count) ≡ t → c .count ≤ place (namesIn s c) n
+      go true e = absurd (f (place-mem (namesIn s c) n (omega (arith, ltb-true (place (namesIn s c) n) (c .count) e, names-count s c))))
+      go false e = ltb-false _ _ e
+
+-- ── What is accepted is a spelling ──
+
+-- so many names were taken from a place on, each good and new, and what stood there is their spelling
+record Taken (s : List ℕ) (c : Colours) (at k : ℕ) (r : ColoursRead) : Type 0 where
+  new : List Name
+  count : length new ≡ k
+  fresh : Fresh (namesIn s c) new
+  names : namesIn s (r .colours) ≡ namesIn s c ++ new
+  spelled : drop at s ≡ spellNames new ++ drop (r .next) s
+
+module _ (s : List ℕ) (bytes : Bytes s) where
+  abbrev Takes : Colours → ℕ → ℕ → ColoursRead → Type 0
+  Takes c at k r = r .fault ≡ fault 0 0 → Taken s c at k r
+
+  -- the name that was read
+  name-ok : (at start len : ℕ) → colourAt s at ≡ At start len → NameOk (take len (drop start s))
+  name-ok at start len e =
+      let g = colour-lies s at start len e in
+      let w = name-whole (drop start s) len (g .whole) in
+      let n : length (take len (drop start s)) ≡ len = length-take-le len (drop start s) (w .0) in
+      record {
+        some = omega (arith, g .low);
+        few = omega (arith, g .high);
+        shown = λ i h. let l : i < len = omega arith in rw (getD-take len (drop start s) i 0 l) (w .1 i l);
+      }
+
+  -- one name more in front of those that were taken after it
+  one-more : (c : Colours) (at k start len : ℕ) (r : ColoursRead) → Places s c → c .count < 64 → colourAt s at ≡ At start len
+      → ltb (findName s c (take len (drop start s))) (c .count) ≡ false → Taken s (withColour c start len) (start + len) k r → Taken s c at (suc k) r
+  one-more c at k start len r g room e f t =
+      let p = colour-lies s at start len e in
+      let w = name-whole (drop start s) len (p .whole) .0 in
+      let n = take len (drop start s) in
+      let size : length n ≡ len = length-take-le len (drop start s) w in
+      let grown = names-with s c start len g room in
+      let first : drop at s ≡ spellNumber len ++ drop start s = number-spelled s bytes at len start (number-there s at 1 40 len start (p .sized)) in
+      let then : drop start s ≡ n ++ drop (start + len) s = sym (take-append-drop len (drop start s)) ∙ ap (λ (x : List ℕ). n ++ x) (drop-drop len start s) in
+      record {
+        new = n ∷ t .new;
+        count = ap suc (t .count);
+        fresh = (name-ok at start len e, absent s c n g f, subst (λ (b : List Name). Fresh b (t .new)) grown (t .fresh));
+        names = t .names ∙ (ap (λ (x : List Name). x ++ t .new) grown ∙ append-assoc (namesIn s c) (n ∷ []) (t .new));
+        spelled = rw (size, append-assoc, append-assoc, ← t .spelled, ← then) first;
+      }
+
+  after : (c : Colours) (at k : ℕ) → Places s c → c .count + suc k ≤ 64
+      → ((d : Colours) (p : ℕ) → Places s d → d .count + k ≤ 64 → Takes d p k (coloursFrom s d p k))
+      → (r : ColourRead) → colourAt s at ≡ r → Takes c at (suc k) (afterColour s c (λ d p. coloursFrom s d p k) r)
+  after c at k g h rec (RefusedColour f) e = λ z. absurd (omega (arith, colour-refused s at f e .some, ap (λ (x : Fault). x .number) z))
+  after c at k g h rec (At start len) e =
+      pick-ind (Takes c at (suc k)) (ltb (findName s c (take len (drop start s))) (c .count)) _ _
+      (λ t z. let five : 5 ≡ 0 = ap (λ (x : Fault). x .number) z in absurd (omega arith))
+      (λ t z.
+      one-more c at k start len _ g (omega arith) e t
+      (rec (withColour c start len) (start + len) (places-with s c start len g (omega arith) (colour-lies s at start len e .inside)) (omega arith) z))
+
+  taken : (k : ℕ) (c : Colours) (at : ℕ) → Places s c → c .count + k ≤ 64 → Takes c at k (coloursFrom s c at k)
+  taken zero c at g h = λ z. record { new = []; count = refl; fresh = tt; names = sym (append-nil (namesIn s c)); spelled = refl }
+  taken (suc k) c at g h = after c at k g h (taken k) (colourAt s at) refl
+
+  -- an accepted list has names that keep the rules, and begins with their spelling
+  pub record Accepted (r : ColoursRead) : Type 0 where
+    pub ok : ColoursOk (namesIn s (r .colours))
+    pub spelled : s ≡ spellColours (namesIn s (r .colours)) ++ drop (r .next) s
+
+  counted : (r : Read) → numberIn s 0 1 64 ≡ r → countedAt s r .fault ≡ fault 0 0 → Accepted (countedAt s r)
+  counted (Refused f) e z = absurd (omega (arith, number-in-refused s 0 1 64 f e .some, ap (λ (x : Fault). x .number) z))
+  counted (Value n at) e z =
+      let g = number-in s 0 1 64 n at e in
+      let t = taken n noColours at (places-none s) (omega (arith, g .high)) z in
+      let first : s ≡ spellNumber n ++ drop at s = number-spelled s bytes 0 n at (number-there s 0 1 64 n at e) in
+      record {
+        ok = rw (t .names) (record {
+          some = omega (arith, t .count, g .low);
+          few = omega (arith, t .count, g .high);
+          each = fresh-each [] (t .new) (t .fresh);
+          distinct = fresh-distinct [] (t .new) (t .fresh);
+        });
+        spelled = rw (t .names, t .count, append-assoc, ← t .spelled) first;
+      }
+
+  pub colours-accepted : coloursOf s .fault .number ≡ 0 → Accepted (coloursOf s)
+  unfolding coloursOf
+  colours-accepted z = counted (numberIn s 0 1 64) refl (colours-lie s z .fine)
+
+-- ── A spelling is accepted ──
+
+-- what stands after the first part of what stands at a place
+pub drop-past : (s a b : List ℕ) (at : ℕ) → drop at s ≡ a ++ b → drop (at + length a) s ≡ b
+drop-past s a b at e = sym (drop-drop (length a) at s) ∙ (ap (drop (length a)) e ∙ drop-append-seam a b)
+
+pub past-inside : (s a b : List ℕ) (at : ℕ) → at ≤ length s → drop at s ≡ a ++ b → at + length a ≤ length s
+past-inside s a b at h e = omega (arith, length-drop at s, ap (λ (x : List ℕ). length x) e, length-append a b)
+
+-- the names are there after those that stood before, and the place is after them
+record Got (s : List ℕ) (c : Colours) (at : ℕ) (ns : List Name) (r : ColoursRead) : Type 0 where
+  fine : r .fault ≡ fault 0 0
+  names : namesIn s (r .colours) ≡ namesIn s c ++ ns
+  next : r .next ≡ at + length (spellNames ns)
+
+module _ (s : List ℕ) where
+  -- one name's spelling is read
+  one-read : (at : ℕ) (n rest : List ℕ) → at ≤ length s → NameOk n → drop at s ≡ spellNumber (length n) ++ (n ++ rest)
+      → colourAt s at ≡ At (at + length (spellNumber (length n))) (length n)
+  unfolding colourAt
+  one-read at n rest h ok e =
+      let start = at + length (spellNumber (length n)) in
+      let d : drop start s ≡ n ++ rest = drop-past s (spellNumber (length n)) (n ++ rest) at e in
+      let number = number-reads-at s (n ++ rest) at (length n) h (omega (arith, ok .few)) e in
+      let w : nameOf (n ++ rest) (length n) ≡ Whole =
+      name-good (n ++ rest) (length n) (omega (arith, length-append n rest)) (λ j l. rw (List·getD-append n rest 0 j l) (ok .shown j l)) in
+      simp (number-in-range s at 1 40 (length n) start number (ok .some) (ok .few), d, w)
+
+  reads : (ns : List Name) (c : Colours) (at : ℕ) (rest : List ℕ) → Places s c → c .count + length ns ≤ 64 → at ≤ length s
+      → Fresh (namesIn s c) ns → drop at s ≡ spellNames ns ++ rest → Got s c at ns (coloursFrom s c at (length ns))
+  reads [] c at rest g h l f e = record { fine = refl; names = sym (append-nil (namesIn s c)); next = omega arith }
+  reads (n ∷ ns) c at rest g h l f e =
+      let size = length (spellNumber (length n)) in
+      let start = at + size in
+      let e' : drop at s ≡ spellNumber (length n) ++ (n ++ (spellNames ns ++ rest)) = e ∙ simp append-assoc in
+      let d : drop start s ≡ n ++ (spellNames ns ++ rest) = drop-past s (spellNumber (length n)) (n ++ (spellNames ns ++ rest)) at e' in
+      let in1 : start ≤ length s = past-inside s (spellNumber (length n)) (n ++ (spellNames ns ++ rest)) at l e' in
+      let in2 : start + length n ≤ length s = past-inside s n (spellNames ns ++ rest) start in1 d in
+      let name : take (length n) (drop start s) ≡ n = ap (take (length n)) d ∙ take-append-seam n (spellNames ns ++ rest) in
+      let room : c .count < 64 = omega arith in
+      let grown : namesIn s (withColour c start (length n)) ≡ namesIn s c ++ (n ∷ []) =
+      names-with s c start (length n) g room ∙ ap (λ (x : List ℕ). namesIn s c ++ (x ∷ [])) name in
+      let new : ltb (findName s c (take (length n) (drop start s))) (c .count) ≡ false =
+      not-named s c (take (length n) (drop start s)) g (λ m. f .1 (Memᴰ·cast (sym name) m)) in
+      let t = reads ns (withColour c start (length n)) (start + length n) rest (places-with s c start (length n) g room in2) (omega arith) in2
+      (subst (λ (b : List Name). Fresh b ns) (sym grown) (f .2)) (drop-past s n (spellNames ns ++ rest) start d) in
+      simp (one-read at n (spellNames ns ++ rest) l (f .0) e', new)
+      (record {
+        fine = t .fine;
+        names = t .names ∙ (ap (λ (x : List Name). x ++ ns) grown ∙ append-assoc (namesIn s c) (n ∷ []) ns);
+        next = omega (arith, t .next, length-append (spellNumber (length n)) (n ++ spellNames ns), length-append n (spellNames ns));
+      })
+
+-- reading a spelling, whatever follows it, gives the names back and the place after them
+pub record ReadsBack (s : List ℕ) (ns : List Name) (r : ColoursRead) : Type 0 where
+  pub fine : r .fault ≡ fault 0 0
+  pub names : namesIn s (r .colours) ≡ ns
+  pub next : r .next ≡ length (spellColours ns)
+
+pub colours-read-back : (ns : List Name) (rest : List ℕ) → ColoursOk ns → ReadsBack (spellColours ns ++ rest) ns (coloursOf (spellColours ns ++ rest))
+unfolding coloursOf
+colours-read-back ns rest ok =
+    let s = spellColours ns ++ rest in
+    let e : drop 0 s ≡ spellNumber (length ns) ++ (spellNames ns ++ rest) = append-assoc (spellNumber (length ns)) (spellNames ns) rest in
+    let number = number-reads-at s (spellNames ns ++ rest) 0 (length ns) (omega arith) (omega (arith, ok .few)) e in
+    let d = drop-past s (spellNumber (length ns)) (spellNames ns ++ rest) 0 e in
+    let fresh = make-fresh [] ns (ok .each) (ok .distinct) (λ n m q. List·Memᴰ·not-nil q) in
+    let t = reads s ns noColours (0 + length (spellNumber (length ns))) rest (places-none s) (omega (arith, ok .few)) (past-inside s (spellNumber (length ns)) (spellNames ns ++ rest) 0 (omega arith) e) fresh d in
+    simp (number-in-range s 0 1 64 (length ns) _ number (ok .some) (ok .few))
+    (record { fine = t .fine; names = t .names; next = omega (arith, t .next, length-append (spellNumber (length ns)) (spellNames ns)) })

@@ -1,0 +1,136 @@
+-- Reading what is left from here, with the names read so far, is reading the whole list; places stay near the start, so that they fit their arrays.
+use Rattle.names.specs.declared.colours.ColourRead.the-variants.{At}
+use borrow.Author.Needs.{needs}
+use borrow.Author.Tests.{lt-ltb, le-ltb}
+use Prim.Native.Nat.{ℕ, _+_, _-_, _*_, _<_, _≤_}
+use mathlib.Core.Path.{_≡_, refl, sym, _∙_, subst}
+use mathlib.Core.List.{List}
+use native.Mathlib.Omega.{arith}
+use denote.Ref.{now}
+use lib.ListN.{take, drop}
+use Rattle.names.specs.Colours.{findName, colourAt, coloursFrom, noColours}
+use Rattle.names.proofs.Count.{left-suc, left-all, left-none}
+use Rattle.names.proofs.ReadingColours.{colour-lies}
+use Rattle.names.proofs.colours.read_names.Statement.{statement}
+use Rattle.names.proofs.colours.read_names.Tie as tie
+
+abbrev Inv-loop : tie.InvT-loop
+Inv-loop s count from c₀ at₀ i₀ c at i = (i ≤ count) × (c .count ≡ i) × (coloursFrom s c at (count - i) ≡ coloursFrom s noColours from count) × (at ≤ 3 + 43 * i)
+
+abbrev μ-loop : tie.MeasureT-loop
+μ-loop s count from c₀ at₀ i₀ c at i = count - i
+
+no-colours-requires : tie.Need-no-colours-requires Inv-loop μ-loop
+no-colours-requires c κs = tt
+
+loop-holds : tie.Need-loop-holds Inv-loop μ-loop
+loop-holds c = simp (left-all, c .no-colours .ensures) (omega arith, refl, refl, omega arith)
+
+read-colour-requires : tie.Need-read-colour-requires Inv-loop μ-loop
+read-colour-requires c κs = tt
+
+enum-known-r : tie.Need-enum-known-r Inv-loop μ-loop
+enum-known-r c = search needs
+
+refused-colours-requires : tie.Need-refused-colours-requires Inv-loop μ-loop
+refused-colours-requires c κs = tt
+
+returns : tie.Need-returns Inv-loop μ-loop
+returns c =
+    let less = c .before .before .before .before .before .loop-test .taken in
+    let fault = sym (c .before .before .before .before .read-colour .ensures) ∙ c .before .before .r .given .1 in
+    c .refused-colours .ensures ∙ (simp (left-suc _ _ less, fault) at (c .before .before .before .before .before .before .loop .inv .2))
+
+enum-known-r-2 : tie.Need-enum-known-r-2 Inv-loop μ-loop
+enum-known-r-2 c = search needs
+
+-- the colour that was read at the loop's place
+colour : (c : tie.After-find-name Inv-loop μ-loop) →
+    colourAt (now (c .before .before .before .before .before .before .before .before .before .before .args .s)) (c .before .before .before .before .before .before .before .loop .at)
+    ≡ At (c .before .before .before .r2 .given .0 .0) (c .before .before .before .r2 .given .0 .1 .0)
+colour c = sym (c .before .before .before .before .before .read-colour .ensures) ∙ c .before .before .before .r2 .given .1
+
+-- what looking for its name says
+found : (c : tie.After-find-name Inv-loop μ-loop) →
+    let s = now (c .before .before .before .before .before .before .before .before .before .before .args .s) in
+    c .find-name .result
+    ≡ findName s (c .before .before .before .before .before .before .before .loop .c) (take (c .before .before .before .r2 .given .0 .1 .0) (drop (c .before .before .before .r2 .given .0 .0) s))
+found c = rw (← c .before .tail .ensures) (c .find-name .ensures)
+
+tail-requires : tie.Need-tail-requires Inv-loop μ-loop
+tail-requires c κs = tt
+
+find-name-requires : tie.Need-find-name-requires Inv-loop μ-loop
+find-name-requires c κs = tt
+
+refused-colours-requires-2 : tie.Need-refused-colours-requires-2 Inv-loop μ-loop
+refused-colours-requires-2 c κs = tt
+
+returns-2 : tie.Need-returns-2 Inv-loop μ-loop
+returns-2 c =
+    let less = c .before .before .before .before .before .before .before .before .loop-test .taken in
+    let inv = c .before .before .before .before .before .before .before .before .before .loop .inv in
+    let again = subst (λ (k : ℕ). k < c .before .before .before .before .before .before .before .before .before .loop .c .count) (found (c .before .before)) (omega (arith, inv .1, c .before .if1 .taken)) in
+    c .refused-colours2 .ensures ∙ (simp (left-suc _ _ less, colour (c .before .before), lt-ltb _ _ again) at (inv .2))
+
+cast-c : tie.Need-cast-c Inv-loop μ-loop
+cast-c c = omega (arith, colour-lies _ _ _ _ (colour (c .before)))
+
+mul-c : tie.Need-mul-c Inv-loop μ-loop
+mul-c c = omega arith
+
+element-write-c : tie.Need-element-write-c Inv-loop μ-loop
+element-write-c c = omega arith
+
+cast-c-2 : tie.Need-cast-c-2 Inv-loop μ-loop
+cast-c-2 c = omega (arith, colour-lies _ _ _ _ (colour (c .before)))
+
+element-write-c-2 : tie.Need-element-write-c-2 Inv-loop μ-loop
+element-write-c-2 c = omega arith
+
+add-at : tie.Need-add-at Inv-loop μ-loop
+add-at c = omega (arith, colour-lies _ _ _ _ (colour (c .before)))
+
+add-i : tie.Need-add-i Inv-loop μ-loop
+add-i c = omega arith
+
+loop-less : tie.Need-loop-less Inv-loop μ-loop
+loop-less c = omega arith
+
+loop-again : tie.Need-loop-again Inv-loop μ-loop
+loop-again c =
+    let less = c .before .before .before .before .before .before .before .loop-test .taken in
+    let inv = c .before .before .before .before .before .before .before .before .loop .inv in
+    let new = subst (λ (k : ℕ). c .before .before .before .before .before .before .before .before .loop .c .count ≤ k) (found (c .before)) (omega (arith, inv .1, c .if1 .left)) in
+    (omega arith, refl, simp (inv .1) at (simp (left-suc _ _ less, colour (c .before), le-ltb _ _ new) at (inv .2)), omega (arith, colour-lies _ _ _ _ (colour (c .before))))
+
+returns-3 : tie.Need-returns-3 Inv-loop μ-loop
+returns-3 c = simp (left-none _ _ (c .loop-test .left)) at (c .before .loop .inv .2)
+
+pub read-names-spec : {M : Type 1} → statement M
+read-names-spec =
+    tie.close
+    (tie.spec
+    Inv-loop
+    μ-loop
+    no-colours-requires
+    loop-holds
+    read-colour-requires
+    enum-known-r
+    refused-colours-requires
+    returns
+    enum-known-r-2
+    tail-requires
+    find-name-requires
+    refused-colours-requires-2
+    returns-2
+    cast-c
+    mul-c
+    element-write-c
+    cast-c-2
+    element-write-c-2
+    add-at
+    add-i
+    loop-less
+    loop-again
+    returns-3)

@@ -1,0 +1,59 @@
+-- Reading what is left from here is reading the whole name.
+use Rattle.names.proofs.Count.{left-suc, left-all, left-none}
+use borrow.Author.Tests.{le-ltb, lt-ltb, le-leb, lt-leb}
+use native.Mathlib.Omega.{arith}
+use Prim.Native.Nat.{_≤_, _-_}
+use mathlib.Core.Path.{_≡_}
+use Rattle.names.specs.Name.{nameFrom, nameOf}
+use Rattle.names.proofs.name.read_name.Statement.{statement}
+use Rattle.names.proofs.name.read_name.Tie as tie
+
+abbrev Inv-loop : tie.InvT-loop
+Inv-loop s len i₀ i = (i ≤ len) × (nameFrom s i (len - i) ≡ nameOf s len)
+
+abbrev μ-loop : tie.MeasureT-loop
+μ-loop s len i₀ i = len - i
+
+loop-holds : tie.Need-loop-holds Inv-loop μ-loop
+unfolding nameOf
+loop-holds c = (omega arith, simp left-all)
+
+returns : tie.Need-returns Inv-loop μ-loop
+returns c = simp (left-suc _ _ (c .before .loop-test .taken), le-leb _ _ (c .if1 .taken)) at (c .before .before .loop .inv .1)
+
+shared-slice-read-b : tie.Need-shared-slice-read-b Inv-loop μ-loop
+shared-slice-read-b c = omega arith
+
+returns-2 : tie.Need-returns-2 Inv-loop μ-loop
+returns-2 c = simp (left-suc _ _ (c .before .before .before .loop-test .taken), lt-leb _ _ (c .before .before .if1 .left), lt-ltb _ _ (c .if2 .taken)) at (c .before .before .before .before .loop .inv .1)
+
+returns-3 : tie.Need-returns-3 Inv-loop μ-loop
+returns-3 c = simp (left-suc _ _ (c .before .before .before .before .loop-test .taken), lt-leb _ _ (c .before .before .before .if1 .left), le-ltb _ _ (c .before .if2 .left), lt-ltb _ _ (c .if3 .taken)) at (c .before .before .before .before .before .loop .inv .1)
+
+add-i : tie.Need-add-i Inv-loop μ-loop
+add-i c = omega arith
+
+loop-less : tie.Need-loop-less Inv-loop μ-loop
+loop-less c = omega arith
+
+loop-again : tie.Need-loop-again Inv-loop μ-loop
+loop-again c = (omega arith, simp (left-suc _ _ (c .before .before .before .before .loop-test .taken), lt-leb _ _ (c .before .before .before .if1 .left), le-ltb _ _ (c .before .if2 .left), le-ltb _ _ (c .if3 .left)) at (c .before .before .before .before .before .loop .inv .1))
+
+returns-4 : tie.Need-returns-4 Inv-loop μ-loop
+returns-4 c = simp (left-none _ _ (c .loop-test .left)) at (c .before .loop .inv .1)
+
+pub read-name-spec : {M : Type 1} → statement M
+read-name-spec =
+    tie.close
+    (tie.spec
+    Inv-loop
+    μ-loop
+    loop-holds
+    returns
+    shared-slice-read-b
+    returns-2
+    returns-3
+    add-i
+    loop-less
+    loop-again
+    returns-4)

@@ -1,0 +1,38 @@
+-- The part from a place to the end is what is left when so many are dropped, and past the end nothing is.
+use Rattle.names.proofs.Count.{part-rest}
+use denote.Ref.{now}
+use native.Mathlib.Nat.{le-of-lt}
+use lib.ListN.{drop-of-length-le}
+use mathlib.Core.Path.{sym}
+use borrow.Author.Needs.{needs}
+use Rattle.names.proofs.name.tail.Statement.{statement}
+use Rattle.names.proofs.name.tail.Tie as tie
+
+sub-result : tie.Need-sub-result
+sub-result c = search needs
+
+part-result-start : tie.Need-part-result-start
+part-result-start c = search needs
+
+part-result-end : tie.Need-part-result-end
+part-result-end c = search needs
+
+slice-aggregate-result : tie.Need-slice-aggregate-result
+slice-aggregate-result c = search needs
+
+returns : tie.Need-returns
+returns c = part-rest (now (c .before .before .args .s)) (c .before .before .args .at)
+
+returns-2 : tie.Need-returns-2
+returns-2 c = sym (drop-of-length-le _ (le-of-lt (c .before .if1 .left)))
+
+pub tail-spec : {M : Type 1} → statement M
+tail-spec =
+    tie.close
+    (tie.spec
+    sub-result
+    part-result-start
+    part-result-end
+    slice-aggregate-result
+    returns
+    returns-2)

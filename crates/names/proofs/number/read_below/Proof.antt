@@ -1,0 +1,33 @@
+-- Each way to end is a case of the definition: the number's own fault, a number below the count, and one that is not.
+use mathlib.Core.Path.{_∙_, sym}
+use borrow.Author.Tests.{le-ltb, lt-ltb}
+use Rattle.names.specs.Number.{numberBelow}
+use borrow.Author.Needs.{needs}
+use Rattle.names.proofs.number.read_below.Statement.{statement}
+use Rattle.names.proofs.number.read_below.Tie as tie
+
+read-number-requires : tie.Need-read-number-requires
+read-number-requires c κs = search needs
+
+enum-known-r : tie.Need-enum-known-r
+enum-known-r c = search needs
+
+enum-known-r-2 : tie.Need-enum-known-r-2
+enum-known-r-2 c = search needs
+
+returns : tie.Need-returns
+unfolding numberBelow
+returns c = simp (sym (c .before .before .before .read-number .ensures) ∙ c .before .r .given .1)
+
+returns-2 : tie.Need-returns-2
+unfolding numberBelow
+returns-2 c = simp ((sym (c .before .before .before .before .read-number .ensures) ∙ c .before .before .r2 .given .1), lt-ltb _ _ (c .if1 .taken))
+
+returns-3 : tie.Need-returns-3
+unfolding numberBelow
+returns-3 c = simp ((sym (c .before .before .before .before .read-number .ensures) ∙ c .before .before .r2 .given .1), le-ltb _ _ (c .if1 .left))
+
+pub read-below-spec : {M : Type 1} → statement M
+read-below-spec =
+    tie.close
+    (tie.spec read-number-requires enum-known-r enum-known-r-2 returns returns-2 returns-3)

@@ -1,0 +1,43 @@
+-- Each way to end is a case of the definition: the number's own fault, a number below, above and in the range.
+use borrow.Author.Tests.{le-ltb, lt-ltb}
+use Rattle.names.specs.Number.{numberIn}
+use borrow.Author.Needs.{needs}
+use Rattle.names.proofs.number.read_in.Statement.{statement}
+use Rattle.names.proofs.number.read_in.Tie as tie
+
+read-number-requires : tie.Need-read-number-requires
+read-number-requires c κs = search needs
+
+enum-known-r : tie.Need-enum-known-r
+enum-known-r c = search needs
+
+enum-known-r-2 : tie.Need-enum-known-r-2
+enum-known-r-2 c = search needs
+
+returns : tie.Need-returns
+unfolding numberIn
+returns c = simp (← c .before .before .before .before .read-number .ensures, c .before .before .r2 .given .1, lt-ltb _ _ (c .if1 .taken))
+
+returns-2 : tie.Need-returns-2
+unfolding numberIn
+returns-2 c = simp (← c .before .before .before .before .before .read-number .ensures, c .before .before .before .r2 .given .1, le-ltb _ _ (c .before .if1 .left), lt-ltb _ _ (c .if2 .taken))
+
+returns-3 : tie.Need-returns-3
+unfolding numberIn
+returns-3 c = simp (← c .before .before .before .read-number .ensures, c .before .r .given .1)
+
+returns-4 : tie.Need-returns-4
+unfolding numberIn
+returns-4 c = simp (← c .before .before .before .before .before .read-number .ensures, c .before .before .before .r2 .given .1, le-ltb _ _ (c .before .if1 .left), le-ltb _ _ (c .if2 .left))
+
+pub read-in-spec : {M : Type 1} → statement M
+read-in-spec =
+    tie.close
+    (tie.spec
+    read-number-requires
+    enum-known-r
+    enum-known-r-2
+    returns
+    returns-2
+    returns-3
+    returns-4)

@@ -1,0 +1,20 @@
+-- The three lengths of a spelling.
+use borrow.Author.Tests.{lt-ltb, le-ltb}
+use Rattle.names.specs.Number.{spellNumber}
+use Rattle.names.proofs.number.spelled_len.Statement.{statement}
+use Rattle.names.proofs.number.spelled_len.Tie as tie
+
+returns : tie.Need-returns
+unfolding spellNumber
+returns c = simp (lt-ltb _ _ (c .if1 .taken))
+
+returns-2 : tie.Need-returns-2
+unfolding spellNumber
+returns-2 c = simp (le-ltb _ _ (c .before .if1 .left), lt-ltb _ _ (c .if2 .taken))
+
+returns-3 : tie.Need-returns-3
+unfolding spellNumber
+returns-3 c = simp (le-ltb _ _ (c .before .if1 .left), le-ltb _ _ (c .if2 .left))
+
+pub spelled-len-spec : {M : Type 1} → statement M
+spelled-len-spec = tie.close (tie.spec returns returns-2 returns-3)

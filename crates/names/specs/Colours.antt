@@ -1,0 +1,78 @@
+-- What reading a colour list finds.
+use Prim.Native.Nat.{ℕ, zero, suc, _+_}
+use mathlib.Core.List.{List, [], _∷_, _++_}
+use lib.ListN.{length, getD, take, drop, set, replicate}
+use lib.Dec.{leb, ltb}
+use Rattle.names.specs.Pick.{pick, fault}
+use Rattle.names.specs.Number.{numberIn}
+use Rattle.names.specs.Name.{Name, nameOf, place}
+use Rattle.names.specs.declared.number.Fault.{Fault}
+use Rattle.names.specs.declared.number.Read.{Read}
+use Rattle.names.specs.declared.number.Read.the-variants.{Value, Refused}
+use Rattle.names.specs.declared.name.NameRead.{NameRead}
+use Rattle.names.specs.declared.name.NameRead.the-variants.{Whole, Ends, Bad}
+use Rattle.names.specs.declared.colours.ColourRead.{ColourRead}
+use Rattle.names.specs.declared.colours.ColourRead.the-variants.{At, Refused as RefusedColour}
+use Rattle.names.specs.declared.colours.Colours.{Colours}
+use Rattle.names.specs.declared.colours.ColoursRead.{ColoursRead}
+
+-- the names that a list of places shows in the input, in order
+abbrev pub nameIn : List ℕ → Colours → ℕ → Name
+nameIn s c i = take (getD (c .lens) i 0) (drop (getD (c .starts) i 0) s)
+
+abbrev pub namesFrom : List ℕ → Colours → ℕ → ℕ → List Name
+namesFrom s c i zero = []
+namesFrom s c i (suc k) = nameIn s c i ∷ namesFrom s c (i + 1) k
+
+abbrev pub namesIn : List ℕ → Colours → List Name
+namesIn s c = namesFrom s c 0 (c .count)
+
+-- the number of the colour with a name, or the count; a count that no list has holds nothing
+unfoldable pub findName : List ℕ → Colours → Name → ℕ
+findName s c n = pick (ltb 64 (c .count)) (c .count) (place (namesIn s c) n)
+
+-- the name of so many bytes from a place on
+abbrev pub namedAt : List ℕ → ℕ → ℕ → NameRead → ColourRead
+namedAt s start len Whole = At start len
+namedAt s start len Ends = RefusedColour (fault 1 (length s))
+namedAt s start len (Bad k) = RefusedColour (fault 4 (start + k))
+
+-- a length 1 to 40, then the name
+abbrev pub sizedAt : List ℕ → Read → ColourRead
+sizedAt s (Value len start) = namedAt s start len (nameOf (drop start s) len)
+sizedAt s (Refused f) = RefusedColour f
+
+unfoldable pub colourAt : List ℕ → ℕ → ColourRead
+colourAt s at = sizedAt s (numberIn s at 1 40)
+
+-- no colours, and a refused list
+abbrev pub noColours : Colours
+noColours = record { count = 0; starts = replicate 64 0; lens = replicate 64 0 }
+
+abbrev pub refusedColours : Fault → ColoursRead
+refusedColours f = record { fault = f; colours = noColours; next = 0 }
+
+-- the list with one name more
+abbrev pub withColour : Colours → ℕ → ℕ → Colours
+withColour c start len =
+    record { count = c .count + 1; starts = set (c .starts) (c .count) start; lens = set (c .lens) (c .count) len }
+
+-- what follows a name that was read, `go` reading on with the longer list: 5 at its first byte where it stood earlier
+abbrev pub afterColour : List ℕ → Colours → (Colours → ℕ → ColoursRead) → ColourRead → ColoursRead
+afterColour s c go (At start len) =
+    pick (ltb (findName s c (take len (drop start s))) (c .count)) (refusedColours (fault 5 start))
+    (go (withColour c start len) (start + len))
+afterColour s c go (RefusedColour f) = refusedColours f
+
+-- so many colours more from a place on
+abbrev pub coloursFrom : List ℕ → Colours → ℕ → ℕ → ColoursRead
+coloursFrom s c at zero = record { fault = fault 0 0; colours = c; next = at }
+coloursFrom s c at (suc k) = afterColour s c (λ d p. coloursFrom s d p k) (colourAt s at)
+
+-- a count 1 to 64, then so many names
+abbrev pub countedAt : List ℕ → Read → ColoursRead
+countedAt s (Value n at) = coloursFrom s noColours at n
+countedAt s (Refused f) = refusedColours f
+
+unfoldable pub coloursOf : List ℕ → ColoursRead
+coloursOf s = countedAt s (numberIn s 0 1 64)

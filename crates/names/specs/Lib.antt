@@ -1,0 +1,6 @@
+pub mod Pick
+pub mod Number
+pub mod Put
+pub mod Name
+pub mod Colours
+pub mod Spelling

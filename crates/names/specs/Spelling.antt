@@ -1,0 +1,32 @@
+-- The contents of a colour list: which names keep the rules, and how they are spelled.
+use Prim.Native.Nat.{ℕ, _<_, _≤_}
+use mathlib.Core.List.{List, [], _∷_, _++_, List·Memᴰ}
+use lib.ListN.{length, getD}
+use Rattle.names.specs.Number.{spellNumber}
+use Rattle.names.specs.Name.{Name, Shown}
+
+-- 1 to 40 bytes, each of which may stand in a name
+pub record NameOk (n : Name) : Type 0 where
+  pub some : 1 ≤ length n
+  pub few : length n ≤ 40
+  pub shown : (i : ℕ) → i < length n → Shown (getD n i 0)
+
+-- no name stands twice
+abbrev pub Distinct : List Name → Type 0
+Distinct [] = Unit {0}
+Distinct (n ∷ ns) = (List·Memᴰ n ns → ⊥) × Distinct ns
+
+-- 1 to 64 names
+pub record ColoursOk (ns : List Name) : Type 0 where
+  pub some : 1 ≤ length ns
+  pub few : length ns ≤ 64
+  pub each : (n : Name) → List·Memᴰ n ns → NameOk n
+  pub distinct : Distinct ns
+
+-- each name with its length before it, after their count
+abbrev pub spellNames : List Name → List ℕ
+spellNames [] = []
+spellNames (n ∷ ns) = spellNumber (length n) ++ (n ++ spellNames ns)
+
+abbrev pub spellColours : List Name → List ℕ
+spellColours ns = spellNumber (length ns) ++ spellNames ns

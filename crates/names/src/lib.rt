@@ -1,0 +1,4 @@
+// Numbers, names and colour lists: read, compared and written. Every function answers on every input.
+pub mod colours;
+pub mod name;
+pub mod number;

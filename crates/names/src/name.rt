@@ -1,0 +1,96 @@
+// A name is read, compared and copied from the part of a slice that begins with its first byte.
+ghost use mathlib.Core.Path.{_≡_};
+ghost use lib.ListN.{take, drop};
+ghost use Rattle.names.specs.Name.{nameOf, sameName};
+ghost use Rattle.names.specs.Put.{put, past};
+
+// The part of a slice from a place on: nothing past the end.
+pub fn tail(s: &[u8], at: usize) -> &[u8]
+    ensures { λ r. ⌜ now r ≡ drop at (now (s .entry)) ⌝ }
+{
+    if at <= s.len() { &s[at..] } else { &s[..0] }
+}
+
+// The part of a slice up to a length: all of a shorter slice.
+pub fn front(s: &[u8], len: usize) -> &[u8]
+    ensures { λ r. ⌜ now r ≡ take len (now (s .entry)) ⌝ }
+{
+    if len <= s.len() { &s[..len] } else { s }
+}
+
+// A name of so many bytes is whole, or the input ends in it, or the byte at a place of it may not stand in a name.
+pub enum NameRead {
+    Whole,
+    Ends,
+    Bad(usize),
+}
+
+// Reads the name of so many bytes, left to right.
+pub fn read_name(s: &[u8], len: usize) -> NameRead
+    ensures { λ r. ⌜ r ≡ nameOf (now (s .entry)) len ⌝ }
+{
+    let mut i = 0;
+    while i < len {
+        if s.len() <= i {
+            return NameRead::Ends;
+        }
+        let b = s[i];
+        if b < 32 {
+            return NameRead::Bad(i);
+        }
+        if 126 < b {
+            return NameRead::Bad(i);
+        }
+        i += 1;
+    }
+    NameRead::Whole
+}
+
+// Whether two names are the same, byte for byte.
+fn same_bytes(a: &[u8], b: &[u8]) -> bool
+    ensures { λ r. ⌜ r ≡ sameName (now (a .entry)) (now (b .entry)) ⌝ }
+{
+    if a.len() != b.len() {
+        return false;
+    }
+    let mut i = 0;
+    while i < a.len() {
+        if a[i] != b[i] {
+            return false;
+        }
+        i += 1;
+    }
+    true
+}
+
+// Whether the names of so many bytes, each from its first byte on, are the same. The suffix is part of the name.
+pub fn same_name(a: &[u8], a_len: usize, b: &[u8], b_len: usize) -> bool
+    ensures { λ r. ⌜ r ≡ sameName (take «a_len» (now (a .entry))) (take «b_len» (now (b .entry))) ⌝ }
+{
+    same_bytes(front(a, a_len), front(b, b_len))
+}
+
+// Copies the bytes of a slice to a place of another, and gives the place after them; where they do not fit, nothing is written.
+fn copy_bytes(name: &[u8], out: &mut [u8], at: usize) -> usize
+    ensures { λ r. ⌜ r ≡ past (now (out .entry)) at (now (name .entry)) ⌝ ∗ ⌜ now (out .exit) ≡ put (now (out .entry)) at (now (name .entry)) ⌝ }
+{
+    if out.len() < at {
+        return at;
+    }
+    if out.len() - at < name.len() {
+        return at;
+    }
+    let mut i = 0;
+    while i < name.len() {
+        out[at + i] = name[i];
+        i += 1;
+    }
+    at + i
+}
+
+// Copies the name of so many bytes, from its first byte on, to a place of another slice.
+pub fn copy_name(name: &[u8], len: usize, out: &mut [u8], at: usize) -> usize
+    ensures { λ r. ⌜ r ≡ past (now (out .entry)) at (take len (now (name .entry))) ⌝ ∗ ⌜ now (out .exit) ≡ put (now (out .entry)) at (take len (now (name .entry))) ⌝ }
+{
+    copy_bytes(front(name, len), out, at)
+}
