@@ -6,3 +6,6 @@ pub mod Decide
 pub mod Keeps
 pub mod Grid
 pub mod Held
+pub mod SpellBook
+pub mod Draft
+pub mod Answer

@@ -1,0 +1,28 @@
+-- What a call answers, and the one number that a C host gets.
+use Prim.Native.Nat.{ℕ, _+_, _*_, _^_, _<_}
+use lib.Dec.{eqb}
+use Rattle.names.specs.Pick.{pick}
+use Rattle.names.specs.declared.number.Fault.{Fault}
+use Rattle.books.specs.declared.answer.Answer.{Answer}
+
+abbrev pub answer : ℕ → ℕ → ℕ → Answer
+answer n b p = record { number = n; blamed = b; place = p }
+
+-- a number that blames no input
+abbrev pub plain : ℕ → Answer
+plain n = answer n 0 0
+
+-- a reader's fault in an input; no fault blames nothing
+abbrev pub blaming : ℕ → Fault → Answer
+blaming input f = pick (eqb (f .number) 0) (plain 0) (answer (f .number) input (f .place))
+
+-- number, blamed input, place and the call's own count, from the lowest bits up
+abbrev pub packed : Answer → ℕ → ℕ
+packed a count = a .number + 2 ^ 8 * a .blamed + 2 ^ 12 * a .place + 2 ^ 32 * count
+
+-- what each part must keep, so that the number can be taken apart again
+pub record Packs (a : Answer) (count : ℕ) : Type 0 where
+  pub number-fits : a .number < 2 ^ 8
+  pub blamed-fits : a .blamed < 2 ^ 4
+  pub place-fits : a .place < 2 ^ 20
+  pub count-fits : count < 2 ^ 32

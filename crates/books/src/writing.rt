@@ -1,0 +1,9 @@
+// Writing a book whose names are parts of one or two lent books.
+use crate::family::Family;
+use names::colours::Colours;
+
+// A book to be written: a family whose colours are parts of a first lent book, with more colours after them that are parts of a second.
+pub struct Draft {
+    pub family: Family,
+    pub more: Colours,
+}
