@@ -6,6 +6,14 @@ pub mod Decide
 pub mod Keeps
 pub mod Grid
 pub mod Held
+pub mod Onward
+pub mod Rules
+pub mod Book
 pub mod SpellBook
+pub mod Size
+pub mod Cells
+pub mod Sheet
+pub mod SpellSheet
+pub mod Wrote
 pub mod Draft
 pub mod Answer

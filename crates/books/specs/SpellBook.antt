@@ -23,6 +23,10 @@ abbrev pub spellRules : List Rule → List ℕ
 spellRules [] = []
 spellRules (r ∷ rs) = spellRule r ++ spellRules rs
 
+-- the motif count, the start motif, the rule count
+abbrev pub spellFigures : ℕ → ℕ → ℕ → List ℕ
+spellFigures motifs start count = spellNumber motifs ++ (spellNumber start ++ spellNumber count)
+
 -- a colour list; the motif count; the start motif; the rule count; the rules
 abbrev pub spellBook : Contents → List ℕ
 spellBook b =

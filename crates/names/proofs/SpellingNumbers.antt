@@ -36,6 +36,13 @@ spell-length v h =
     (λ (l : 128 ≤ v). let e = ap length (spell-two v l h) in (omega arith, omega arith))
     (lt-or-le v 128)
 
+-- every spelling is a few bytes, as what is read takes a few
+pub spell-few : (v : ℕ) → length (spellNumber v) ≤ 3
+spell-few v =
+    ⊎-elim (λ (h : v < 16384). omega (arith, spell-length v h .1))
+    (λ (h : 16384 ≤ v). omega (arith, ap length (spell-none v h)))
+    (lt-or-le v 16384)
+
 -- Reading a spelling gives the number back, with the place after it.
 module _ (a b : List ℕ) where
   reads-one : (n : ℕ) → n < 128 → numberAt (a ++ n ∷ b) (length a) ≡ Value n (length a + 1)

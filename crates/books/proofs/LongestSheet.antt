@@ -1,0 +1,62 @@
+-- The longest sheet has 2,771 bytes: those of the longest colour list, one for the rows, one for the columns, and one for each cell.
+use Prim.Native.Nat.{ℕ, suc, _+_, _*_, _≤_}
+use mathlib.Core.Path.{_≡_, refl, ap}
+use mathlib.Core.List.{List, [], _∷_, _++_}
+use native.Mathlib.Omega.{arith}
+use lib.ListN.{length, length-append, getD-replicate}
+use Rattle.names.specs.Number.{spellNumber}
+use Rattle.names.specs.Spelling.{spellColours}
+use Rattle.names.proofs.SpellingNumbers.{Bytes, spell-short}
+use Rattle.books.specs.Grid.{Grid, GridKeeps}
+use Rattle.books.specs.Held.{gridIn}
+use Rattle.books.specs.Size.{greatest, room}
+use Rattle.books.specs.Cells.{noCells}
+use Rattle.books.specs.Sheet.{sheetOf}
+use Rattle.books.specs.SpellSheet.{spellCells, spellSheet}
+use Rattle.books.proofs.Area.{area}
+use Rattle.books.proofs.LongestColours.{colours-longest, longestNames, longest-names, longest-length}
+use Rattle.books.proofs.ReadingCells.{Fit}
+use Rattle.books.proofs.SpellingSheets.{sheet-accepted}
+
+-- a colour's number has one byte
+cells-length : (colours : ℕ) → colours ≤ 128 → (vs : List ℕ) → Fit colours vs → length (spellCells vs) ≡ length vs
+cells-length colours few [] fit = refl
+cells-length colours few (v ∷ vs) fit =
+    let low = fit 0 (omega arith) in
+    omega (arith, length-append (spellNumber v) (spellCells vs), spell-short v (omega arith), cells-length colours few vs (λ i h. fit (suc i) (omega arith)))
+
+pub sheet-length : (g : Grid) → GridKeeps g → length (spellSheet g) ≡ length (spellColours (g .colours)) + 2 + g .rows * g .cols
+sheet-length g k =
+    let colours = spellColours (g .colours) in
+    let rows = spellNumber (g .rows) in
+    let cols = spellNumber (g .cols) in
+    let cells = spellCells (g .cells) in
+    omega (arith, length-append colours (rows ++ (cols ++ cells)), length-append rows (cols ++ cells), length-append cols cells, spell-short (g .rows) (omega (arith, k .rows-few)), spell-short (g .cols) (omega (arith, k .cols-few)), cells-length (length (g .colours)) (omega (arith, k .colours-ok .few)) (g .cells) (k .cells-fit), k .cells-all)
+
+pub sheet-longest : (s : List ℕ) → Bytes s → sheetOf s .fault .number ≡ 0 → length s ≤ 2771
+sheet-longest s bytes z =
+    let a = sheet-accepted s bytes z in
+    let g = gridIn s (sheetOf s .sheet) in
+    omega (arith, ap (λ (x : List ℕ). length x) (a .spelled), sheet-length g (a .keeps), colours-longest (g .colours) (a .keeps .colours-ok), area (g .rows) (g .cols) greatest (a .keeps .rows-few) (a .keeps .cols-few))
+
+-- and one is as long: every cell has the first of 64 colours
+pub longest : Grid
+longest = record { colours = longestNames; rows = greatest; cols = greatest; cells = noCells }
+
+pub longest-keeps : GridKeeps longest
+unfolding longest
+longest-keeps =
+    let names = longest-names .some in
+    record {
+      colours-ok = longest-names;
+      rows-some = omega arith;
+      rows-few = omega arith;
+      cols-some = omega arith;
+      cols-few = omega arith;
+      cells-all = refl;
+      cells-fit = λ i h. rw (getD-replicate {A = ℕ} room i 0 0 h) names;
+    }
+
+pub longest-spelling : length (spellSheet longest) ≡ 2771
+unfolding longest
+longest-spelling = omega (arith, sheet-length longest longest-keeps, longest-length)

@@ -1,0 +1,97 @@
+-- What callers use of cells that were read: their numbers, each below that of the colours, are stored in order, they end within the
+-- input, and what stood there is their spelling. One number is read after the other, and each gives its part.
+use Prim.Native.Nat.{ℕ, zero, suc, _+_, _*_, _<_, _≤_}
+use mathlib.Core.Path.{_≡_, refl, ap, _∙_}
+use mathlib.Core.List.{List, [], _∷_, _++_, append-assoc}
+use mathlib.Core.Logic.{_⊎_, inl, inr, ⊎-elim}
+use native.Mathlib.Omega.{arith}
+use native.Mathlib.Numerals.{add-one}
+use lib.ListN.{length, getD, take, drop, set}
+use lib.Seq.{sets, sets-eq, take-append-seam}
+use Rattle.names.specs.Pick.{fault}
+use Rattle.names.specs.Number.{numberBelow}
+use Rattle.names.specs.declared.number.Fault.{Fault}
+use Rattle.names.specs.declared.number.Read.{Read}
+use Rattle.names.specs.declared.number.Read.the-variants.{Value, Refused}
+use Rattle.names.proofs.ReadingNumbers.{Blamed, blamed-later, number-below, number-below-there, number-below-refused}
+use Rattle.names.proofs.SpellingNumbers.{Bytes, number-spelled}
+use Rattle.books.specs.Cells.{noCells, afterCell, cellsFrom, cellsOf}
+use Rattle.books.specs.SpellSheet.{spellCells}
+use Rattle.books.specs.declared.cells.CellsRead.{CellsRead}
+
+-- each of these numbers is a colour's
+abbrev pub Fit : ℕ → List ℕ → Type 0
+Fit colours vs = (i : ℕ) → i < length vs → getD vs i 0 < colours
+
+pub fit-cons : (colours v : ℕ) (vs : List ℕ) → v < colours → Fit colours vs → Fit colours (v ∷ vs)
+fit-cons colours v vs h f zero l = h
+fit-cons colours v vs h f (suc i) l = f i (omega arith)
+
+-- numbers that are stored from the front on stand first
+pub stored-first : (l new : List ℕ) → length new ≤ length l → take (length new) (sets l 0 new) ≡ new
+stored-first l new h = ap (take (length new)) (sets-eq new l 0 (omega arith)) ∙ take-append-seam new (drop (0 + length new) l)
+
+-- so many numbers were read from a place on and stored from the i-th cell on
+pub record CellsLie (s : List ℕ) (colours limit : ℕ) (cells : List ℕ) (i at k : ℕ) (r : CellsRead) : Type 0 where
+  pub fine : r .fault ≡ fault 0 0
+  pub new : List ℕ
+  pub count : length new ≡ k
+  pub fit : Fit colours new
+  pub stored : r .cells ≡ sets cells i new
+  pub inside : r .next ≤ length s
+  pub near : r .next ≤ limit
+  pub spelled : Bytes s → drop at s ≡ spellCells new ++ drop (r .next) s
+
+module _ (s : List ℕ) (colours limit : ℕ) where
+  abbrev Ended : List ℕ → ℕ → ℕ → ℕ → CellsRead → Type 0
+  Ended cells i at k r = CellsLie s colours limit cells i at k r ⊎ Blamed s limit (r .fault)
+
+  -- one number in front of those that were read after it
+  one-more : (cells : List ℕ) (i at k v next : ℕ) (r : CellsRead) → numberBelow s at colours 6 ≡ Value v next
+      → CellsLie s colours limit (set cells i v) (i + 1) next k r → CellsLie s colours limit cells i at (suc k) r
+  one-more cells i at k v next r e t =
+      record {
+        fine = t .fine;
+        new = v ∷ t .new;
+        count = ap suc (t .count);
+        fit = fit-cons colours v (t .new) (number-below s at colours 6 v next e .low) (t .fit);
+        stored = rw add-one at (t .stored);
+        inside = t .inside;
+        near = t .near;
+        spelled = λ bytes. rw (append-assoc, ← t .spelled bytes) (number-spelled s bytes at v next (number-below-there s at colours 6 v next e));
+      }
+
+  after-ended : (cells : List ℕ) (i at k : ℕ) → at + 3 * suc k ≤ limit
+      → ((d : List ℕ) (p : ℕ) → p ≤ length s → p + 3 * k ≤ limit → Ended d (i + 1) p k (cellsFrom s colours d (i + 1) p k))
+      → (r : Read) → numberBelow s at colours 6 ≡ r → Ended cells i at (suc k) (afterCell cells i (λ d p. cellsFrom s colours d (i + 1) p k) r)
+  after-ended cells i at k l rec (Refused f) e = inr (blamed-later (omega arith) (number-below-refused s at colours 6 f e (omega arith) (omega arith)))
+  after-ended cells i at k l rec (Value v next) e =
+      let g = number-below s at colours 6 v next e in
+      ⊎-elim (λ t. inl (one-more cells i at k v next _ e t)) (λ b. inr b) (rec (set cells i v) next (g .inside) (omega (arith, g .near)))
+
+  from-ended : (k : ℕ) (cells : List ℕ) (i at : ℕ) → at ≤ length s → at + 3 * k ≤ limit → Ended cells i at k (cellsFrom s colours cells i at k)
+  from-ended zero cells i at h l =
+      inl (record {
+        fine = refl;
+        new = [];
+        count = refl;
+        fit = λ j p. absurd (omega arith);
+        stored = refl;
+        inside = h;
+        near = omega arith;
+        spelled = λ _. refl;
+      })
+  from-ended (suc k) cells i at h l =
+      after-ended cells i at k l (λ d p hp lp. from-ended k d (i + 1) p hp lp) (numberBelow s at colours 6) refl
+
+-- the two laws of the cells of a sheet: they lie within the input, or the refusal names what it blames
+module _ (s : List ℕ) (colours limit at count : ℕ) (h : at ≤ length s) (l : at + 3 * count ≤ limit) where
+  cells-ended : Ended s colours limit noCells 0 at count (cellsOf s colours at count)
+  unfolding cellsOf
+  cells-ended = from-ended s colours limit count noCells 0 at h l
+
+  pub cells-lie : cellsOf s colours at count .fault .number ≡ 0 → CellsLie s colours limit noCells 0 at count (cellsOf s colours at count)
+  cells-lie z = ⊎-elim (λ t. t) (λ b. absurd (omega (arith, b .some))) cells-ended
+
+  pub cells-refused : (cellsOf s colours at count .fault .number ≡ 0 → ⊥) → Blamed s limit (cellsOf s colours at count .fault)
+  cells-refused z = ⊎-elim (λ t. absurd (z (ap (λ (f : Fault). f .number) (t .fine)))) (λ b. b) cells-ended

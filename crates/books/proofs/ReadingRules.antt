@@ -1,0 +1,240 @@
+-- What callers use of rules that were read: they fit the counts, lie within the input, and stand there as they are spelled; a refusal
+-- names what it blames. Each part is read where the one before it ends.
+use Prim.Native.Nat.{ℕ, zero, suc, _+_, _-_, _*_, _<_, _≤_}
+use mathlib.Core.Path.{_≡_, refl, subst, sym, ap, _∙_}
+use mathlib.Core.Logic.{_⊎_, inl, inr, ⊎-elim}
+use mathlib.Core.Bool.{Bool, true, false}
+use mathlib.Core.List.{List, [], _∷_, _++_, append-assoc, List·Memᴰ, List·Memᴰ·cases-cons, List·Memᴰ·not-nil}
+use native.Mathlib.Omega.{arith}
+use lib.Dec.{eqb}
+use lib.ListN.{length, getD, take, drop, set, replicate, length-append, length-replicate, replicate-append-replicate}
+use borrow.Author.Tests.{eqb-true, eqb-false}
+use lib.Seq.{set-at, take-at}
+use Rattle.names.specs.Pick.{fault}
+use Rattle.names.specs.Number.{numberBelow, spellNumber}
+use Rattle.names.specs.declared.number.Fault.{Fault}
+use Rattle.names.specs.declared.number.Read.the-variants.{Value, Refused}
+use Rattle.names.proofs.Picking.{pick-ind}
+use Rattle.names.proofs.ReadingNumbers.{Blamed, blamed-later, number-below, number-below-refused}
+use Rattle.names.proofs.SpellingNumbers.{Bytes}
+use Rattle.books.specs.Keeps.{BodyFits, RuleFits}
+use Rattle.books.specs.Rules.{colourAt, joined, joinAt, bodyAt, headed, ruleAt, noRule, noRules, refusedRules, afterRule, rulesFrom, rulesAt}
+use Rattle.books.specs.SpellBook.{spellBody, spellRule, spellRules}
+use Rattle.books.specs.declared.rule.Rule.{Rule}
+use Rattle.books.specs.declared.rule.Body.{Body}
+use Rattle.books.specs.declared.rule.Body.the-variants.{Colour, Across, Down}
+use Rattle.books.specs.declared.rules.BodyRead.{BodyRead}
+use Rattle.books.specs.declared.rules.BodyRead.the-variants.{Whole as WholeBody, Refused as RefusedBody}
+use Rattle.books.specs.declared.rules.RuleRead.{RuleRead}
+use Rattle.books.specs.declared.rules.RuleRead.the-variants.{Whole as WholeRule, Refused as RefusedRule}
+use Rattle.books.specs.declared.rules.RulesRead.{RulesRead}
+use Rattle.books.proofs.Onwards.{onward-ind}
+use Rattle.books.proofs.StandingNumbers.{Between, below-spelled, between-both}
+
+-- ── A body ──
+
+-- a body whose kind stands at a place: it fits the counts, ends within the input, and stands there as it is spelled
+record BodyLies (s : List ℕ) (at motifs colours : ℕ) (b : Body) (next : ℕ) : Type 0 where
+  fits : BodyFits motifs colours b
+  inside : next ≤ length s
+  near : next ≤ at + 9
+  spelled : Bytes s → Between s at next (spellBody b)
+
+abbrev BodyFound : List ℕ → ℕ → ℕ → ℕ → BodyRead → Type 0
+BodyFound s at motifs colours (WholeBody b next) = BodyLies s at motifs colours b next
+BodyFound s at motifs colours (RefusedBody f) = Blamed s (at + 9) f
+
+-- a join of kind 1 or 2 has that kind in front of its motifs
+joined-spelled : (kind a b : ℕ) → (kind ≡ 0 → ⊥) → kind < 3 → spellNumber kind ++ (spellNumber a ++ spellNumber b) ≡ spellBody (joined kind a b)
+joined-spelled kind a b some low =
+    pick-ind (λ (x : Body). spellNumber kind ++ (spellNumber a ++ spellNumber b) ≡ spellBody x) (eqb kind 1) (Across a b) (Down a b)
+    (λ t. let one : kind ≡ 1 = eqb-true kind 1 t in rw one)
+    (λ t. let other = eqb-false kind 1 t in let two : kind ≡ 2 = omega arith in rw two)
+
+joined-fits : (kind a b motifs colours : ℕ) → a < motifs → b < motifs → BodyFits motifs colours (joined kind a b)
+joined-fits kind a b motifs colours h g = pick-ind (BodyFits motifs colours) (eqb kind 1) (Across a b) (Down a b) (λ _. (h, g)) (λ _. (h, g))
+
+module _ (s : List ℕ) (at motifs colours kind then : ℕ) (e : numberBelow s at 3 7 ≡ Value kind then) where
+  colour-found : kind ≡ 0 → BodyFound s at motifs colours (colourAt s then colours)
+  unfolding colourAt
+  colour-found none =
+      let g = number-below s at 3 7 kind then e in
+      onward-ind (BodyFound s at motifs colours) RefusedBody (numberBelow s then colours 6) _
+      (λ f d. blamed-later (omega (arith, g .near)) (number-below-refused s then colours 6 f d (omega arith) (omega arith)))
+      (λ c next d.
+      let h = number-below s then colours 6 c next d in
+      record {
+        fits = h .low;
+        inside = h .inside;
+        near = omega (arith, g .near, h .near);
+        spelled = λ bytes. rw none at (between-both (below-spelled s bytes at 3 7 kind then e) (below-spelled s bytes then colours 6 c next d));
+      })
+
+  join-found : (kind ≡ 0 → ⊥) → BodyFound s at motifs colours (joinAt s then kind motifs)
+  unfolding joinAt
+  join-found some =
+      let g = number-below s at 3 7 kind then e in
+      onward-ind (BodyFound s at motifs colours) RefusedBody (numberBelow s then motifs 6) _
+      (λ f d. blamed-later (omega (arith, g .near)) (number-below-refused s then motifs 6 f d (omega arith) (omega arith)))
+      (λ a half d.
+      let h = number-below s then motifs 6 a half d in
+      onward-ind (BodyFound s at motifs colours) RefusedBody (numberBelow s half motifs 6) _
+      (λ f q. blamed-later (omega (arith, g .near, h .near)) (number-below-refused s half motifs 6 f q (omega arith) (omega arith)))
+      (λ b next q.
+      let k = number-below s half motifs 6 b next q in
+      record {
+        fits = joined-fits kind a b motifs colours (h .low) (k .low);
+        inside = k .inside;
+        near = omega (arith, g .near, h .near, k .near);
+        spelled = λ bytes. rw (joined-spelled kind a b some (g .low)) at (between-both (below-spelled s bytes at 3 7 kind then e)
+            (between-both (below-spelled s bytes then motifs 6 a half d) (below-spelled s bytes half motifs 6 b next q)));
+      }))
+
+body-found : (s : List ℕ) (at motifs colours : ℕ) → BodyFound s at motifs colours (bodyAt s at motifs colours)
+unfolding bodyAt
+body-found s at motifs colours =
+    onward-ind (BodyFound s at motifs colours) RefusedBody (numberBelow s at 3 7) _
+    (λ f e. blamed-later (omega arith) (number-below-refused s at 3 7 f e (omega arith) (omega arith)))
+    (λ kind then e.
+    pick-ind (BodyFound s at motifs colours) (eqb kind 0) (colourAt s then colours) (joinAt s then kind motifs)
+    (λ t. colour-found s at motifs colours kind then e (eqb-true kind 0 t))
+    (λ t. join-found s at motifs colours kind then e (eqb-false kind 0 t)))
+
+-- ── A rule ──
+
+record RuleLies (s : List ℕ) (at motifs colours : ℕ) (r : Rule) (next : ℕ) : Type 0 where
+  fits : RuleFits motifs colours r
+  inside : next ≤ length s
+  near : next ≤ at + 12
+  spelled : Bytes s → Between s at next (spellRule r)
+
+abbrev RuleFound : List ℕ → ℕ → ℕ → ℕ → RuleRead → Type 0
+RuleFound s at motifs colours (WholeRule r next) = RuleLies s at motifs colours r next
+RuleFound s at motifs colours (RefusedRule f) = Blamed s (at + 12) f
+
+headed-found : (s : List ℕ) (at motifs colours head then : ℕ) → numberBelow s at motifs 6 ≡ Value head then
+    → (b : BodyRead) → BodyFound s then motifs colours b → RuleFound s at motifs colours (headed head b)
+headed-found s at motifs colours head then e (RefusedBody f) h = let g = number-below s at motifs 6 head then e in blamed-later (omega (arith, g .near)) h
+headed-found s at motifs colours head then e (WholeBody b next) h =
+    let g = number-below s at motifs 6 head then e in
+    record {
+      fits = record { head-fits = g .low; body-fits = h .fits };
+      inside = h .inside;
+      near = omega (arith, g .near, h .near);
+      spelled = λ bytes. between-both (below-spelled s bytes at motifs 6 head then e) (h .spelled bytes);
+    }
+
+rule-found : (s : List ℕ) (at motifs colours : ℕ) → RuleFound s at motifs colours (ruleAt s at motifs colours)
+unfolding ruleAt
+rule-found s at motifs colours =
+    onward-ind (RuleFound s at motifs colours) RefusedRule (numberBelow s at motifs 6) _
+    (λ f e. blamed-later (omega arith) (number-below-refused s at motifs 6 f e (omega arith) (omega arith)))
+    (λ head then e. headed-found s at motifs colours head then e (bodyAt s then motifs colours) (body-found s then motifs colours))
+
+-- ── The rules ──
+
+-- so many rules that were read after those that stood before, the places after them still fixed
+record Taken (s : List ℕ) (at motifs colours limit : ℕ) (done : List Rule) (k spare : ℕ) (r : RulesRead) : Type 0 where
+  fine : r .fault ≡ fault 0 0
+  new : List Rule
+  count : length new ≡ k
+  stand : r .rules ≡ done ++ (new ++ replicate spare noRule)
+  fit : (x : Rule) → List·Memᴰ x new → RuleFits motifs colours x
+  inside : r .next ≤ length s
+  near : r .next ≤ limit
+  spelled : Bytes s → Between s at (r .next) (spellRules new)
+
+module _ (s : List ℕ) (motifs colours limit spare : ℕ) where
+  abbrev Ended : List Rule → ℕ → ℕ → RulesRead → Type 0
+  Ended done at k r = Taken s at motifs colours limit done k spare r ⊎ Blamed s limit (r .fault)
+
+  -- one rule in front of those that were taken after it
+  one-more : (done : List Rule) (at k : ℕ) (x : Rule) (next : ℕ) (r : RulesRead) → RuleLies s at motifs colours x next
+      → Taken s next motifs colours limit (done ++ (x ∷ [])) k spare r → Taken s at motifs colours limit done (suc k) spare r
+  one-more done at k x next r g t =
+      record {
+        fine = t .fine;
+        new = x ∷ t .new;
+        count = ap suc (t .count);
+        stand = t .stand ∙ append-assoc done (x ∷ []) (t .new ++ replicate spare noRule);
+        fit = λ y m. ⊎-elim (λ e. subst (RuleFits motifs colours) (sym e) (g .fits)) (t .fit y) (List·Memᴰ·cases-cons m);
+        inside = t .inside;
+        near = t .near;
+        spelled = λ bytes. between-both (g .spelled bytes) (t .spelled bytes);
+      }
+
+  after-rule : (rules done : List Rule) (i at k : ℕ) → rules ≡ done ++ noRule ∷ (replicate k noRule ++ replicate spare noRule) → length done ≡ i → at + 12 * suc k ≤ limit
+      → ((longer more : List Rule) (p : ℕ) → longer ≡ more ++ (replicate k noRule ++ replicate spare noRule) → length more ≡ i + 1 → p ≤ length s → p + 12 * k ≤ limit
+      → Ended more p k (rulesFrom s motifs colours longer (i + 1) p k))
+      → (x : RuleRead) → RuleFound s at motifs colours x
+      → Ended done at (suc k) (afterRule rules i (λ longer next. rulesFrom s motifs colours longer (i + 1) next k) x)
+  after-rule rules done i at k e h l rec (RefusedRule f) g = inr (blamed-later (omega arith) g)
+  after-rule rules done i at k e h l rec (WholeRule x next) g =
+      let longer : set rules i x ≡ (done ++ (x ∷ [])) ++ (replicate k noRule ++ replicate spare noRule) = rw e (set-at done noRule ((replicate k noRule ++ replicate spare noRule)) x i h ∙ sym (append-assoc done (x ∷ []) ((replicate k noRule ++ replicate spare noRule)))) in
+      ⊎-elim (λ t. inl (one-more done at k x next _ g t)) (λ t. inr t)
+      (rec (set rules i x) (done ++ (x ∷ [])) next longer (omega (arith, length-append done (x ∷ []))) (g .inside) (omega (arith, g .near)))
+
+  ended : (k : ℕ) (rules done : List Rule) (i at : ℕ) → rules ≡ done ++ (replicate k noRule ++ replicate spare noRule) → length done ≡ i → at ≤ length s → at + 12 * k ≤ limit
+      → Ended done at k (rulesFrom s motifs colours rules i at k)
+  ended zero rules done i at e h l n =
+      inl (record {
+        fine = refl;
+        new = [];
+        count = refl;
+        stand = e;
+        fit = λ x m. absurd (List·Memᴰ·not-nil m);
+        inside = l;
+        near = omega arith;
+        spelled = λ bytes. record { stands = refl };
+      })
+  ended (suc k) rules done i at e h l n =
+      after-rule rules done i at k e h n (λ longer more p d g q b. ended k longer more (i + 1) p d g q b) (ruleAt s at motifs colours) (rule-found s at motifs colours)
+
+-- rules that were accepted: they fit, the other places are fixed, and they stand in the input as they are spelled
+pub record RulesLie (s : List ℕ) (at motifs colours count limit : ℕ) (r : RulesRead) : Type 0 where
+  pub fine : r .fault ≡ fault 0 0
+  pub size : length (r .rules) ≡ 200
+  pub fit : (x : Rule) → List·Memᴰ x (take count (r .rules)) → RuleFits motifs colours x
+  pub fixed : (i : ℕ) → count ≤ i → getD (r .rules) i noRule ≡ noRule
+  pub inside : r .next ≤ length s
+  pub near : r .next ≤ limit
+  pub spelled : Bytes s → Between s at (r .next) (spellRules (take count (r .rules)))
+
+fixed-after : (l : List Rule) (n i : ℕ) → length l ≤ i → getD (l ++ replicate n noRule) i noRule ≡ noRule
+fixed-after [] zero i h = refl
+fixed-after [] (suc n) zero h = refl
+fixed-after [] (suc n) (suc i) h = fixed-after [] n i (omega arith)
+fixed-after (x ∷ l) n zero h = absurd (omega arith)
+fixed-after (x ∷ l) n (suc i) h = fixed-after l n i (omega arith)
+
+-- the fixed rules, split at a count
+pub no-rules-split : (count : ℕ) → count ≤ 200 → noRules ≡ replicate count noRule ++ replicate (200 - count) noRule
+no-rules-split count few =
+    let all : count + (200 - count) ≡ 200 = omega arith in
+    rw all at (sym (replicate-append-replicate count (200 - count) noRule))
+
+module _ (s : List ℕ) (at motifs colours count : ℕ) (few : count ≤ 200) (inside : at ≤ length s) where
+  rules-ended : Ended s motifs colours (at + 12 * count) (200 - count) [] at count (rulesAt s at motifs colours count)
+  unfolding rulesAt
+  rules-ended = ended s motifs colours (at + 12 * count) (200 - count) count noRules [] 0 at (no-rules-split count few) refl inside (omega arith)
+
+  pub rules-lie : rulesAt s at motifs colours count .fault .number ≡ 0 → RulesLie s at motifs colours count (at + 12 * count) (rulesAt s at motifs colours count)
+  rules-lie z =
+      ⊎-elim
+      (λ t.
+      let r = rulesAt s at motifs colours count in
+      let first : take count (r .rules) ≡ t .new = rw (t .stand) (take-at (t .new) (replicate (200 - count) noRule) count (t .count)) in
+      record {
+        fine = t .fine;
+        size = ap length (t .stand) ∙ (length-append (t .new) (replicate (200 - count) noRule) ∙ omega (arith, t .count, length-replicate (200 - count) noRule));
+        fit = rw first (t .fit);
+        fixed = λ i h. rw (t .stand) (fixed-after (t .new) (200 - count) i (omega (arith, t .count)));
+        inside = t .inside;
+        near = t .near;
+        spelled = λ bytes. rw first (t .spelled bytes);
+      })
+      (λ r. absurd (omega (arith, r .some)))
+      rules-ended
+
+  pub rules-refused : (rulesAt s at motifs colours count .fault .number ≡ 0 → ⊥) → Blamed s (at + 12 * count) (rulesAt s at motifs colours count .fault)
+  rules-refused z = ⊎-elim (λ t. absurd (z (ap (λ (f : Fault). f .number) (t .fine)))) (λ r. r) rules-ended

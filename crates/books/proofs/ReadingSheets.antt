@@ -1,0 +1,135 @@
+-- What callers use of a sheet that was read: its colours lie within the input, rows, columns and cells keep their bounds, and a refusal
+-- leaves no sheet. Each stage has it from the law of what it reads.
+use Prim.Native.Nat.{ℕ, _+_, _*_, _<_, _≤_}
+use mathlib.Core.Path.{_≡_, refl, ap}
+use mathlib.Core.List.{List}
+use mathlib.Core.Logic.{_⊎_, inl, inr, ⊎-elim}
+use native.Mathlib.Omega.{arith}
+use borrow.Author.Tests.{eqb-true, eqb-false, ltb-false}
+use lib.Dec.{eqb, ltb}
+use lib.ListN.{length, getD, take}
+use lib.Seq.{length-sets, getD-take}
+use Rattle.names.specs.Pick.{fault}
+use Rattle.names.specs.Colours.{coloursOf}
+use Rattle.names.specs.declared.number.Fault.{Fault}
+use Rattle.names.proofs.Picking.{pick-ind}
+use Rattle.names.proofs.ReadingNumbers.{Blamed, blamed-later}
+use Rattle.names.proofs.ReadingColours.{Places, ListLies, colours-lie, colours-refused}
+use Rattle.books.specs.Size.{greatest, room, sizeAt}
+use Rattle.books.specs.Cells.{noCells, cellsOf}
+use Rattle.books.specs.Sheet.{noSheet, cellsThen, sizeThen, coloursThen, sheetOf}
+use Rattle.books.specs.declared.size.SizeRead.{SizeRead}
+use Rattle.books.specs.declared.size.SizeRead.the-variants.{By, Refused as RefusedSize}
+use Rattle.books.specs.declared.cells.CellsRead.{CellsRead}
+use Rattle.books.specs.declared.sheet.SheetRead.{SheetRead}
+use Rattle.books.proofs.Area.{area}
+use Rattle.books.proofs.ReadingSizes.{SizeLies, size-lies, size-refused}
+use Rattle.books.proofs.ReadingCells.{CellsLie, stored-first, cells-lie, cells-refused}
+
+-- as far as a sheet can reach: its colour list, two numbers, and a number for each cell
+abbrev pub farthest : ℕ
+farthest = 2761 + 3 * room
+
+-- ── The stages of a sheet ──
+
+-- an accepted sheet is what its stages found: a colour list, a size, and cells up to the end of the input
+pub record Staged (s : List ℕ) (r : SheetRead) : Type 0 where
+  pub fine : r .fault ≡ fault 0 0
+  pub listed : ListLies s 2755 1 (coloursOf s)
+  pub colours : r .sheet .colours ≡ coloursOf s .colours
+  pub at : ℕ
+  pub sized : SizeLies s (coloursOf s .next) greatest (r .sheet .rows) (r .sheet .cols) at
+  pub read : CellsRead
+  pub filled : CellsLie s (coloursOf s .colours .count) farthest noCells 0 at (r .sheet .rows * r .sheet .cols) read
+  pub cells : r .sheet .cells ≡ read .cells
+  pub ended : length s ≤ read .next
+
+-- a refused one is none, and the refusal names what it blames
+pub record SheetRefused (s : List ℕ) (r : SheetRead) : Type 0 where
+  pub blamed : Blamed s farthest (r .fault)
+  pub none : r .sheet ≡ noSheet
+
+module _ (s : List ℕ) where
+  abbrev Ended : SheetRead → Type 0
+  Ended r = Staged s r ⊎ SheetRefused s r
+
+  cells-then : (rows cols at : ℕ) → ListLies s 2755 1 (coloursOf s) → SizeLies s (coloursOf s .next) greatest rows cols at
+      → Ended (cellsThen s (coloursOf s .colours) rows cols (cellsOf s (coloursOf s .colours .count) at (rows * cols)))
+  unfolding cellsThen
+  cells-then rows cols at l z =
+      let n = coloursOf s .colours .count in
+      let q = cellsOf s n at (rows * cols) in
+      let near : at + 3 * (rows * cols) ≤ farthest = omega (arith, area rows cols greatest (z .rows-few) (z .cols-few), z .near, l .near) in
+      pick-ind Ended (eqb (q .fault .number) 0) _ _
+      (λ t. let f = cells-lie s n farthest at (rows * cols) (z .inside) near (eqb-true _ _ t) in
+      pick-ind Ended (ltb (q .next) (length s)) _ _
+      (λ _. inr (record { blamed = record { some = omega arith; known = omega arith; inside = f .inside; near = f .near }; none = refl }))
+      (λ u. inl (record {
+        fine = f .fine;
+        listed = l;
+        colours = refl;
+        at = at;
+        sized = z;
+        read = q;
+        filled = f;
+        cells = refl;
+        ended = ltb-false _ _ u;
+      })))
+      (λ t. inr (record { blamed = cells-refused s n farthest at (rows * cols) (z .inside) near (eqb-false _ _ t); none = refl }))
+
+  size-then : ListLies s 2755 1 (coloursOf s) → (r : SizeRead) → sizeAt s (coloursOf s .next) greatest ≡ r → Ended (sizeThen s (coloursOf s .colours) r)
+  size-then l (RefusedSize f) e = inr (record { blamed = blamed-later (omega (arith, l .near)) (size-refused s (coloursOf s .next) greatest f e); none = refl })
+  size-then l (By rows cols at) e = cells-then rows cols at l (size-lies s (coloursOf s .next) greatest rows cols at e)
+
+  sheet-ended : Ended (sheetOf s)
+  unfolding sheetOf coloursThen
+  sheet-ended =
+      pick-ind Ended (eqb (coloursOf s .fault .number) 0) _ _
+      (λ t. size-then (colours-lie s (eqb-true _ _ t)) (sizeAt s (coloursOf s .next) greatest) refl)
+      (λ t. inr (record { blamed = blamed-later (omega arith) (colours-refused s (eqb-false _ _ t) .blamed); none = refl }))
+
+  pub sheet-staged : sheetOf s .fault .number ≡ 0 → Staged s (sheetOf s)
+  sheet-staged z = ⊎-elim (λ t. t) (λ r. absurd (omega (arith, r .blamed .some))) sheet-ended
+
+  pub sheet-refused : (sheetOf s .fault .number ≡ 0 → ⊥) → SheetRefused s (sheetOf s)
+  sheet-refused z = ⊎-elim (λ t. absurd (z (ap (λ (f : Fault). f .number) (t .fine)))) (λ r. r) sheet-ended
+
+-- ── The bounds of a sheet ──
+
+pub record SheetLies (s : List ℕ) (r : SheetRead) : Type 0 where
+  pub fine : r .fault ≡ fault 0 0
+  pub places : Places s (r .sheet .colours)
+  pub some : 1 ≤ r .sheet .colours .count
+  pub rows-some : 1 ≤ r .sheet .rows
+  pub rows-few : r .sheet .rows ≤ greatest
+  pub cols-some : 1 ≤ r .sheet .cols
+  pub cols-few : r .sheet .cols ≤ greatest
+  pub area-few : r .sheet .rows * r .sheet .cols ≤ room
+  pub cells-all : length (r .sheet .cells) ≡ room
+  pub cells-fit : (i : ℕ) → i < r .sheet .rows * r .sheet .cols → getD (r .sheet .cells) i 0 < r .sheet .colours .count
+
+-- the cells that stand are the numbers that were read
+pub staged-cells : (s : List ℕ) (r : SheetRead) (g : Staged s r) → take (r .sheet .rows * r .sheet .cols) (r .sheet .cells) ≡ g .filled .new
+staged-cells s r g =
+    let new = g .filled .new in
+    let few : length new ≤ length noCells = omega (arith, g .filled .count, area (r .sheet .rows) (r .sheet .cols) greatest (g .sized .rows-few) (g .sized .cols-few)) in
+    rw (g .cells, g .filled .stored, ← g .filled .count) (stored-first noCells new few)
+
+pub sheet-lies : (s : List ℕ) → sheetOf s .fault .number ≡ 0 → SheetLies s (sheetOf s)
+sheet-lies s z =
+    let r = sheetOf s in
+    let g = sheet-staged s z in
+    record {
+      fine = g .fine;
+      places = rw (g .colours) (g .listed .places);
+      some = rw (g .colours) (g .listed .some);
+      rows-some = g .sized .rows-some;
+      rows-few = g .sized .rows-few;
+      cols-some = g .sized .cols-some;
+      cols-few = g .sized .cols-few;
+      area-few = area (r .sheet .rows) (r .sheet .cols) greatest (g .sized .rows-few) (g .sized .cols-few);
+      cells-all = rw (g .cells, g .filled .stored) (length-sets noCells 0 (g .filled .new));
+      cells-fit = λ i h.
+          rw (g .colours, ← getD-take (r .sheet .rows * r .sheet .cols) (r .sheet .cells) i 0 h, staged-cells s r g)
+          (g .filled .fit i (omega (arith, g .filled .count)));
+    }

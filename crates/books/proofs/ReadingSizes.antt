@@ -1,0 +1,62 @@
+-- What callers use of a size that was read: rows and columns lie in their range, and the place after them within the input.
+-- Both are numbers in a range, and have it from there.
+use Prim.Native.Nat.{ℕ, _+_, _≤_}
+use mathlib.Core.Path.{_≡_, refl, subst}
+use mathlib.Core.List.{List}
+use native.Mathlib.Omega.{arith}
+use lib.ListN.{length}
+use Rattle.names.specs.Number.{numberIn}
+use Rattle.names.specs.declared.number.Fault.{Fault}
+use Rattle.names.specs.declared.number.Read.{Read}
+use Rattle.names.specs.declared.number.Read.the-variants.{Value, Refused}
+use Rattle.names.proofs.ReadingNumbers.{Blamed, blamed-later, number-in, number-in-refused}
+use Rattle.books.specs.Size.{colsRead, rowsRead, sizeAt}
+use Rattle.books.specs.declared.size.SizeRead.{SizeRead}
+use Rattle.books.specs.declared.size.SizeRead.the-variants.{By, Refused as RefusedSize}
+
+-- rows at a place, columns between them and the place after both
+pub record SizeLies (s : List ℕ) (at most rows cols next : ℕ) : Type 0 where
+  pub between : ℕ
+  pub rows-there : numberIn s at 1 most ≡ Value rows between
+  pub cols-there : numberIn s between 1 most ≡ Value cols next
+  pub rows-some : 1 ≤ rows
+  pub rows-few : rows ≤ most
+  pub cols-some : 1 ≤ cols
+  pub cols-few : cols ≤ most
+  pub inside : next ≤ length s
+  pub near : next ≤ at + 6
+
+module _ (s : List ℕ) (at most : ℕ) where
+  abbrev Found : SizeRead → Type 0
+  Found (By rows cols next) = SizeLies s at most rows cols next
+  Found (RefusedSize f) = Blamed s (at + 4) f
+
+  cols-found : (rows between : ℕ) (r : Read) → numberIn s at 1 most ≡ Value rows between → numberIn s between 1 most ≡ r → Found (colsRead rows r)
+  cols-found rows between (Refused f) e d =
+      blamed-later (omega (arith, number-in s at 1 most rows between e)) (number-in-refused s between 1 most f d)
+  cols-found rows between (Value cols next) e d =
+      let g = number-in s at 1 most rows between e in
+      let h = number-in s between 1 most cols next d in
+      record {
+        between = between;
+        rows-there = e;
+        cols-there = d;
+        rows-some = g .low;
+        rows-few = g .high;
+        cols-some = h .low;
+        cols-few = h .high;
+        inside = h .inside;
+        near = omega (arith, g .near, h .near);
+      }
+
+  rows-found : (r : Read) → numberIn s at 1 most ≡ r → Found (rowsRead s most r)
+  rows-found (Refused f) e = blamed-later (omega arith) (number-in-refused s at 1 most f e)
+  rows-found (Value rows between) e = cols-found rows between (numberIn s between 1 most) e refl
+
+  pub size-lies : (rows cols next : ℕ) → sizeAt s at most ≡ By rows cols next → SizeLies s at most rows cols next
+  unfolding sizeAt
+  size-lies rows cols next e = subst Found e (rows-found (numberIn s at 1 most) refl)
+
+  pub size-refused : (f : Fault) → sizeAt s at most ≡ RefusedSize f → Blamed s (at + 4) f
+  unfolding sizeAt
+  size-refused f e = subst Found e (rows-found (numberIn s at 1 most) refl)

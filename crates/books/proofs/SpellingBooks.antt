@@ -1,0 +1,101 @@
+-- All contents that keep the rules have exactly one accepted spelling, and reading it gives them back: each part is read back where the
+-- one before it ends, and nothing follows the last.
+use Prim.Native.Nat.{ℕ, _+_, _-_, _<_, _≤_}
+use mathlib.Core.Path.{_≡_, refl, sym, ap, _∙_}
+use mathlib.Core.List.{List, [], _++_, append-assoc, append-nil}
+use native.Mathlib.Omega.{arith}
+use native.Mathlib.Nat.{add-assoc}
+use borrow.Author.Tests.{eq-eqb, le-leb}
+use lib.ListN.{length, take, drop, replicate, length-append, length-drop}
+use lib.Seq.{take-append-seam, drop-length}
+use Rattle.names.specs.Pick.{fault}
+use Rattle.names.specs.Number.{spellNumber}
+use Rattle.names.specs.Spelling.{spellColours}
+use Rattle.names.specs.Colours.{namesIn, coloursOf}
+use Rattle.names.specs.declared.number.Fault.{Fault}
+use Rattle.names.specs.declared.colours.ColoursRead.{ColoursRead}
+use Rattle.names.proofs.SpellingNumbers.{Bytes}
+use Rattle.names.proofs.ReadingColours.{names-count}
+use Rattle.names.proofs.SpellingColours.{colours-read-back}
+use Rattle.books.specs.Contents.{Contents}
+use Rattle.books.specs.Held.{contentsIn}
+use Rattle.books.specs.Keeps.{Keeps}
+use Rattle.books.specs.Rules.{noRule}
+use Rattle.books.specs.Book.{figuresAt, familyOf, endedAt, figured, colouredAt, bookOf}
+use Rattle.books.specs.SpellBook.{spellRules, spellBook}
+use Rattle.books.specs.declared.rules.RulesRead.{RulesRead}
+use Rattle.books.specs.declared.book.Figures.{Figures}
+use Rattle.books.specs.declared.book.FiguresRead.the-variants.{Whole}
+use Rattle.books.proofs.ReadingBooks.{book-accepted}
+use Rattle.books.proofs.StandingNumbers.{Stands, past-stands, in-read, below-read}
+use Rattle.books.proofs.SpellingRules.{rules-read}
+
+-- the figures of contents, how they are spelled, and how the rules lie once read
+abbrev figuresOf : Contents → Figures
+figuresOf b = record { motifs = b .motifs; start = b .start; count = length (b .rules) }
+
+abbrev spellFigures : Contents → List ℕ
+spellFigures b = spellNumber (b .motifs) ++ (spellNumber (b .start) ++ spellNumber (length (b .rules)))
+
+abbrev lying : Contents → ℕ → RulesRead
+lying b next = record { fault = fault 0 0; rules = b .rules ++ replicate (200 - length (b .rules)) noRule; next = next }
+
+figures-first : (b : Contents) → spellFigures b ++ spellRules (b .rules)
+    ≡ spellNumber (b .motifs) ++ (spellNumber (b .start) ++ (spellNumber (length (b .rules)) ++ spellRules (b .rules)))
+figures-first b = simp append-assoc
+
+module _ (b : Contents) (keeps : Keeps b) (s : List ℕ) where
+  figures-read : (at : ℕ) (rest : List ℕ) → Stands s at (spellFigures b ++ rest) → figuresAt s at ≡ Whole (figuresOf b) (at + length (spellFigures b))
+  unfolding figuresAt
+  figures-read at rest e =
+      let motifs = spellNumber (b .motifs) in
+      let start = spellNumber (b .start) in
+      let count = spellNumber (length (b .rules)) in
+      let k : Stands s at (motifs ++ (start ++ (count ++ rest))) = simp append-assoc at e in
+      let d = past-stands motifs (start ++ (count ++ rest)) k in
+      let q = past-stands start (count ++ rest) d in
+      let fits = keeps .sound .start-fits in
+      simp (
+        in-read 1 32 (b .motifs) (start ++ (count ++ rest)) k (keeps .motifs-some) (keeps .motifs-few) (omega (arith, keeps .motifs-few)),
+        below-read (b .motifs) 6 (b .start) (count ++ rest) d fits (omega (arith, fits, keeps .motifs-few)),
+        in-read 1 200 (length (b .rules)) rest q (keeps .rules-some) (keeps .rules-few) (omega (arith, keeps .rules-few)),
+      )
+      (simp (length-append, add-assoc))
+
+  -- a book whose colours were read, and after which its figures and rules stand, is read to its end
+  coloured-read : (r : ColoursRead) → r .fault ≡ fault 0 0 → r .colours .count ≡ length (b .colours) → Stands s (r .next) (spellFigures b ++ spellRules (b .rules))
+      → colouredAt s r ≡ record { fault = fault 0 0; family = familyOf (r .colours) (figuresOf b) (lying b 0) }
+  unfolding colouredAt endedAt
+  coloured-read r fine size e =
+      let at = r .next + length (spellFigures b) in
+      let d = past-stands (spellFigures b) (spellRules (b .rules)) e in
+      let q : Stands s at (spellRules (b .rules) ++ []) = rw append-nil d in
+      let ends : length s ≤ at + length (spellRules (b .rules)) = omega (arith, ap length (d .there), d .inside, length-drop at s) in
+      simp (
+        eq-eqb _ 0 (ap (λ (f : Fault). f .number) fine),
+        figures-read (r .next) (spellRules (b .rules)) e,
+        size,
+        rules-read s (b .motifs) (length (b .colours)) (keeps .motifs-few) (keeps .colours-ok .few) (b .rules) at [] (keeps .rules-few) (keeps .sound .rules-fit) q,
+        le-leb _ _ ends,
+      )
+
+-- reading the spelling of contents that keep the rules accepts it and gives them back
+pub book-read-back : (b : Contents) → Keeps b → (bookOf (spellBook b) .fault ≡ fault 0 0) × (contentsIn (spellBook b) (bookOf (spellBook b) .family) ≡ b)
+unfolding bookOf
+book-read-back b keeps =
+    let s = spellBook b in
+    let names = b .colours in
+    let rest = spellNumber (b .motifs) ++ (spellNumber (b .start) ++ (spellNumber (length (b .rules)) ++ spellRules (b .rules))) in
+    let c = colours-read-back names rest (keeps .colours-ok) in
+    let size : coloursOf s .colours .count ≡ length names = sym (names-count s (coloursOf s .colours)) ∙ ap length (c .names) in
+    let whole : Stands s 0 (spellColours names ++ rest) = record { inside = omega arith; there = refl } in
+    let place : coloursOf s .next ≡ 0 + length (spellColours names) = omega (arith, c .next) in
+    let after : Stands s (coloursOf s .next) (spellFigures b ++ spellRules (b .rules)) = rw (place, figures-first b) (past-stands (spellColours names) rest whole) in
+    let read = coloured-read b keeps s (coloursOf s) (c .fine) size after in
+    let rules : take (length (b .rules)) (b .rules ++ replicate (200 - length (b .rules)) noRule) ≡ b .rules = take-append-seam (b .rules) (replicate (200 - length (b .rules)) noRule) in
+    (rw read, rw (read, c .names, rules))
+
+-- two accepted inputs with the same contents are equal
+pub one-spelling : (s t : List ℕ) → Bytes s → Bytes t → bookOf s .fault .number ≡ 0 → bookOf t .fault .number ≡ 0
+    → contentsIn s (bookOf s .family) ≡ contentsIn t (bookOf t .family) → s ≡ t
+one-spelling s t bs bt zs zt e = book-accepted s bs zs .spelled ∙ (ap spellBook e ∙ sym (book-accepted t bt zt .spelled))

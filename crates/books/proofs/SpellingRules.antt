@@ -1,0 +1,89 @@
+-- Rules that fit the counts are read back from their spelling, whatever follows it: each number is read where the one before it ends.
+use Prim.Native.Nat.{ℕ, zero, suc, _+_, _-_, _<_, _≤_}
+use mathlib.Core.Path.{_≡_, refl, sym, ap, _∙_}
+use mathlib.Core.List.{List, [], _∷_, _++_, append-assoc, List·Memᴰ, List·Memᴰ·head, List·Memᴰ·tail}
+use native.Mathlib.Omega.{arith}
+use native.Mathlib.Nat.{add-assoc, add-zero}
+use borrow.Author.Tests.{ne-eqb}
+use lib.ListN.{length, set, replicate, length-append}
+use lib.Seq.{set-at}
+use Rattle.names.specs.Pick.{fault}
+use Rattle.names.specs.Number.{spellNumber}
+use Rattle.books.specs.Keeps.{BodyFits, RuleFits}
+use Rattle.books.specs.Rules.{colourAt, joined, joinAt, bodyAt, ruleAt, noRule, noRules, rulesFrom, rulesAt}
+use Rattle.books.specs.SpellBook.{spellBody, spellRule, spellRules}
+use Rattle.books.specs.declared.rule.Rule.{Rule}
+use Rattle.books.specs.declared.rule.Body.{Body}
+use Rattle.books.specs.declared.rule.Body.the-variants.{Colour, Across, Down}
+use Rattle.books.specs.declared.rules.BodyRead.the-variants.{Whole as WholeBody}
+use Rattle.books.specs.declared.rules.RuleRead.the-variants.{Whole as WholeRule}
+use Rattle.books.proofs.ReadingRules.{no-rules-split}
+use Rattle.books.proofs.StandingNumbers.{Stands, past-stands, below-read}
+
+module _ (s : List ℕ) (motifs colours : ℕ) (few-motifs : motifs ≤ 32) (few-colours : colours ≤ 64) where
+  colour-read : (at c : ℕ) (rest : List ℕ) → c < colours → Stands s at (spellBody (Colour c) ++ rest)
+      → bodyAt s at motifs colours ≡ WholeBody (Colour c) (at + length (spellBody (Colour c)))
+  unfolding bodyAt colourAt
+  colour-read at c rest h e =
+      let k : Stands s at (spellNumber 0 ++ (spellNumber c ++ rest)) = rw append-assoc at e in
+      let d = past-stands (spellNumber 0) (spellNumber c ++ rest) k in
+      simp (below-read 3 7 0 (spellNumber c ++ rest) k (omega arith) (omega arith), below-read colours 6 c rest d h (omega arith))
+      (simp (length-append, add-assoc))
+
+  -- a join of kind 1 or 2
+  join-read : (at kind a b : ℕ) (rest : List ℕ) → (kind ≡ 0 → ⊥) → kind < 3 → a < motifs → b < motifs
+      → Stands s at ((spellNumber kind ++ (spellNumber a ++ spellNumber b)) ++ rest)
+      → bodyAt s at motifs colours ≡ WholeBody (joined kind a b) (at + length (spellNumber kind ++ (spellNumber a ++ spellNumber b)))
+  unfolding bodyAt joinAt
+  join-read at kind a b rest some low h g e =
+      let k : Stands s at (spellNumber kind ++ (spellNumber a ++ (spellNumber b ++ rest))) = simp append-assoc at e in
+      let d = past-stands (spellNumber kind) (spellNumber a ++ (spellNumber b ++ rest)) k in
+      let q = past-stands (spellNumber a) (spellNumber b ++ rest) d in
+      simp (
+        below-read 3 7 kind (spellNumber a ++ (spellNumber b ++ rest)) k low (omega arith),
+        ne-eqb kind 0 some,
+        below-read motifs 6 a (spellNumber b ++ rest) d h (omega arith),
+        below-read motifs 6 b rest q g (omega arith),
+      )
+      (simp (length-append, add-assoc))
+
+  body-read : (at : ℕ) (b : Body) (rest : List ℕ) → BodyFits motifs colours b → Stands s at (spellBody b ++ rest)
+      → bodyAt s at motifs colours ≡ WholeBody b (at + length (spellBody b))
+  body-read at (Colour c) rest f e = colour-read at c rest f e
+  body-read at (Across l r) rest f e = join-read at 1 l r rest (omega arith) (omega arith) (f .0) (f .1) e
+  body-read at (Down u v) rest f e = join-read at 2 u v rest (omega arith) (omega arith) (f .0) (f .1) e
+
+  rule-read : (at : ℕ) (r : Rule) (rest : List ℕ) → RuleFits motifs colours r → Stands s at (spellRule r ++ rest)
+      → ruleAt s at motifs colours ≡ WholeRule r (at + length (spellRule r))
+  unfolding ruleAt
+  rule-read at r rest f e =
+      let k : Stands s at (spellNumber (r .head) ++ (spellBody (r .body) ++ rest)) = rw append-assoc at e in
+      let d = past-stands (spellNumber (r .head)) (spellBody (r .body) ++ rest) k in
+      simp (
+        below-read motifs 6 (r .head) (spellBody (r .body) ++ rest) k (f .head-fits) (omega (arith, f .head-fits)),
+        body-read (at + length (spellNumber (r .head))) (r .body) rest (f .body-fits) d,
+      )
+      (simp (length-append, add-assoc))
+
+  -- so many rules, after those that stand already in their places
+  rules-read-from : (rs done rules : List Rule) (i spare at : ℕ) (rest : List ℕ)
+      → rules ≡ done ++ (replicate (length rs) noRule ++ replicate spare noRule) → length done ≡ i
+      → ((r : Rule) → List·Memᴰ r rs → RuleFits motifs colours r) → Stands s at (spellRules rs ++ rest)
+      → rulesFrom s motifs colours rules i at (length rs)
+      ≡ record { fault = fault 0 0; rules = done ++ (rs ++ replicate spare noRule); next = at + length (spellRules rs) }
+  rules-read-from [] done rules i spare at rest p h f e = rw (p, add-zero)
+  rules-read-from (r ∷ rs) done rules i spare at rest p h f e =
+      let others = replicate (length rs) noRule ++ replicate spare noRule in
+      let k : Stands s at (spellRule r ++ (spellRules rs ++ rest)) = rw (append-assoc (spellRule r) (spellRules rs) rest) at e in
+      let longer : set rules i r ≡ (done ++ (r ∷ [])) ++ others = rw p (set-at done noRule others r i h ∙ sym (append-assoc done (r ∷ []) others)) in
+      let t = rules-read-from rs (done ++ (r ∷ [])) (set rules i r) (i + 1) spare (at + length (spellRule r)) rest longer (omega (arith, length-append done (r ∷ [])))
+      (λ x m. f x (List·Memᴰ·tail m)) (past-stands (spellRule r) (spellRules rs ++ rest) k) in
+      simp (rule-read at r (spellRules rs ++ rest) (f r (List·Memᴰ·head refl)) k) (t ∙ simp (append-assoc, length-append, add-assoc))
+
+  -- rules that fit are read back into the first places, the others fixed, with the place after them
+  pub rules-read : (rs : List Rule) (at : ℕ) (rest : List ℕ) → length rs ≤ 200 → ((r : Rule) → List·Memᴰ r rs → RuleFits motifs colours r)
+      → Stands s at (spellRules rs ++ rest)
+      → rulesAt s at motifs colours (length rs)
+      ≡ record { fault = fault 0 0; rules = rs ++ replicate (200 - length rs) noRule; next = at + length (spellRules rs) }
+  unfolding rulesAt
+  rules-read rs at rest few f e = rules-read-from rs [] noRules 0 (200 - length rs) at rest (no-rules-split (length rs) few) refl f e

@@ -1,0 +1,143 @@
+-- All contents of a sheet that keep the rules have exactly one accepted spelling, and reading it gives them back: colours, rows, columns and
+-- cells are spelled one after the other, and each is read back at its place.
+use Prim.Native.Nat.{ℕ, suc, _+_, _<_, _≤_}
+use mathlib.Core.Path.{_≡_, refl, sym, ap, ap₂, _∙_}
+use mathlib.Core.List.{List, [], _∷_, _++_, append-assoc, append-nil}
+use native.Mathlib.Omega.{arith}
+use native.Mathlib.Nat.{add-zero}
+use native.Mathlib.Numerals.{add-one}
+use borrow.Author.Tests.{le-ltb}
+use lib.ListN.{length, drop, set, length-append, length-drop, drop-of-length-le}
+use lib.Seq.{sets, drop-append-seam}
+use Rattle.names.specs.Pick.{fault}
+use Rattle.names.specs.Number.{numberIn, spellNumber}
+use Rattle.names.specs.Name.{Name}
+use Rattle.names.specs.Colours.{coloursOf}
+use Rattle.names.specs.Spelling.{spellColours}
+use Rattle.names.specs.declared.number.Fault.{Fault}
+use Rattle.names.specs.declared.number.Read.the-variants.{Value}
+use Rattle.names.proofs.ReadingNumbers.{number-there, number-in-range, number-below-count}
+use Rattle.names.proofs.SpellingNumbers.{Bytes, number-spelled, number-reads-at}
+use Rattle.names.proofs.ReadingColours.{names-count}
+use Rattle.names.proofs.SpellingColours.{colours-accepted, colours-read-back, drop-past, past-inside}
+use Rattle.books.specs.Grid.{Grid, GridKeeps}
+use Rattle.books.specs.Held.{gridIn}
+use Rattle.books.specs.Size.{greatest, sizeAt}
+use Rattle.books.specs.Cells.{noCells, cellsFrom, cellsOf}
+use Rattle.books.specs.Sheet.{cellsThen, coloursThen, sheetOf}
+use Rattle.books.specs.SpellSheet.{spellCells, spellSheet}
+use Rattle.books.specs.declared.size.SizeRead.the-variants.{By}
+use Rattle.books.specs.declared.sheet.Sheet.{Sheet}
+use Rattle.books.proofs.Area.{area}
+use Rattle.books.proofs.ReadingCells.{Fit, stored-first}
+use Rattle.books.proofs.ReadingSheets.{sheet-staged, staged-cells}
+
+-- ── What is accepted is a spelling ──
+
+-- an accepted sheet has contents that keep the rules, and is their spelling
+pub record Accepted (s : List ℕ) (h : Sheet) : Type 0 where
+  pub keeps : GridKeeps (gridIn s h)
+  pub spelled : s ≡ spellSheet (gridIn s h)
+
+module _ (s : List ℕ) (bytes : Bytes s) (z : sheetOf s .fault .number ≡ 0) where
+  pub sheet-accepted : Accepted s (sheetOf s .sheet)
+  sheet-accepted =
+      let g = sheet-staged s z in
+      let c = colours-accepted s bytes (ap (λ (f : Fault). f .number) (g .listed .fine)) in
+      let size = g .sized in
+      let stand = staged-cells s (sheetOf s) g in
+      let rows = number-spelled s bytes _ _ _ (number-there s _ 1 greatest _ _ (size .rows-there)) in
+      let cols = number-spelled s bytes _ _ _ (number-there s _ 1 greatest _ _ (size .cols-there)) in
+      let cells : drop (g .at) s ≡ spellCells (g .filled .new) = g .filled .spelled bytes ∙ (rw (drop-of-length-le s (g .ended)) (append-nil _)) in
+      record {
+        keeps = record {
+          colours-ok = rw (g .colours) (c .ok);
+          rows-some = size .rows-some;
+          rows-few = size .rows-few;
+          cols-some = size .cols-some;
+          cols-few = size .cols-few;
+          cells-all = rw stand (g .filled .count);
+          cells-fit = rw (stand, g .colours, names-count s (coloursOf s .colours)) (g .filled .fit);
+        };
+        spelled = rw (stand, g .colours, ← cells, ← cols, ← rows) (c .spelled);
+      }
+
+-- two accepted inputs with the same contents are the same input
+pub one-spelling : (s t : List ℕ) → Bytes s → Bytes t → sheetOf s .fault .number ≡ 0 → sheetOf t .fault .number ≡ 0
+    → gridIn s (sheetOf s .sheet) ≡ gridIn t (sheetOf t .sheet) → s ≡ t
+one-spelling s t bs bt zs zt e = sheet-accepted s bs zs .spelled ∙ (ap spellSheet e ∙ sym (sheet-accepted t bt zt .spelled))
+
+-- ── A spelling is accepted ──
+
+module _ (s : List ℕ) where
+  -- a number in its range
+  range-read : (most at n : ℕ) (b : List ℕ) → most < 16384 → at ≤ length s → 1 ≤ n → n ≤ most → drop at s ≡ spellNumber n ++ b
+      → numberIn s at 1 most ≡ Value n (at + length (spellNumber n))
+  range-read most at n b small h low high e =
+      number-in-range s at 1 most n _ (number-reads-at s b at n h (omega arith) e) low high
+
+  size-read : (most at rows cols : ℕ) (b : List ℕ) → most < 16384 → at ≤ length s → 1 ≤ rows → rows ≤ most → 1 ≤ cols → cols ≤ most
+      → drop at s ≡ spellNumber rows ++ (spellNumber cols ++ b)
+      → sizeAt s at most ≡ By rows cols ((at + length (spellNumber rows)) + length (spellNumber cols))
+  unfolding sizeAt
+  size-read most at rows cols b small h rl rh cl ch e =
+      let next = drop-past s (spellNumber rows) (spellNumber cols ++ b) at e in
+      let inside = past-inside s (spellNumber rows) (spellNumber cols ++ b) at h e in
+      simp (range-read most at rows (spellNumber cols ++ b) small h rl rh e, range-read most (at + length (spellNumber rows)) cols b small inside cl ch next)
+
+  -- so many numbers, stored from the i-th cell on
+  cells-read : (colours : ℕ) → colours ≤ 16384 → (vs cells : List ℕ) (i at : ℕ) (b : List ℕ) → at ≤ length s → Fit colours vs
+      → drop at s ≡ spellCells vs ++ b
+      → cellsFrom s colours cells i at (length vs) ≡ record { fault = fault 0 0; cells = sets cells i vs; next = at + length (spellCells vs) }
+  cells-read colours small [] cells i at b h fit e = rw add-zero
+  cells-read colours small (v ∷ vs) cells i at b h fit e =
+      let e' : drop at s ≡ spellNumber v ++ (spellCells vs ++ b) = e ∙ append-assoc (spellNumber v) (spellCells vs) b in
+      let low = fit 0 (omega arith) in
+      let next = at + length (spellNumber v) in
+      let first = number-below-count s at colours 6 v next (number-reads-at s (spellCells vs ++ b) at v h (omega arith) e') low in
+      let inside = past-inside s (spellNumber v) (spellCells vs ++ b) at h e' in
+      let others = cells-read colours small vs (set cells i v) (i + 1) next b inside (λ j l. fit (suc j) (omega arith)) (drop-past s (spellNumber v) (spellCells vs ++ b) at e') in
+      let end : next + length (spellCells vs) ≡ at + length (spellNumber v ++ spellCells vs) = omega (arith, length-append (spellNumber v) (spellCells vs)) in
+      simp first (others ∙ rw (add-one, end))
+
+-- the sheet that contents are read back as
+abbrev pub sheetFor : Grid → Sheet
+sheetFor g = record { colours = coloursOf (spellSheet g) .colours; rows = g .rows; cols = g .cols; cells = sets noCells 0 (g .cells) }
+
+module _ (g : Grid) (k : GridKeeps g) where
+  sheet-read : sheetOf (spellSheet g) ≡ record { fault = fault 0 0; sheet = sheetFor g }
+  unfolding sheetOf coloursThen cellsThen cellsOf
+  sheet-read =
+      let s = spellSheet g in
+      let colours = spellColours (g .colours) in
+      let rows = spellNumber (g .rows) in
+      let cols = spellNumber (g .cols) in
+      let cells = spellCells (g .cells) in
+      let names = colours-read-back (g .colours) (rows ++ (cols ++ cells)) (k .colours-ok) in
+      let count : coloursOf s .colours .count ≡ length (g .colours) = sym (names-count s (coloursOf s .colours)) ∙ ap length (names .names) in
+      let few : length (g .colours) ≤ 16384 = omega (arith, k .colours-ok .few) in
+      let at-rows = length colours in
+      let at-cols = at-rows + length rows in
+      let at-cells = at-cols + length cols in
+      let rows-there : drop at-rows s ≡ rows ++ (cols ++ cells) = drop-append-seam colours _ in
+      let cols-there = drop-past s rows (cols ++ cells) at-rows rows-there in
+      let cells-there : drop at-cells s ≡ cells ++ [] = drop-past s cols cells at-cols cols-there ∙ sym (append-nil cells) in
+      let rows-inside : at-rows ≤ length s = omega (arith, length-append colours (rows ++ (cols ++ cells))) in
+      let cols-inside = past-inside s rows (cols ++ cells) at-rows rows-inside rows-there in
+      let cells-inside = past-inside s cols cells at-cols cols-inside cols-there in
+      let size = size-read s greatest at-rows (g .rows) (g .cols) cells (omega arith) rows-inside (k .rows-some) (k .rows-few) (k .cols-some) (k .cols-few) rows-there in
+      let filled = cells-read s (length (g .colours)) few (g .cells) noCells 0 at-cells [] cells-inside (k .cells-fit) cells-there in
+      let end : length s ≤ at-cells + length cells =
+      omega (arith, length-drop (at-cells + length cells) s, ap (λ (x : List ℕ). length x) (drop-past s cells [] at-cells cells-there)) in
+      simp (names .fine, names .next, size, count, ← k .cells-all, filled, le-ltb (at-cells + length cells) (length s) end)
+
+  -- its contents
+  sheet-contents : gridIn (spellSheet g) (sheetFor g) ≡ g
+  sheet-contents =
+      let names = colours-read-back (g .colours) (spellNumber (g .rows) ++ (spellNumber (g .cols) ++ spellCells (g .cells))) (k .colours-ok) in
+      let few : length (g .cells) ≤ length noCells = omega (arith, k .cells-all, area (g .rows) (g .cols) greatest (k .rows-few) (k .cols-few)) in
+      ap₂ (λ (x : List Name) (y : List ℕ). record { colours = x; rows = g .rows; cols = g .cols; cells = y })
+      (names .names) (rw (← k .cells-all) (stored-first noCells (g .cells) few))
+
+  pub sheet-read-back : (sheetOf (spellSheet g) .fault ≡ fault 0 0) × (gridIn (spellSheet g) (sheetOf (spellSheet g) .sheet) ≡ g)
+  sheet-read-back = rw sheet-read (refl, sheet-contents)

@@ -1,0 +1,28 @@
+use borrow.Author.Tests.{eq-eqb, ne-eqb}
+use Rattle.names.proofs.ReadingColours.{colours-places}
+use Rattle.books.specs.Book.{bookOf, colouredAt}
+use borrow.Author.Needs.{needs}
+use Rattle.books.proofs.book.read_book.Statement.{statement}
+use Rattle.books.proofs.book.read_book.Tie as tie
+
+read-colours-requires : tie.Need-read-colours-requires
+read-colours-requires c κs = search needs
+
+refused-book-requires : tie.Need-refused-book-requires
+refused-book-requires c κs = search needs
+
+returns : tie.Need-returns
+unfolding bookOf colouredAt
+returns c = simp (← c .before .before .before .before .read-colours .ensures, ne-eqb _ _ (c .before .if1 .taken)) (c .refused-book .ensures)
+
+with-colours-requires : tie.Need-with-colours-requires
+with-colours-requires c κs = rw (c .before .before .before .before .read-colours .ensures) (colours-places _ .few)
+
+returns-2 : tie.Need-returns-2
+unfolding bookOf colouredAt
+returns-2 c = simp (← c .before .before .before .before .before .read-colours .ensures, eq-eqb _ _ (c .before .before .if1 .left)) (c .with-colours .ensures)
+
+pub read-book-spec : {M : Type 1} → statement M
+read-book-spec =
+    tie.close
+    (tie.spec read-colours-requires refused-book-requires returns with-colours-requires returns-2)

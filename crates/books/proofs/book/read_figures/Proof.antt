@@ -1,0 +1,65 @@
+use Rattle.books.specs.Book.{figuresAt}
+use borrow.Author.Needs.{needs}
+use Rattle.books.proofs.book.read_figures.Statement.{statement}
+use Rattle.books.proofs.book.read_figures.Tie as tie
+
+read-in-requires : tie.Need-read-in-requires
+read-in-requires c κs = search needs
+
+enum-known-r : tie.Need-enum-known-r
+enum-known-r c = search needs
+
+enum-known-r-2 : tie.Need-enum-known-r-2
+enum-known-r-2 c = search needs
+
+read-below-requires : tie.Need-read-below-requires
+read-below-requires c κs = search needs
+
+enum-known-q : tie.Need-enum-known-q
+enum-known-q c = search needs
+
+enum-known-q-2 : tie.Need-enum-known-q-2
+enum-known-q-2 c = search needs
+
+read-in-requires-2 : tie.Need-read-in-requires-2
+read-in-requires-2 c κs = search needs
+
+enum-known-p : tie.Need-enum-known-p
+enum-known-p c = search needs
+
+enum-known-p-2 : tie.Need-enum-known-p-2
+enum-known-p-2 c = search needs
+
+returns : tie.Need-returns
+unfolding figuresAt
+returns c = simp (← c .before .before .before .read-in .ensures, c .before .r .given .1)
+
+returns-2 : tie.Need-returns-2
+unfolding figuresAt
+returns-2 c = simp (← c .before .before .before .before .before .before .before .read-in .ensures, ← c .before .before .before .read-below .ensures, c .before .before .before .before .before .r2 .given .1, c .before .q .given .1)
+
+returns-3 : tie.Need-returns-3
+unfolding figuresAt
+returns-3 c = simp (← c .before .before .before .before .before .before .before .before .before .before .before .read-in .ensures, ← c .before .before .before .before .before .before .before .read-below .ensures, ← c .before .before .before .read-in2 .ensures, c .before .before .before .before .before .before .before .before .before .r2 .given .1, c .before .before .before .before .before .q2 .given .1, c .before .p .given .1)
+
+returns-4 : tie.Need-returns-4
+unfolding figuresAt
+returns-4 c = simp (← c .before .before .before .before .before .before .before .before .before .before .before .read-in .ensures, ← c .before .before .before .before .before .before .before .read-below .ensures, ← c .before .before .before .read-in2 .ensures, c .before .before .before .before .before .before .before .before .before .r2 .given .1, c .before .before .before .before .before .q2 .given .1, c .before .p2 .given .1)
+
+pub read-figures-spec : {M : Type 1} → statement M
+read-figures-spec =
+    tie.close
+    (tie.spec
+    read-in-requires
+    enum-known-r
+    enum-known-r-2
+    read-below-requires
+    enum-known-q
+    enum-known-q-2
+    read-in-requires-2
+    enum-known-p
+    enum-known-p-2
+    returns
+    returns-2
+    returns-3
+    returns-4)

@@ -1,0 +1,45 @@
+use Rattle.books.specs.Rules.{bodyAt}
+use borrow.Author.Tests.{eq-eqb, ne-eqb}
+use borrow.Author.Needs.{needs}
+use Rattle.books.proofs.rules.read_body.Statement.{statement}
+use Rattle.books.proofs.rules.read_body.Tie as tie
+
+read-below-requires : tie.Need-read-below-requires
+read-below-requires c κs = search needs
+
+enum-known-r : tie.Need-enum-known-r
+enum-known-r c = search needs
+
+enum-known-r-2 : tie.Need-enum-known-r-2
+enum-known-r-2 c = search needs
+
+read-colour-requires : tie.Need-read-colour-requires
+read-colour-requires c κs = search needs
+
+read-join-requires : tie.Need-read-join-requires
+read-join-requires c κs = search needs
+
+returns : tie.Need-returns
+unfolding bodyAt
+returns c = simp (← c .before .before .before .read-below .ensures, c .before .r .given .1)
+
+returns-2 : tie.Need-returns-2
+unfolding bodyAt
+returns-2 c = simp (← c .before .before .before .before .before .read-below .ensures, ← c .read-colour .ensures, c .before .before .before .r2 .given .1, eq-eqb _ _ (c .before .if1 .taken))
+
+returns-3 : tie.Need-returns-3
+unfolding bodyAt
+returns-3 c = simp (← c .before .before .before .before .before .read-below .ensures, ← c .read-join .ensures, c .before .before .before .r2 .given .1, ne-eqb _ _ (c .before .if1 .left))
+
+pub read-body-spec : {M : Type 1} → statement M
+read-body-spec =
+    tie.close
+    (tie.spec
+    read-below-requires
+    enum-known-r
+    enum-known-r-2
+    read-colour-requires
+    read-join-requires
+    returns
+    returns-2
+    returns-3)

@@ -1,0 +1,57 @@
+use native.Mathlib.Omega.{arith}
+use mathlib.Core.Path.{_∙_, sym}
+use Rattle.names.proofs.ReadingNumbers.{number-below}
+use Rattle.books.specs.Rules.{ruleAt}
+use borrow.Author.Needs.{needs}
+use Rattle.books.proofs.rules.read_rule.Statement.{statement}
+use Rattle.books.proofs.rules.read_rule.Tie as tie
+
+read-below-requires : tie.Need-read-below-requires
+read-below-requires c κs = search needs
+
+enum-known-r : tie.Need-enum-known-r
+enum-known-r c = search needs
+
+enum-known-r-2 : tie.Need-enum-known-r-2
+enum-known-r-2 c = search needs
+
+read-body-requires : tie.Need-read-body-requires
+read-body-requires c κs = search needs
+
+enum-known-b : tie.Need-enum-known-b
+enum-known-b c = search needs
+
+enum-known-b-2 : tie.Need-enum-known-b-2
+enum-known-b-2 c = search needs
+
+cast-t15 : tie.Need-cast-t15
+cast-t15 c =
+    let value = sym (c .before .before .before .before .before .before .before .read-below .ensures) ∙ c .before .before .before .before .before .r2 .given .1 in
+    omega (arith, number-below _ _ _ _ _ _ value .low)
+
+returns : tie.Need-returns
+unfolding ruleAt
+returns c = simp (← c .before .before .before .read-below .ensures, c .before .r .given .1)
+
+returns-2 : tie.Need-returns-2
+unfolding ruleAt
+returns-2 c = simp (← c .before .before .before .before .before .before .before .read-below .ensures, ← c .before .before .before .read-body .ensures, c .before .before .before .before .before .r2 .given .1, c .before .b .given .1)
+
+returns-3 : tie.Need-returns-3
+unfolding ruleAt
+returns-3 c = simp (← c .before .before .before .before .before .before .before .read-below .ensures, ← c .before .before .before .read-body .ensures, c .before .before .before .before .before .r2 .given .1, c .before .b2 .given .1)
+
+pub read-rule-spec : {M : Type 1} → statement M
+read-rule-spec =
+    tie.close
+    (tie.spec
+    read-below-requires
+    enum-known-r
+    enum-known-r-2
+    read-body-requires
+    enum-known-b
+    enum-known-b-2
+    cast-t15
+    returns
+    returns-2
+    returns-3)

@@ -1,0 +1,88 @@
+use native.Mathlib.Omega.{arith}
+use Prim.Native.Nat.{_+_, _≤_}
+use mathlib.Core.Path.{sym}
+use mathlib.Core.List.{_++_}
+use borrow.Author.Tests.{lt-leb, le-leb}
+use denote.Ref.{now}
+use lib.ListN.{length, take, length-append}
+use Rattle.names.specs.Colours.{namesIn}
+use Rattle.names.specs.Spelling.{spellColours}
+use Rattle.names.proofs.Putting.{put-out}
+use Rattle.books.specs.SpellBook.{spellFigures, spellRules}
+use Rattle.books.proofs.InARow.{wrote-then, wrote-length}
+use Rattle.books.proofs.SpellingDrafts.{draft-spelled, draft-length}
+use borrow.Author.Needs.{needs}
+use Rattle.books.proofs.writing.write_book.Statement.{statement}
+use Rattle.books.proofs.writing.write_book.Tie as tie
+use Rattle.books.proofs.writing.write_book.Reads as reads
+use Rattle.books.proofs.writing.write_book.Lts as lts
+use Rattle.books.proofs.measuring.book_len.Reads as book-len-reads
+use Rattle.books.proofs.writing.write_colours.Reads as write-colours-reads
+use Rattle.books.proofs.writing.write_figures.Reads as write-figures-reads
+use Rattle.books.proofs.writing.write_rules.Reads as write-rules-reads
+
+-- the lengths of the parts are the length of the whole, and there is room for it
+room : (c : tie.Else1) → let a = c .before .before .before .before .before .args in
+    length (spellColours (namesIn (now (a .first)) (a .d .family .colours) ++ namesIn (now (a .second)) (a .d .more)))
+    + (length (spellFigures (a .d .family .motifs) (a .d .family .start) (a .d .family .count)) + length (spellRules (take (a .d .family .count) (a .d .family .rules))))
+    ≤ length (now (a .out))
+room c =
+    let a = c .before .before .before .before .before .args in
+    omega (arith, draft-length (now (a .first)) (now (a .second)) (a .d) (c .before .before .before .before .before .pre), c .before .book-len .ensures, c .if1 .left)
+
+-- src/writing.rt:127:9
+book-len-requires : tie.Need-book-len-requires
+book-len-requires c κs = search needs
+
+-- src/writing.rt:129:9
+returns : tie.Need-returns
+returns c = 
+    let small = rw (c .before .book-len .ensures) at (c .if1 .taken) in
+    (simp (lt-leb _ _ small), sym (put-out _ 0 _ (omega (arith, small))))
+
+-- src/writing.rt:138:9
+write-colours-requires : tie.Need-write-colours-requires
+write-colours-requires c κs = (c .before .before .before .before .before .before .before .before .before .before .pre .colours-few, c .before .before .before .before .before .before .before .before .before .before .pre .more-few, omega (arith, room (c .before .before .before .before .before)))
+
+-- src/writing.rt:139:9
+write-figures-requires : tie.Need-write-figures-requires
+write-figures-requires c κs = 
+    let colours = c .before .before .before .write-colours .ensures in
+    omega (arith, room (c .before .before .before .before .before .before .before .before .before), colours .place, wrote-length colours)
+
+-- src/writing.rt:140:5
+write-rules-requires : tie.Need-write-rules-requires
+write-rules-requires c κs = 
+    let colours = c .before .before .before .before .before .before .before .write-colours .ensures in
+    let figures = c .before .before .before .write-figures .ensures in
+    (c .before .before .before .before .before .before .before .before .before .before .before .before .before .before .before .before .before .before .pre .rules-few, omega (arith, room (c .before .before .before .before .before .before .before .before .before .before .before .before .before), colours .place, wrote-length colours, figures .place, wrote-length figures))
+
+-- src/writing.rt:123:1
+same-length : tie.Need-same-length
+same-length c = search needs
+
+-- src/writing.rt:123:1
+returns-2 : tie.Need-returns-2
+returns-2 c = 
+    let a = c .before .before .before .before .before .before .before .before .before .before .before .before .before .before .before .before .before .before .before .before .before .args in
+    let colours = spellColours (namesIn (now (a .first)) (a .d .family .colours) ++ namesIn (now (a .second)) (a .d .more)) in
+    let figures = spellFigures (a .d .family .motifs) (a .d .family .start) (a .d .family .count) in
+    let rules = spellRules (take (a .d .family .count) (a .d .family .rules)) in
+    let one = c .before .before .before .before .before .before .before .before .before .before .write-colours .ensures in
+    let all = length-append colours (figures ++ rules) in
+    let rest = length-append figures rules in
+    let fits = rw (c .before .before .before .before .before .before .before .before .before .before .before .before .before .before .before .before .before .book-len .ensures) at (c .before .before .before .before .before .before .before .before .before .before .before .before .before .before .before .before .if1 .left) in
+    let whole = wrote-then (omega (arith, room (c .before .before .before .before .before .before .before .before .before .before .before .before .before .before .before .before))) one (wrote-then (omega (arith, room (c .before .before .before .before .before .before .before .before .before .before .before .before .before .before .before .before), one .place, wrote-length one)) (c .before .before .before .before .before .before .write-figures .ensures) (c .before .before .write-rules .ensures)) in
+    (simp (le-leb _ _ fits, c .before .before .before .before .before .before .before .before .before .before .before .before .before .before .before .before .before .book-len .ensures), rw (draft-spelled (now (a .first)) (now (a .second)) (a .d) (c .before .before .before .before .before .before .before .before .before .before .before .before .before .before .before .before .before .before .before .before .before .pre)) (whole .held))
+
+pub write-book-spec : {M : Type 1} → statement M
+write-book-spec =
+    tie.close
+    (tie.spec
+    book-len-requires
+    returns
+    write-colours-requires
+    write-figures-requires
+    write-rules-requires
+    same-length
+    returns-2)

@@ -1,0 +1,54 @@
+use Prim.Native.Nat.{_+_}
+use mathlib.Core.Path.{_≡_}
+use mathlib.Core.List.{_++_}
+use native.Mathlib.Omega.{arith}
+use lib.ListN.{length, length-append}
+use Rattle.names.specs.Number.{spellNumber}
+use Rattle.books.proofs.InARow.{wrote, wrote-then, wrote-length}
+use borrow.Author.Needs.{needs}
+use Rattle.books.proofs.writing.write_join.Statement.{statement}
+use Rattle.books.proofs.writing.write_join.Tie as tie
+use Rattle.books.proofs.writing.write_join.Reads as reads
+use Rattle.books.proofs.writing.write_join.Lts as lts
+use Rattle.names.proofs.number.write_number.Reads as write-number-reads
+
+-- src/writing.rt:58:9
+write-number-requires : tie.Need-write-number-requires
+write-number-requires c κs = search needs
+
+-- src/writing.rt:59:9
+write-number-requires-2 : tie.Need-write-number-requires-2
+write-number-requires-2 c κs = search needs
+
+-- src/writing.rt:60:5
+write-number-requires-3 : tie.Need-write-number-requires-3
+write-number-requires-3 c κs = search needs
+
+-- src/writing.rt:54:1
+same-length : tie.Need-same-length
+same-length c = search needs
+
+-- src/writing.rt:54:1
+returns : tie.Need-returns
+returns c =
+    let a = c .before .before .before .before .before .before .before .before .before .before .before .before .before .args in
+    let kind = spellNumber (a .kind) in
+    let first = spellNumber (a .first) in
+    let second = spellNumber (a .second) in
+    let pre = c .before .before .before .before .before .before .before .before .before .before .before .before .before .pre in
+    let motifs : length (first ++ second) ≡ length first + length second = length-append first second in
+    let whole : length (kind ++ (first ++ second)) ≡ length kind + length (first ++ second) = length-append kind (first ++ second) in
+    let one = wrote kind (c .before .before .before .before .before .before .before .before .before .before .write-number .ensures .0) (c .before .before .before .before .before .before .before .before .before .before .write-number .ensures .1) (omega arith) in
+    let two = wrote first (c .before .before .before .before .before .before .write-number2 .ensures .0) (c .before .before .before .before .before .before .write-number2 .ensures .1) (omega (arith, one .place, wrote-length one)) in
+    let three = wrote second (c .before .before .write-number3 .ensures .0) (c .before .before .write-number3 .ensures .1) (omega (arith, one .place, two .place, wrote-length one, wrote-length two)) in
+    wrote-then pre one (wrote-then (omega (arith, one .place, wrote-length one)) two three)
+
+pub write-join-spec : {M : Type 1} → statement M
+write-join-spec =
+    tie.close
+    (tie.spec
+    write-number-requires
+    write-number-requires-2
+    write-number-requires-3
+    same-length
+    returns)

@@ -1,0 +1,102 @@
+// How many bytes a book will have, before any of it is written.
+use crate::rule::Body;
+use crate::rule::Rule;
+use crate::writing::Draft;
+use names::colours::Colours;
+use names::name;
+use names::number;
+ghost use mathlib.Core.Path.{_≡_};
+ghost use mathlib.Core.List.{_++_};
+ghost use Prim.Native.Nat.{_+_, _≤_};
+ghost use lib.ListN.{length, take};
+ghost use Rattle.names.specs.Number.{spellNumber};
+ghost use Rattle.names.specs.Colours.{namesIn};
+ghost use Rattle.names.specs.Spelling.{spellNames, spellColours};
+ghost use Rattle.books.specs.SpellBook.{spellBody, spellRule, spellRules, spellFigures, spellBook};
+ghost use Rattle.books.specs.Draft.{draftIn, Ready};
+
+// The names of a list, each with its length before it.
+fn names_len(s: &[u8], c: Colours) -> usize
+    requires { ⌜ c .count ≤ 64 ⌝ }
+    ensures { λ r. ⌜ (r ≡ length (spellNames (namesIn (now (s .entry)) c))) × (r ≤ 16512) ⌝ }
+{
+    let n = c.count;
+    let mut sum = 0;
+    let mut i = 0;
+    while i < n {
+        let start = c.starts[i] as usize;
+        let len = c.lens[i] as usize;
+        let part = name::front(name::tail(s, start), len);
+        let size = part.len();
+        sum += number::spelled_len(size) + size;
+        i += 1;
+    }
+    sum
+}
+
+// A kind and two motifs.
+fn join_len(first: u8, second: u8) -> usize
+    ensures { λ r. ⌜ (r ≡ 1 + (length (spellNumber first) + length (spellNumber second))) × (r ≤ 7) ⌝ }
+{
+    1 + (number::spelled_len(first as usize) + number::spelled_len(second as usize))
+}
+
+fn body_len(b: Body) -> usize
+    ensures { λ r. ⌜ (r ≡ length (spellBody b)) × (r ≤ 7) ⌝ }
+{
+    match b {
+        Body::Colour(c) => 1 + number::spelled_len(c as usize),
+        Body::Across(l, r) => join_len(l, r),
+        Body::Down(u, v) => join_len(u, v),
+    }
+}
+
+fn rule_len(r: Rule) -> usize
+    ensures { λ k. ⌜ (k ≡ length (spellRule r)) × (k ≤ 10) ⌝ }
+{
+    let b = r.body;
+    number::spelled_len(r.head as usize) + body_len(b)
+}
+
+// The first so many rules.
+fn rules_len(rules: [Rule; 200], count: usize) -> usize
+    requires { ⌜ count ≤ 200 ⌝ }
+    ensures { λ r. ⌜ (r ≡ length (spellRules (take count rules))) × (r ≤ 2000) ⌝ }
+{
+    let mut sum = 0;
+    let mut i = 0;
+    while i < count {
+        let r = rules[i];
+        sum += rule_len(r);
+        i += 1;
+    }
+    sum
+}
+
+// The colours of both lists, in one list after their count.
+fn colours_len(first: &[u8], c: Colours, second: &[u8], more: Colours) -> usize
+    requires { ⌜ (c .count ≤ 64) × (more .count ≤ 64) ⌝ }
+    ensures { λ r. ⌜ (r ≡ length (spellColours (namesIn (now (first .entry)) c ++ namesIn (now (second .entry)) more))) × (r ≤ 33027) ⌝ }
+{
+    number::spelled_len(c.count + more.count) + (names_len(first, c) + names_len(second, more))
+}
+
+// The motif count, the start and the rule count.
+fn figures_len(motifs: usize, start: usize, count: usize) -> usize
+    ensures { λ r. ⌜ (r ≡ length (spellFigures motifs start count)) × (r ≤ 9) ⌝ }
+{
+    number::spelled_len(motifs) + (number::spelled_len(start) + number::spelled_len(count))
+}
+
+pub fn book_len(first: &[u8], second: &[u8], d: Draft) -> usize
+    requires { ⌜ Ready d ⌝ }
+    ensures { λ r. ⌜ r ≡ length (spellBook (draftIn (now (first .entry)) (now (second .entry)) d)) ⌝ }
+{
+    let f = d.family;
+    let c = f.colours;
+    let more = d.more;
+    let rules = f.rules;
+    let colours = colours_len(first, c, second, more);
+    let figures = figures_len(f.motifs, f.start, f.count);
+    colours + (figures + rules_len(rules, f.count))
+}
