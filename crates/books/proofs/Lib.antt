@@ -20,3 +20,6 @@ pub mod LongestSheet
 pub mod InARow
 pub mod SpellingOn
 pub mod SpellingDrafts
+pub mod Packing
+pub mod Showing
+pub mod Settled

@@ -17,3 +17,4 @@ pub mod SpellSheet
 pub mod Wrote
 pub mod Draft
 pub mod Answer
+pub mod Calls

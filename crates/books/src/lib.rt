@@ -1,11 +1,12 @@
 // Books and sheets: their contents, reading, spelling and writing, and what a family derives.
+pub mod answer;
+pub mod book;
+pub mod calls;
+pub mod cells;
+pub mod family;
+mod measuring;
 pub mod rule;
 pub mod rules;
-pub mod family;
-pub mod book;
-pub mod size;
-pub mod cells;
 pub mod sheet;
-pub mod answer;
-mod measuring;
+pub mod size;
 pub mod writing;

@@ -1,3 +1,4 @@
+-- Each kind of body is one byte and the spellings of its numbers.
 use native.Mathlib.Omega.{arith}
 use mathlib.Core.List.{_++_}
 use lib.ListN.{length-append}
@@ -6,50 +7,36 @@ use Rattle.names.proofs.SpellingNumbers.{spell-few, spell-short}
 use borrow.Author.Needs.{needs}
 use Rattle.books.proofs.measuring.body_len.Statement.{statement}
 use Rattle.books.proofs.measuring.body_len.Tie as tie
-use Rattle.books.proofs.measuring.body_len.Reads as reads
-use Rattle.books.proofs.measuring.body_len.Lts as lts
-use Rattle.books.proofs.measuring.join_len.Reads as join-len-reads
-use Rattle.names.proofs.number.spelled_len.Reads as spelled-len-reads
 
--- src/measuring.rt:47:22
 enum-known-b : tie.Need-enum-known-b
 enum-known-b c = search needs
 
--- src/measuring.rt:47:52
 cast-spelled-len : tie.Need-cast-spelled-len
 cast-spelled-len c = search needs
 
--- src/measuring.rt:47:32
 spelled-len-requires : tie.Need-spelled-len-requires
 spelled-len-requires c κs = search needs
 
--- src/measuring.rt:47:28
 add-result : tie.Need-add-result
 add-result c = omega (arith, spell-few (c .before .before .b .given .0 .0))
 
--- src/measuring.rt:48:22
 enum-known-b-2 : tie.Need-enum-known-b-2
 enum-known-b-2 c = search needs
 
--- src/measuring.rt:48:31
 join-len-requires : tie.Need-join-len-requires
 join-len-requires c κs = search needs
 
--- src/measuring.rt:49:20
 enum-known-b-3 : tie.Need-enum-known-b-3
 enum-known-b-3 c = search needs
 
--- src/measuring.rt:49:29
 join-len-requires-2 : tie.Need-join-len-requires-2
 join-len-requires-2 c κs = search needs
 
--- src/measuring.rt:43:1
 returns : tie.Need-returns
 returns c =
     let colour = c .before .before .b .given .0 .0 in
     rw (c .before .before .b .given .1) (omega (arith, length-append (spellNumber 0) (spellNumber colour), spell-short 0 (omega arith), spell-few colour))
 
--- src/measuring.rt:43:1
 returns-2 : tie.Need-returns-2
 returns-2 c =
     let first = c .before .before .b2 .given .0 .0 in
@@ -57,7 +44,6 @@ returns-2 c =
     rw (c .before .before .b2 .given .1)
     (omega (arith, length-append (spellNumber 1) (spellNumber first ++ spellNumber second), length-append (spellNumber first) (spellNumber second), spell-short 1 (omega arith), c .join-len .ensures))
 
--- src/measuring.rt:43:1
 returns-3 : tie.Need-returns-3
 returns-3 c =
     let first = c .before .before .b3 .given .0 .0 in

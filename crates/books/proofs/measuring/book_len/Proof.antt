@@ -1,38 +1,28 @@
+-- A draft's spelling is its colours, its figures and its rules, one after the other.
 use native.Mathlib.Omega.{arith}
 use denote.Ref.{now}
 use Rattle.books.proofs.SpellingDrafts.{draft-length}
 use borrow.Author.Needs.{needs}
 use Rattle.books.proofs.measuring.book_len.Statement.{statement}
 use Rattle.books.proofs.measuring.book_len.Tie as tie
-use Rattle.books.proofs.measuring.book_len.Reads as reads
-use Rattle.books.proofs.measuring.book_len.Lts as lts
-use Rattle.books.proofs.measuring.colours_len.Reads as colours-len-reads
-use Rattle.books.proofs.measuring.figures_len.Reads as figures-len-reads
-use Rattle.books.proofs.measuring.rules_len.Reads as rules-len-reads
 
--- src/measuring.rt:99:9
 colours-len-requires : tie.Need-colours-len-requires
 colours-len-requires c κs = search needs
 
--- src/measuring.rt:100:9
 figures-len-requires : tie.Need-figures-len-requires
 figures-len-requires c κs = search needs
 
--- src/measuring.rt:101:26
 rules-len-requires : tie.Need-rules-len-requires
 rules-len-requires c κs = search needs
 
--- src/measuring.rt:101:16
 add-result : tie.Need-add-result
 add-result c = search needs
 
--- src/measuring.rt:101:5
 add-result-2 : tie.Need-add-result-2
 add-result-2 c = search needs
 
--- src/measuring.rt:91:1
 returns : tie.Need-returns
-returns c = 
+returns c =
     let a = c .before .before .before .before .before .before .before .before .before .args in
     omega (arith, draft-length (now (a .first)) (now (a .second)) (a .d) (c .before .before .before .before .before .before .before .before .before .pre), c .before .before .colours-len .ensures .0, c .before .figures-len .ensures .0, c .rules-len .ensures .0)
 

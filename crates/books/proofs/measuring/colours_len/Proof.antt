@@ -1,3 +1,4 @@
+-- Two lists of names are spelled after the sum of their counts.
 use native.Mathlib.Omega.{arith}
 use Prim.Native.Nat.{_+_}
 use mathlib.Core.Path.{ap}
@@ -12,38 +13,27 @@ use Rattle.books.proofs.SpellingDrafts.{colours-spelled}
 use borrow.Author.Needs.{needs}
 use Rattle.books.proofs.measuring.colours_len.Statement.{statement}
 use Rattle.books.proofs.measuring.colours_len.Tie as tie
-use Rattle.books.proofs.measuring.colours_len.Reads as reads
-use Rattle.books.proofs.measuring.colours_len.Lts as lts
-use Rattle.books.proofs.measuring.names_len.Reads as names-len-reads
-use Rattle.names.proofs.number.spelled_len.Reads as spelled-len-reads
 
--- src/measuring.rt:81:25
 add-spelled-len : tie.Need-add-spelled-len
 add-spelled-len c = search needs
 
--- src/measuring.rt:81:5
 spelled-len-requires : tie.Need-spelled-len-requires
 spelled-len-requires c κs = search needs
 
--- src/measuring.rt:81:50
 names-len-requires : tie.Need-names-len-requires
 names-len-requires c κs = search needs
 
--- src/measuring.rt:81:72
 names-len-requires-2 : tie.Need-names-len-requires-2
 names-len-requires-2 c κs = search needs
 
--- src/measuring.rt:81:50
 add-result : tie.Need-add-result
 add-result c = search needs
 
--- src/measuring.rt:81:5
 add-result-2 : tie.Need-add-result-2
 add-result-2 c = omega (arith, spell-few (c .before .before .before .before .before .before .before .args .c .count + c .before .before .before .before .before .before .before .args .more .count), c .names-len2 .ensures .1, c .before .names-len .ensures .1)
 
--- src/measuring.rt:77:1
 returns : tie.Need-returns
-returns c = 
+returns c =
     let a = c .before .before .before .before .before .before .before .args in
     let count = spellNumber (a .c .count + a .more .count) in
     let one = spellNames (namesIn (now (a .first)) (a .c)) in

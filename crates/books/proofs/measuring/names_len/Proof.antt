@@ -1,3 +1,4 @@
+-- The sum so far, with the names that are left, is the whole; a name is no longer than a byte can say.
 use Prim.Native.Nat.{_+_, _-_, _*_, _≤_}
 use mathlib.Core.Path.{_≡_, ap}
 use native.Mathlib.Omega.{arith}
@@ -13,11 +14,6 @@ use Rattle.names.proofs.SpellingNumbers.{spell-few}
 use Rattle.books.proofs.SpellingOn.{names-on-length, take-few}
 use Rattle.books.proofs.measuring.names_len.Statement.{statement}
 use Rattle.books.proofs.measuring.names_len.Tie as tie
-use Rattle.books.proofs.measuring.names_len.Reads as reads
-use Rattle.books.proofs.measuring.names_len.Lts as lts
-use Rattle.names.proofs.name.front.Reads as front-reads
-use Rattle.names.proofs.name.tail.Reads as tail-reads
-use Rattle.names.proofs.number.spelled_len.Reads as spelled-len-reads
 
 abbrev Inv-loop : tie.InvT-loop
 Inv-loop s c n sum₀ i₀ sum i = (i ≤ n) × (sum + length (spellNames (namesFrom s c i (n - i))) ≡ length (spellNames (namesFrom s c 0 n))) × (sum ≤ 258 * i)
@@ -25,39 +21,30 @@ Inv-loop s c n sum₀ i₀ sum i = (i ≤ n) × (sum + length (spellNames (names
 abbrev μ-loop : tie.MeasureT-loop
 μ-loop s c n sum₀ i₀ sum i = n - i
 
--- src/measuring.rt:25:5
 loop-holds : tie.Need-loop-holds Inv-loop μ-loop
 loop-holds c = (omega arith, simp left-all (omega arith), omega arith)
 
--- src/measuring.rt:26:21
 mul-start : tie.Need-mul-start Inv-loop μ-loop
 mul-start c = omega arith
 
--- src/measuring.rt:26:21
 element-copy-out-start : tie.Need-element-copy-out-start Inv-loop μ-loop
 element-copy-out-start c = omega arith
 
--- src/measuring.rt:26:21
 cast-start : tie.Need-cast-start Inv-loop μ-loop
 cast-start c = search needs
 
--- src/measuring.rt:27:19
 element-copy-out-len : tie.Need-element-copy-out-len Inv-loop μ-loop
 element-copy-out-len c = omega arith
 
--- src/measuring.rt:27:19
 cast-len : tie.Need-cast-len Inv-loop μ-loop
 cast-len c = search needs
 
--- src/measuring.rt:28:32
 tail-requires : tie.Need-tail-requires Inv-loop μ-loop
 tail-requires c κs = tt
 
--- src/measuring.rt:28:13
 front-requires : tie.Need-front-requires Inv-loop μ-loop
 front-requires c κs = tt
 
--- src/measuring.rt:30:16
 spelled-len-requires : tie.Need-spelled-len-requires Inv-loop μ-loop
 spelled-len-requires c κs = tt
 
@@ -71,23 +58,18 @@ part-few c =
     let byte : Fits w8 (getD (c .before .before .before .before .before .before .before .before .args .t2 .lens) (c .before .before .before .before .before .before .loop .i) 0) = search needs in
     omega (arith, ap length (part-named c), take-few (getD (c .before .before .before .before .before .before .before .before .args .t2 .lens) (c .before .before .before .before .before .before .loop .i) 0) (drop (getD (c .before .before .before .before .before .before .before .before .args .t2 .starts) (c .before .before .before .before .before .before .loop .i) 0) (now (c .before .before .before .before .before .before .before .before .args .s))))
 
--- src/measuring.rt:30:16
 add-sum : tie.Need-add-sum Inv-loop μ-loop
 add-sum c = omega (arith, spell-few (length (now (c .before .front .result))), part-few c)
 
--- src/measuring.rt:30:9
 add-sum-2 : tie.Need-add-sum-2 Inv-loop μ-loop
 add-sum-2 c = omega (arith, spell-few (length (now (c .before .front .result))), part-few c)
 
--- src/measuring.rt:31:9
 add-i : tie.Need-add-i Inv-loop μ-loop
 add-i c = omega arith
 
--- src/measuring.rt:25:5
 loop-less : tie.Need-loop-less Inv-loop μ-loop
 loop-less c = omega arith
 
--- src/measuring.rt:25:5
 loop-again : tie.Need-loop-again Inv-loop μ-loop
 loop-again c =
     let a = c .before .before .before .before .before .before .before .before .args in
@@ -97,7 +79,6 @@ loop-again c =
     let few = part-few c in
     (omega arith, omega (arith, rw (← name) at on, c .spelled-len .ensures, c .before .before .before .before .before .before .loop .inv .1), omega (arith, c .spelled-len .ensures, spell-few (length (now (c .before .front .result))), c .before .before .before .before .before .before .loop .inv .2))
 
--- src/measuring.rt:18:1
 returns : tie.Need-returns Inv-loop μ-loop
 returns c =
     let all = simp (left-none _ _ (c .loop-test .left)) at (c .before .loop .inv .1) in

@@ -1,3 +1,4 @@
+-- A head and a body.
 use native.Mathlib.Omega.{arith}
 use lib.ListN.{length-append}
 use Rattle.names.specs.Number.{spellNumber}
@@ -6,28 +7,19 @@ use Rattle.books.specs.SpellBook.{spellBody}
 use borrow.Author.Needs.{needs}
 use Rattle.books.proofs.measuring.rule_len.Statement.{statement}
 use Rattle.books.proofs.measuring.rule_len.Tie as tie
-use Rattle.books.proofs.measuring.rule_len.Reads as reads
-use Rattle.books.proofs.measuring.rule_len.Lts as lts
-use Rattle.books.proofs.measuring.body_len.Reads as body-len-reads
-use Rattle.names.proofs.number.spelled_len.Reads as spelled-len-reads
 
--- src/measuring.rt:57:25
 cast-spelled-len : tie.Need-cast-spelled-len
 cast-spelled-len c = search needs
 
--- src/measuring.rt:57:5
 spelled-len-requires : tie.Need-spelled-len-requires
 spelled-len-requires c κs = search needs
 
--- src/measuring.rt:57:44
 body-len-requires : tie.Need-body-len-requires
 body-len-requires c κs = search needs
 
--- src/measuring.rt:57:5
 add-result : tie.Need-add-result
 add-result c = omega (arith, spell-few (c .before .before .before .args .r .head), c .body-len .ensures)
 
--- src/measuring.rt:53:1
 returns : tie.Need-returns
 returns c = omega (arith, length-append (spellNumber (c .before .before .before .args .r .head)) (spellBody (c .before .before .before .args .r .body)), spell-few (c .before .before .before .args .r .head), c .body-len .ensures)
 

@@ -1,17 +1,14 @@
+-- The sum so far, with the rules that are left, is the whole.
 use Prim.Native.Nat.{_+_, _-_, _*_, _≤_}
-use mathlib.Core.Path.{_≡_, ap, _∙_}
+use mathlib.Core.Path.{_≡_, ap}
 use mathlib.Core.List.{List}
 use native.Mathlib.Omega.{arith}
-use lib.ListN.{length, getD, take, drop, length-append, drop-of-length-le}
-use lib.Seq.{length-take-le}
+use lib.ListN.{length, take, drop}
 use Rattle.books.specs.SpellBook.{spellRule, spellRules}
 use Rattle.books.specs.declared.rule.Rule.{Rule}
 use Rattle.books.proofs.SpellingOn.{rules-on-length, rules-end, noRule}
 use Rattle.books.proofs.measuring.rules_len.Statement.{statement}
 use Rattle.books.proofs.measuring.rules_len.Tie as tie
-use Rattle.books.proofs.measuring.rules_len.Reads as reads
-use Rattle.books.proofs.measuring.rules_len.Lts as lts
-use Rattle.books.proofs.measuring.rule_len.Reads as rule-len-reads
 
 abbrev Inv-loop : tie.InvT-loop
 Inv-loop count rules sum₀ i₀ sum i = (i ≤ count) × (sum + length (spellRules (drop i (take count rules))) ≡ length (spellRules (take count rules))) × (sum ≤ 10 * i)
@@ -19,42 +16,33 @@ Inv-loop count rules sum₀ i₀ sum i = (i ≤ count) × (sum + length (spellRu
 abbrev μ-loop : tie.MeasureT-loop
 μ-loop count rules sum₀ i₀ sum i = count - i
 
--- src/measuring.rt:67:5
 loop-holds : tie.Need-loop-holds Inv-loop μ-loop
 loop-holds c = (omega arith, omega arith, omega arith)
 
--- src/measuring.rt:68:17
 mul-r : tie.Need-mul-r Inv-loop μ-loop
 mul-r c = omega arith
 
--- src/measuring.rt:68:17
 array-copy-out-r : tie.Need-array-copy-out-r Inv-loop μ-loop
 array-copy-out-r c = omega arith
 
--- src/measuring.rt:69:16
 rule-len-requires : tie.Need-rule-len-requires Inv-loop μ-loop
 rule-len-requires c κs = tt
 
--- src/measuring.rt:69:9
 add-sum : tie.Need-add-sum Inv-loop μ-loop
 add-sum c = omega (arith, c .rule-len .ensures .1)
 
--- src/measuring.rt:70:9
 add-i : tie.Need-add-i Inv-loop μ-loop
 add-i c = omega arith
 
--- src/measuring.rt:67:5
 loop-less : tie.Need-loop-less Inv-loop μ-loop
 loop-less c = omega arith
 
--- src/measuring.rt:67:5
 loop-again : tie.Need-loop-again Inv-loop μ-loop
 loop-again c =
     let a = c .before .before .before .before .args in
     let on = rules-on-length (a .t1) (a .count) (c .before .before .before .loop .i) noRule (c .before .before .loop-test .taken) (omega arith) in
     (omega arith, omega (arith, c .before .before .before .loop .inv .1, c .rule-len .ensures .0), omega (arith, c .before .before .before .loop .inv .2, c .rule-len .ensures .1))
 
--- src/measuring.rt:61:1
 returns : tie.Need-returns Inv-loop μ-loop
 returns c =
     let a = c .before .before .args in

@@ -1,3 +1,4 @@
+-- Each kind of body is its numbers in a row.
 use Prim.Native.Nat.{_+_}
 use mathlib.Core.Path.{_≡_}
 use mathlib.Core.List.{_++_}
@@ -8,48 +9,34 @@ use Rattle.books.proofs.InARow.{wrote, wrote-then, wrote-length}
 use borrow.Author.Needs.{needs}
 use Rattle.books.proofs.writing.write_body.Statement.{statement}
 use Rattle.books.proofs.writing.write_body.Tie as tie
-use Rattle.books.proofs.writing.write_body.Reads as reads
-use Rattle.books.proofs.writing.write_body.Lts as lts
-use Rattle.books.proofs.writing.write_join.Reads as write-join-reads
-use Rattle.names.proofs.number.write_number.Reads as write-number-reads
 
--- src/writing.rt:68:22
 enum-known-b : tie.Need-enum-known-b
 enum-known-b c = search needs
 
--- src/writing.rt:69:17
 write-number-requires : tie.Need-write-number-requires
 write-number-requires c κs = search needs
 
--- src/writing.rt:70:45
 cast-write-number : tie.Need-cast-write-number
 cast-write-number c = search needs
 
--- src/writing.rt:70:13
 write-number-requires-2 : tie.Need-write-number-requires-2
 write-number-requires-2 c κs = search needs
 
--- src/writing.rt:72:22
 enum-known-b-2 : tie.Need-enum-known-b-2
 enum-known-b-2 c = search needs
 
--- src/writing.rt:72:31
 write-join-requires : tie.Need-write-join-requires
 write-join-requires c κs = rw (c .before .before .b2 .given .1) at (c .before .before .before .before .before .pre)
 
--- src/writing.rt:73:20
 enum-known-b-3 : tie.Need-enum-known-b-3
 enum-known-b-3 c = search needs
 
--- src/writing.rt:73:29
 write-join-requires-2 : tie.Need-write-join-requires-2
 write-join-requires-2 c κs = rw (c .before .before .b3 .given .1) at (c .before .before .before .before .before .pre)
 
--- src/writing.rt:63:1
 same-length : tie.Need-same-length
 same-length c = search needs
 
--- src/writing.rt:63:1
 returns : tie.Need-returns
 returns c =
     let colour = c .before .before .before .before .before .before .before .before .before .b .given .0 .0 in
@@ -59,19 +46,15 @@ returns c =
     let two = wrote (spellNumber colour) (c .before .before .write-number2 .ensures .0) (c .before .before .write-number2 .ensures .1) (omega (arith, one .place, wrote-length one)) in
     rw (c .before .before .before .before .before .before .before .before .before .b .given .1) (wrote-then room one two)
 
--- src/writing.rt:63:1
 same-length-2 : tie.Need-same-length-2
 same-length-2 c = search needs
 
--- src/writing.rt:63:1
 returns-2 : tie.Need-returns-2
 returns-2 c = rw (c .before .before .before .before .before .b2 .given .1) (c .before .before .write-join .ensures)
 
--- src/writing.rt:63:1
 same-length-3 : tie.Need-same-length-3
 same-length-3 c = search needs
 
--- src/writing.rt:63:1
 returns-3 : tie.Need-returns-3
 returns-3 c = rw (c .before .before .before .before .before .b3 .given .1) (c .before .before .write-join2 .ensures)
 

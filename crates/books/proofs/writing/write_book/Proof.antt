@@ -1,3 +1,4 @@
+-- The book is its colours, its figures and its rules, each written where the one before it ends; where it is too long nothing is written.
 use native.Mathlib.Omega.{arith}
 use Prim.Native.Nat.{_+_, _≤_}
 use mathlib.Core.Path.{sym}
@@ -14,12 +15,6 @@ use Rattle.books.proofs.SpellingDrafts.{draft-spelled, draft-length}
 use borrow.Author.Needs.{needs}
 use Rattle.books.proofs.writing.write_book.Statement.{statement}
 use Rattle.books.proofs.writing.write_book.Tie as tie
-use Rattle.books.proofs.writing.write_book.Reads as reads
-use Rattle.books.proofs.writing.write_book.Lts as lts
-use Rattle.books.proofs.measuring.book_len.Reads as book-len-reads
-use Rattle.books.proofs.writing.write_colours.Reads as write-colours-reads
-use Rattle.books.proofs.writing.write_figures.Reads as write-figures-reads
-use Rattle.books.proofs.writing.write_rules.Reads as write-rules-reads
 
 -- the lengths of the parts are the length of the whole, and there is room for it
 room : (c : tie.Else1) → let a = c .before .before .before .before .before .args in
@@ -30,40 +25,33 @@ room c =
     let a = c .before .before .before .before .before .args in
     omega (arith, draft-length (now (a .first)) (now (a .second)) (a .d) (c .before .before .before .before .before .pre), c .before .book-len .ensures, c .if1 .left)
 
--- src/writing.rt:127:9
 book-len-requires : tie.Need-book-len-requires
 book-len-requires c κs = search needs
 
--- src/writing.rt:129:9
 returns : tie.Need-returns
-returns c = 
+returns c =
     let small = rw (c .before .book-len .ensures) at (c .if1 .taken) in
     (simp (lt-leb _ _ small), sym (put-out _ 0 _ (omega (arith, small))))
 
--- src/writing.rt:138:9
 write-colours-requires : tie.Need-write-colours-requires
 write-colours-requires c κs = (c .before .before .before .before .before .before .before .before .before .before .pre .colours-few, c .before .before .before .before .before .before .before .before .before .before .pre .more-few, omega (arith, room (c .before .before .before .before .before)))
 
--- src/writing.rt:139:9
 write-figures-requires : tie.Need-write-figures-requires
-write-figures-requires c κs = 
+write-figures-requires c κs =
     let colours = c .before .before .before .write-colours .ensures in
     omega (arith, room (c .before .before .before .before .before .before .before .before .before), colours .place, wrote-length colours)
 
--- src/writing.rt:140:5
 write-rules-requires : tie.Need-write-rules-requires
-write-rules-requires c κs = 
+write-rules-requires c κs =
     let colours = c .before .before .before .before .before .before .before .write-colours .ensures in
     let figures = c .before .before .before .write-figures .ensures in
     (c .before .before .before .before .before .before .before .before .before .before .before .before .before .before .before .before .before .before .pre .rules-few, omega (arith, room (c .before .before .before .before .before .before .before .before .before .before .before .before .before), colours .place, wrote-length colours, figures .place, wrote-length figures))
 
--- src/writing.rt:123:1
 same-length : tie.Need-same-length
 same-length c = search needs
 
--- src/writing.rt:123:1
 returns-2 : tie.Need-returns-2
-returns-2 c = 
+returns-2 c =
     let a = c .before .before .before .before .before .before .before .before .before .before .before .before .before .before .before .before .before .before .before .before .before .args in
     let colours = spellColours (namesIn (now (a .first)) (a .d .family .colours) ++ namesIn (now (a .second)) (a .d .more)) in
     let figures = spellFigures (a .d .family .motifs) (a .d .family .start) (a .d .family .count) in

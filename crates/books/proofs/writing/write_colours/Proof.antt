@@ -1,3 +1,4 @@
+-- The count, then the names of the first list, then those of the second.
 use native.Mathlib.Omega.{arith}
 use Prim.Native.Nat.{_+_}
 use mathlib.Core.List.{_++_}
@@ -11,22 +12,15 @@ use Rattle.books.proofs.SpellingDrafts.{colours-spelled}
 use borrow.Author.Needs.{needs}
 use Rattle.books.proofs.writing.write_colours.Statement.{statement}
 use Rattle.books.proofs.writing.write_colours.Tie as tie
-use Rattle.books.proofs.writing.write_colours.Reads as reads
-use Rattle.books.proofs.writing.write_colours.Lts as lts
-use Rattle.books.proofs.writing.write_names.Reads as write-names-reads
-use Rattle.names.proofs.number.write_number.Reads as write-number-reads
 
--- src/writing.rt:106:43
 add-write-number : tie.Need-add-write-number
 add-write-number c = search needs
 
--- src/writing.rt:106:9
 write-number-requires : tie.Need-write-number-requires
 write-number-requires c κs = search needs
 
--- src/writing.rt:107:9
 write-names-requires : tie.Need-write-names-requires
-write-names-requires c κs = 
+write-names-requires c κs =
     let a = c .before .before .before .before .before .before .before .before .before .before .args in
     let count = spellNumber (a .c .count + a .more .count) in
     let one = spellNames (namesIn (now (a .first)) (a .c)) in
@@ -37,9 +31,8 @@ write-names-requires c κs =
     let counted = wrote count (c .before .before .before .write-number .ensures .0) (c .before .before .before .write-number .ensures .1) (omega arith) in
     (c .before .before .before .before .before .before .before .before .before .before .pre .0, omega (arith, counted .place, wrote-length counted))
 
--- src/writing.rt:108:5
 write-names-requires-2 : tie.Need-write-names-requires-2
-write-names-requires-2 c κs = 
+write-names-requires-2 c κs =
     let a = c .before .before .before .before .before .before .before .before .before .before .before .before .before .before .args in
     let count = spellNumber (a .c .count + a .more .count) in
     let one = spellNames (namesIn (now (a .first)) (a .c)) in
@@ -51,13 +44,11 @@ write-names-requires-2 c κs =
     let named = c .before .before .before .write-names .ensures in
     (c .before .before .before .before .before .before .before .before .before .before .before .before .before .before .pre .1, omega (arith, counted .place, wrote-length counted, named .place, wrote-length named))
 
--- src/writing.rt:102:1
 same-length : tie.Need-same-length
 same-length c = search needs
 
--- src/writing.rt:102:1
 returns : tie.Need-returns
-returns c = 
+returns c =
     let a = c .before .before .before .before .before .before .before .before .before .before .before .before .before .before .before .before .before .args in
     let count = spellNumber (a .c .count + a .more .count) in
     let one = spellNames (namesIn (now (a .first)) (a .c)) in

@@ -1,3 +1,4 @@
+-- Three numbers in a row.
 use Prim.Native.Nat.{_+_}
 use mathlib.Core.Path.{_≡_}
 use mathlib.Core.List.{_++_}
@@ -8,29 +9,21 @@ use Rattle.books.proofs.InARow.{wrote, wrote-then, wrote-length}
 use borrow.Author.Needs.{needs}
 use Rattle.books.proofs.writing.write_figures.Statement.{statement}
 use Rattle.books.proofs.writing.write_figures.Tie as tie
-use Rattle.books.proofs.writing.write_figures.Reads as reads
-use Rattle.books.proofs.writing.write_figures.Lts as lts
-use Rattle.names.proofs.number.write_number.Reads as write-number-reads
 
--- src/writing.rt:116:9
 write-number-requires : tie.Need-write-number-requires
 write-number-requires c κs = search needs
 
--- src/writing.rt:117:9
 write-number-requires-2 : tie.Need-write-number-requires-2
 write-number-requires-2 c κs = search needs
 
--- src/writing.rt:118:5
 write-number-requires-3 : tie.Need-write-number-requires-3
 write-number-requires-3 c κs = search needs
 
--- src/writing.rt:112:1
 same-length : tie.Need-same-length
 same-length c = search needs
 
--- src/writing.rt:112:1
 returns : tie.Need-returns
-returns c = 
+returns c =
     let a = c .before .before .before .before .before .before .before .before .before .before .before .before .before .args in
     let motifs = spellNumber (a .motifs) in
     let start = spellNumber (a .start) in

@@ -1,3 +1,4 @@
+-- A head, then a body where it ends.
 use native.Mathlib.Omega.{arith}
 use lib.ListN.{length-append}
 use Rattle.names.specs.Number.{spellNumber}
@@ -6,20 +7,13 @@ use Rattle.books.proofs.InARow.{wrote, wrote-then, wrote-length}
 use borrow.Author.Needs.{needs}
 use Rattle.books.proofs.writing.write_rule.Statement.{statement}
 use Rattle.books.proofs.writing.write_rule.Tie as tie
-use Rattle.books.proofs.writing.write_rule.Reads as reads
-use Rattle.books.proofs.writing.write_rule.Lts as lts
-use Rattle.books.proofs.writing.write_body.Reads as write-body-reads
-use Rattle.names.proofs.number.write_number.Reads as write-number-reads
 
--- src/writing.rt:82:46
 cast-write-number : tie.Need-cast-write-number
 cast-write-number c = search needs
 
--- src/writing.rt:82:9
 write-number-requires : tie.Need-write-number-requires
 write-number-requires c κs = search needs
 
--- src/writing.rt:83:5
 write-body-requires : tie.Need-write-body-requires
 write-body-requires c κs =
     let r = c .before .before .before .before .before .before .before .args .r in
@@ -27,11 +21,9 @@ write-body-requires c κs =
     let one = wrote (spellNumber (r .head)) (c .before .before .before .write-number .ensures .0) (c .before .before .before .write-number .ensures .1) (omega (arith, c .before .before .before .before .before .before .before .pre)) in
     omega (arith, c .before .before .before .before .before .before .before .pre, one .place, wrote-length one)
 
--- src/writing.rt:77:1
 same-length : tie.Need-same-length
 same-length c = search needs
 
--- src/writing.rt:77:1
 returns : tie.Need-returns
 returns c =
     let r = c .before .before .before .before .before .before .before .before .before .before .args .r in

@@ -1,16 +1,13 @@
-use Prim.Native.Nat.{_+_, _-_, _≤_}
-use mathlib.Core.Path.{_≡_, ap}
+-- Writing the rules that are left here is writing all of them there.
+use Prim.Native.Nat.{_-_, _≤_}
+use mathlib.Core.Path.{ap}
 use native.Mathlib.Omega.{arith}
-use lib.ListN.{getD, take, drop, length, length-append, drop-of-length-le}
-use lib.Seq.{length-take-le}
+use lib.ListN.{take, drop, length}
 use Rattle.books.specs.SpellBook.{spellRule, spellRules}
 use Rattle.books.proofs.SpellingOn.{rules-on, rules-on-length, rules-end, noRule}
 use Rattle.books.proofs.InARow.{Still, still-all, still-less, still-none}
 use Rattle.books.proofs.writing.write_rules.Statement.{statement}
 use Rattle.books.proofs.writing.write_rules.Tie as tie
-use Rattle.books.proofs.writing.write_rules.Reads as reads
-use Rattle.books.proofs.writing.write_rules.Lts as lts
-use Rattle.books.proofs.writing.write_rule.Reads as write-rule-reads
 
 abbrev Inv-loop : tie.InvT-loop
 Inv-loop count out₀ at rules next₀ i₀ out next i = (i ≤ count) × Still out₀ at (spellRules (take count rules)) out next (spellRules (drop i (take count rules)))
@@ -18,19 +15,15 @@ Inv-loop count out₀ at rules next₀ i₀ out next i = (i ≤ count) × Still 
 abbrev μ-loop : tie.MeasureT-loop
 μ-loop count out₀ at rules next₀ i₀ out next i = count - i
 
--- src/writing.rt:93:5
 loop-holds : tie.Need-loop-holds Inv-loop μ-loop
 loop-holds c = (omega arith, still-all _ _ _)
 
--- src/writing.rt:94:17
 mul-r : tie.Need-mul-r Inv-loop μ-loop
 mul-r c = omega arith
 
--- src/writing.rt:94:17
 array-copy-out-r : tie.Need-array-copy-out-r Inv-loop μ-loop
 array-copy-out-r c = omega arith
 
--- src/writing.rt:95:9
 write-rule-requires : tie.Need-write-rule-requires Inv-loop μ-loop
 write-rule-requires c κs =
     let a = c .before .before .before .before .before .args in
@@ -38,26 +31,21 @@ write-rule-requires c κs =
     let on = rules-on-length (a .t1) (a .count) (c .before .before .before .loop .i) noRule (c .before .before .loop-test .taken) (omega arith) in
     omega (arith, still .place, still .sized, c .before .before .before .before .before .pre .1)
 
--- src/writing.rt:96:9
 add-i : tie.Need-add-i Inv-loop μ-loop
 add-i c = omega arith
 
--- src/writing.rt:93:5
 loop-less : tie.Need-loop-less Inv-loop μ-loop
 loop-less c = omega arith
 
--- src/writing.rt:93:5
 loop-again : tie.Need-loop-again Inv-loop μ-loop
 loop-again c =
     let a = c .before .before .before .before .before .before .before .before .args in
     let on = rules-on (a .t1) (a .count) (c .before .before .before .before .before .before .loop .i) noRule (c .before .before .before .before .before .loop-test .taken) (omega arith) in
     (omega arith, still-less (c .before .before .before .before .before .before .before .before .pre .1) (rw on at (c .before .before .before .before .before .before .loop .inv .1)) (c .before .before .write-rule .ensures))
 
--- src/writing.rt:87:1
 same-length : tie.Need-same-length Inv-loop μ-loop
 same-length c = c .before .loop .inv .1 .sized
 
--- src/writing.rt:87:1
 returns : tie.Need-returns Inv-loop μ-loop
 returns c =
     let a = c .before .before .before .args in

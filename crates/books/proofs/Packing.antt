@@ -1,0 +1,60 @@
+-- An answer packed into one number is taken apart again by division: each part stays below what the next one counts. And every reader's answer packs,
+-- since its place is bounded.
+use Prim.Native.Nat.{ℕ, _+_, _/_, _%_, _^_, _≤_, _<_}
+use mathlib.Core.Path.{_≡_, subst}
+use mathlib.Core.List.{List}
+use mathlib.Core.Logic.{_⊎_, ⊎-elim}
+use native.Mathlib.Omega.{arith}
+use native.Mathlib.Decide.{ℕ-discrete}
+use borrow.Author.Tests.{eqb-true, eqb-false}
+use lib.Dec.{eqb}
+use lib.ListN.{length}
+use Rattle.names.specs.declared.number.Fault.{Fault}
+use Rattle.names.proofs.Picking.{pick-ind}
+use Rattle.names.proofs.ReadingNumbers.{Blamed}
+use Rattle.books.specs.Answer.{answer, plain, blaming, packed, Packs}
+use Rattle.books.specs.Book.{bookOf}
+use Rattle.books.specs.Sheet.{sheetOf}
+use Rattle.books.specs.Calls.{bookAnswer, sheetAnswer}
+use Rattle.books.specs.declared.answer.Answer.{Answer}
+use Rattle.books.proofs.ReadingBooks.{book-refused}
+use Rattle.books.proofs.ReadingSheets.{sheet-refused}
+
+-- the parts of a packed answer
+pub record Apart (a : Answer) (count n : ℕ) : Type 0 where
+  pub number-is : n % 2 ^ 8 ≡ a .number
+  pub blamed-is : n / 2 ^ 8 % 2 ^ 4 ≡ a .blamed
+  pub place-is : n / 2 ^ 12 % 2 ^ 20 ≡ a .place
+  pub count-is : n / 2 ^ 32 ≡ count
+
+pub apart : (a : Answer) (count : ℕ) → Packs a count → Apart a count (packed a count)
+apart a count p =
+    let number = p .number-fits in
+    let blamed = p .blamed-fits in
+    let place = p .place-fits in
+    record { number-is = omega arith; blamed-is = omega arith; place-is = omega arith; count-is = omega arith }
+
+-- an answer with a number of the table that blames nothing
+pub plain-packs : (n count : ℕ) → n < 2 ^ 8 → count < 2 ^ 32 → Packs (plain n) count
+plain-packs n count h g = record { number-fits = h; blamed-fits = omega arith; place-fits = omega arith; count-fits = g }
+
+-- a reader's fault in an input: its place is within the input, and it packs
+pub record Placed (s : List ℕ) (a : Answer) : Type 0 where
+  pub packs : Packs a 0
+  pub inside : a .place ≤ length s
+
+pub fault-placed : (s : List ℕ) (input limit : ℕ) (f : Fault) → input < 2 ^ 4 → limit < 2 ^ 20 → ((f .number ≡ 0 → ⊥) → Blamed s limit f) → Placed s (blaming input f)
+fault-placed s input limit f h g b =
+    pick-ind (Placed s) (eqb (f .number) 0) (plain 0) (answer (f .number) input (f .place))
+    (λ _. record { packs = plain-packs 0 0 (omega arith) (omega arith); inside = omega arith })
+    (λ t. let x = b (eqb-false (f .number) 0 t) in
+    record {
+      packs = record { number-fits = omega (arith, x .known); blamed-fits = h; place-fits = omega (arith, x .near); count-fits = omega arith };
+      inside = x .inside;
+    })
+
+pub book-placed : (s : List ℕ) (input : ℕ) → input < 2 ^ 4 → Placed s (blaming input (bookOf s .fault))
+book-placed s input h = fault-placed s input 5164 (bookOf s .fault) h (omega arith) (λ n. book-refused s n .blamed)
+
+pub sheet-placed : (s : List ℕ) (input : ℕ) → input < 2 ^ 4 → Placed s (blaming input (sheetOf s .fault))
+sheet-placed s input h = fault-placed s input _ (sheetOf s .fault) h (omega arith) (λ n. sheet-refused s n .blamed)

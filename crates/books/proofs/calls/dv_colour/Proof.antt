@@ -1,0 +1,66 @@
+-- Place and length are those of the colour that was read, and fit their halves of the answer.
+use mir.Val.{Fits}
+use mir.Syntax.{w8, w16}
+use lib.ListN.{getD}
+use borrow.Author.Tests.{lt-ltb, le-ltb}
+use native.Mathlib.Omega.{arith}
+use denote.Ref.{now}
+use Rattle.names.proofs.ReadingColours.{Places}
+use Rattle.books.proofs.Showing.{book-places}
+use borrow.Author.Needs.{needs}
+use Rattle.books.proofs.calls.dv_colour.Statement.{statement}
+use Rattle.books.proofs.calls.dv_colour.Tie as tie
+
+read-book-requires : tie.Need-read-book-requires
+read-book-requires c κs = search needs
+
+-- the colours of the book that was read, each of which lies within it
+places : (c : tie.Then1) → Places (now (c .before .before .before .before .before .args .book)) (c .before .before .before .read-book .result .family .colours)
+places c = rw (c .before .before .before .read-book .ensures) (book-places (now (c .before .before .before .before .before .args .book)))
+
+mul-start : tie.Need-mul-start
+mul-start c = omega (arith, places c .few)
+
+element-copy-out-start : tie.Need-element-copy-out-start
+element-copy-out-start c = omega (arith, places c .few)
+
+cast-start : tie.Need-cast-start
+cast-start c = search needs
+
+element-copy-out-len : tie.Need-element-copy-out-len
+element-copy-out-len c = omega (arith, places (c .before) .few)
+
+cast-len : tie.Need-cast-len
+cast-len c = search needs
+
+mul-result : tie.Need-mul-result
+mul-result c =
+    let len : Fits w8 (getD (c .before .before .before .before .before .read-book .result .family .colours .lens) (c .before .before .before .before .before .before .before .args .number) 0) = search needs in
+    omega arith
+
+add-result : tie.Need-add-result
+add-result c =
+    let start : Fits w16 (getD (c .before .before .before .before .before .read-book .result .family .colours .starts) (c .before .before .before .before .before .before .before .args .number) 0) = search needs in
+    let len : Fits w8 (getD (c .before .before .before .before .before .read-book .result .family .colours .lens) (c .before .before .before .before .before .before .before .args .number) 0) = search needs in
+    omega arith
+
+returns : tie.Need-returns
+returns c = simp (← c .before .before .before .before .before .read-book .ensures, lt-ltb _ _ (c .before .before .if1 .taken))
+
+returns-2 : tie.Need-returns-2
+returns-2 c = simp (← c .before .before .before .read-book .ensures, le-ltb _ _ (c .if1 .left))
+
+pub dv-colour-spec : {M : Type 1} → statement M
+dv-colour-spec =
+    tie.close
+    (tie.spec
+    read-book-requires
+    mul-start
+    element-copy-out-start
+    cast-start
+    element-copy-out-len
+    cast-len
+    mul-result
+    add-result
+    returns
+    returns-2)

@@ -1,0 +1,30 @@
+-- What the calls on one book or one sheet answer.
+use Prim.Native.Nat.{ℕ, _+_, _*_, _^_}
+use mathlib.Core.List.{List}
+use lib.Dec.{ltb}
+use lib.ListN.{getD}
+use Rattle.names.specs.Pick.{pick}
+use Rattle.names.specs.Name.{Name}
+use Rattle.books.specs.Contents.{name}
+use Rattle.books.specs.Held.{contentsIn}
+use Rattle.books.specs.Book.{bookOf}
+use Rattle.books.specs.Sheet.{sheetOf}
+use Rattle.books.specs.Answer.{blaming}
+use Rattle.books.specs.declared.answer.Answer.{Answer}
+
+abbrev pub bookAnswer : List ℕ → Answer
+bookAnswer s = blaming 1 (bookOf s .fault)
+
+abbrev pub sheetAnswer : List ℕ → Answer
+sheetAnswer s = blaming 1 (sheetOf s .fault)
+
+-- the name of a colour of the book, and nothing where there is no such colour: a refused book has none
+abbrev pub shown : List ℕ → ℕ → Name
+shown s k = name (contentsIn s (bookOf s .family)) k
+
+-- where that name starts, and how long it is above 2 ^ 32
+abbrev pub shownPlace : List ℕ → ℕ → ℕ
+shownPlace s k =
+    pick (ltb k (bookOf s .family .colours .count))
+    (getD (bookOf s .family .colours .starts) k 0 + 2 ^ 32 * getD (bookOf s .family .colours .lens) k 0)
+    0
