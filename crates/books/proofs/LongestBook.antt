@@ -1,7 +1,7 @@
 -- No book is longer than 3,429 bytes: 2,625 of colours, 4 of figures, and 4 for each of 200 rules. Its spelling is made of bytes.
-use Prim.Native.Nat.{ℕ, _+_, _*_, _<_, _≤_}
-use mathlib.Core.Path.{_≡_, refl, sym, ap, _∙_}
-use mathlib.Core.List.{List, [], _∷_, _++_, List·Memᴰ, List·Memᴰ·head, List·Memᴰ·tail}
+use Prim.Native.Nat.{ℕ, _*_, _≤_}
+use mathlib.Core.Path.{_≡_, refl, ap}
+use mathlib.Core.List.{List, [], _∷_, List·Memᴰ, List·Memᴰ·head, List·Memᴰ·tail}
 use native.Mathlib.Omega.{arith}
 use lib.ListN.{length}
 use Rattle.names.proofs.SpellingNumbers.{Bytes}
@@ -9,11 +9,11 @@ use Rattle.books.specs.Contents.{Contents}
 use Rattle.books.specs.Keeps.{BodyFits, RuleFits, Keeps}
 use Rattle.books.specs.Held.{contentsIn}
 use Rattle.books.specs.Book.{bookOf}
-use Rattle.books.specs.SpellBook.{spellBody, spellRule, spellRules, spellBook}
+use Rattle.books.specs.SpellBook.{spellBody, spellRules, spellBook}
 use Rattle.books.specs.declared.rule.Rule.{Rule}
 use Rattle.books.specs.declared.rule.Body.{Body}
 use Rattle.books.specs.declared.rule.Body.the-variants.{Colour, Across, Down}
-use Rattle.books.proofs.SpelledBytes.{FewBytes, none-few, both-few, fewer, number-one, number-two, colours-few}
+use Rattle.names.proofs.SpelledBytes.{FewBytes, none-few, both-few, fewer, number-one, number-two, colours-few}
 use Rattle.books.proofs.ReadingBooks.{book-accepted}
 
 module _ (motifs colours : ℕ) (few-motifs : motifs ≤ 32) (few-colours : colours ≤ 64) where

@@ -14,7 +14,7 @@ use Rattle.books.specs.Cells.{noCells}
 use Rattle.books.specs.Sheet.{sheetOf}
 use Rattle.books.specs.SpellSheet.{spellCells, spellSheet}
 use Rattle.books.proofs.Area.{area}
-use Rattle.books.proofs.LongestColours.{colours-longest, longestNames, longest-names, longest-length}
+use Rattle.names.proofs.LongestColours.{colours-longest, longestNames, longest-names, longest-length}
 use Rattle.books.proofs.ReadingCells.{Fit}
 use Rattle.books.proofs.SpellingSheets.{sheet-accepted}
 

@@ -1,12 +1,10 @@
 -- An answer packed into one number is taken apart again by division: each part stays below what the next one counts. And every reader's answer packs,
 -- since its place is bounded.
-use Prim.Native.Nat.{ℕ, _+_, _/_, _%_, _^_, _≤_, _<_}
-use mathlib.Core.Path.{_≡_, subst}
+use Prim.Native.Nat.{ℕ, _/_, _%_, _^_, _≤_, _<_}
+use mathlib.Core.Path.{_≡_}
 use mathlib.Core.List.{List}
-use mathlib.Core.Logic.{_⊎_, ⊎-elim}
 use native.Mathlib.Omega.{arith}
-use native.Mathlib.Decide.{ℕ-discrete}
-use borrow.Author.Tests.{eqb-true, eqb-false}
+use borrow.Author.Tests.{eqb-false}
 use lib.Dec.{eqb}
 use lib.ListN.{length}
 use Rattle.names.specs.declared.number.Fault.{Fault}
@@ -15,7 +13,6 @@ use Rattle.names.proofs.ReadingNumbers.{Blamed}
 use Rattle.books.specs.Answer.{answer, plain, blaming, packed, Packs}
 use Rattle.books.specs.Book.{bookOf}
 use Rattle.books.specs.Sheet.{sheetOf}
-use Rattle.books.specs.Calls.{bookAnswer, sheetAnswer}
 use Rattle.books.specs.declared.answer.Answer.{Answer}
 use Rattle.books.proofs.ReadingBooks.{book-refused}
 use Rattle.books.proofs.ReadingSheets.{sheet-refused}

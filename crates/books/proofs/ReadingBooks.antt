@@ -1,91 +1,38 @@
 -- What callers use of a book that was read: every number keeps its bounds and every place lies within the input, or the fault names what
 -- it blames and the family is the fixed one. Each part is read where the one before it ends.
 use Prim.Native.Nat.{ℕ, _+_, _*_, _<_, _≤_}
-use mathlib.Core.Path.{_≡_, refl, subst, sym, ap, _∙_}
+use mathlib.Core.Path.{_≡_, refl, ap}
 use mathlib.Core.Logic.{_⊎_, inl, inr, ⊎-elim}
-use mathlib.Core.List.{List, [], _++_, append-nil, append-assoc}
+use mathlib.Core.List.{List, [], append-nil, append-assoc}
 use native.Mathlib.Omega.{arith}
-use borrow.Author.Tests.{eqb-true, eqb-false, leb-true, leb-false}
+use borrow.Author.Tests.{eqb-true, eqb-false, leb-true}
 use lib.Dec.{eqb, leb}
 use lib.ListN.{length, getD, take, drop, drop-of-length-le}
 use lib.Seq.{getD-take, length-take-le}
-use Rattle.names.specs.Pick.{pick, fault}
-use Rattle.names.specs.Number.{numberIn, numberBelow, spellNumber}
+use Rattle.names.specs.Pick.{fault}
 use Rattle.names.specs.Spelling.{spellColours}
 use Rattle.names.specs.Colours.{namesIn, coloursOf}
 use Rattle.names.specs.declared.number.Fault.{Fault}
-use Rattle.names.specs.declared.number.Read.the-variants.{Value}
-use Rattle.names.specs.declared.colours.Colours.{Colours}
 use Rattle.names.proofs.Picking.{pick-ind}
 use Rattle.names.proofs.Places.{getD-mem}
-use Rattle.names.proofs.ReadingNumbers.{Blamed, blamed-later, number-in, number-in-refused, number-below, number-below-refused}
+use Rattle.names.proofs.ReadingNumbers.{Blamed, blamed-later}
 use Rattle.names.proofs.SpellingNumbers.{Bytes}
-use Rattle.names.proofs.ReadingColours.{Places, ListLies, names-count, colours-lie, colours-refused}
+use Rattle.names.proofs.ReadingColours.{Places, places-none, names-count, colours-lie, colours-refused}
 use Rattle.names.proofs.SpellingColours.{colours-accepted}
 use Rattle.books.specs.Contents.{Contents}
 use Rattle.books.specs.Held.{contentsIn}
 use Rattle.books.specs.Keeps.{RuleFits, Keeps}
 use Rattle.books.specs.Rules.{noRule, rulesAt}
-use Rattle.books.specs.Book.{noFamily, refusedBook, figuresAt, familyOf, endedAt, figured, colouredAt, bookOf}
-use Rattle.books.specs.SpellBook.{spellRules, spellBook}
-use Rattle.books.specs.declared.family.Family.{Family}
+use Rattle.books.specs.Book.{noFamily, figuresAt, familyOf, endedAt, figured, colouredAt, bookOf}
+use Rattle.books.specs.SpellBook.{spellBook}
 use Rattle.books.specs.declared.rules.RulesRead.{RulesRead}
 use Rattle.books.specs.declared.book.Figures.{Figures}
 use Rattle.books.specs.declared.book.FiguresRead.{FiguresRead}
 use Rattle.books.specs.declared.book.FiguresRead.the-variants.{Whole, Refused}
 use Rattle.books.specs.declared.book.BookRead.{BookRead}
-use Rattle.books.proofs.Onwards.{onward-ind}
-use Rattle.books.proofs.StandingNumbers.{Between, in-spelled, below-spelled, between-both}
+use Rattle.books.proofs.StandingNumbers.{Between, between-both}
+use Rattle.books.proofs.ReadingFigures.{FiguresLie, FiguresFound, figures-found}
 use Rattle.books.proofs.ReadingRules.{RulesLie, rules-lie, rules-refused}
-
--- ── The figures ──
-
--- the figures keep their ranges, end within the input, and stand there as they are spelled
-pub record FiguresLie (s : List ℕ) (at : ℕ) (g : Figures) (next : ℕ) : Type 0 where
-  pub motifs-some : 1 ≤ g .motifs
-  pub motifs-few : g .motifs ≤ 32
-  pub start-fits : g .start < g .motifs
-  pub rules-some : 1 ≤ g .count
-  pub rules-few : g .count ≤ 200
-  pub inside : next ≤ length s
-  pub near : next ≤ at + 9
-  pub spelled : Bytes s → Between s at next (spellNumber (g .motifs) ++ (spellNumber (g .start) ++ spellNumber (g .count)))
-
-abbrev FiguresFound : List ℕ → ℕ → FiguresRead → Type 0
-FiguresFound s at (Whole g next) = FiguresLie s at g next
-FiguresFound s at (Refused f) = Blamed s (at + 9) f
-
-figures-found : (s : List ℕ) (at : ℕ) → FiguresFound s at (figuresAt s at)
-unfolding figuresAt
-figures-found s at =
-    onward-ind (FiguresFound s at) Refused (numberIn s at 1 32) _
-    (λ f e. blamed-later (omega arith) (number-in-refused s at 1 32 f e))
-    (λ motifs then e.
-    let g = number-in s at 1 32 motifs then e in
-    onward-ind (FiguresFound s at) Refused (numberBelow s then motifs 6) _
-    (λ f d. blamed-later (omega (arith, g .near)) (number-below-refused s then motifs 6 f d (omega arith) (omega arith)))
-    (λ start last d.
-    let h = number-below s then motifs 6 start last d in
-    onward-ind (FiguresFound s at) Refused (numberIn s last 1 200) _
-    (λ f q. blamed-later (omega (arith, g .near, h .near)) (number-in-refused s last 1 200 f q))
-    (λ count next q.
-    let k = number-in s last 1 200 count next q in
-    record {
-      motifs-some = g .low;
-      motifs-few = g .high;
-      start-fits = h .low;
-      rules-some = k .low;
-      rules-few = k .high;
-      inside = k .inside;
-      near = omega (arith, g .near, h .near, k .near);
-      spelled = λ bytes. between-both (in-spelled s bytes at 1 32 motifs then e)
-          (between-both (below-spelled s bytes then motifs 6 start last d) (in-spelled s bytes last 1 200 count next q));
-    })))
-
-pub figures-lie : (s : List ℕ) (at : ℕ) (g : Figures) (next : ℕ) → figuresAt s at ≡ Whole g next → FiguresLie s at g next
-figures-lie s at g next e = subst (FiguresFound s at) e (figures-found s at)
-
--- ── The book ──
 
 -- what an accepted book gives
 pub record BookLies (s : List ℕ) (r : BookRead) : Type 0 where
@@ -201,3 +148,10 @@ book-refused s z = ⊎-elim (λ a. absurd (z (ap (λ (f : Fault). f .number) (a 
 -- an accepted book keeps the rules, and is the spelling of its contents
 pub book-accepted : (s : List ℕ) → Bytes s → bookOf s .fault .number ≡ 0 → BookSpelled s (contentsIn s (bookOf s .family))
 book-accepted s bytes z = ⊎-elim (λ a. a .spells bytes) (λ r. absurd (omega (arith, r .blamed .some))) (book-ended s)
+
+-- refused or not, every place of a name lies within the input, and there are 200 places for rules
+pub book-places : (s : List ℕ) → Places s (bookOf s .family .colours)
+book-places s = ⊎-elim (λ a. a .lies .places) (λ r. rw (r .empty) (places-none s)) (book-ended s)
+
+pub book-size : (s : List ℕ) → length (bookOf s .family .rules) ≡ 200
+book-size s = ⊎-elim (λ a. a .lies .rules-size) (λ r. rw (r .empty)) (book-ended s)

@@ -1,104 +1,30 @@
 -- What callers use of rules that were read: they fit the counts, lie within the input, and stand there as they are spelled; a refusal
 -- names what it blames. Each part is read where the one before it ends.
-use Prim.Native.Nat.{ℕ, zero, suc, _+_, _-_, _*_, _<_, _≤_}
+use Prim.Native.Nat.{ℕ, zero, suc, _+_, _-_, _*_, _≤_}
 use mathlib.Core.Path.{_≡_, refl, subst, sym, ap, _∙_}
 use mathlib.Core.Logic.{_⊎_, inl, inr, ⊎-elim}
-use mathlib.Core.Bool.{Bool, true, false}
 use mathlib.Core.List.{List, [], _∷_, _++_, append-assoc, List·Memᴰ, List·Memᴰ·cases-cons, List·Memᴰ·not-nil}
 use native.Mathlib.Omega.{arith}
-use lib.Dec.{eqb}
-use lib.ListN.{length, getD, take, drop, set, replicate, length-append, length-replicate, replicate-append-replicate}
-use borrow.Author.Tests.{eqb-true, eqb-false}
+use lib.ListN.{length, getD, take, set, replicate, length-append, length-replicate, replicate-append-replicate}
 use lib.Seq.{set-at, take-at}
 use Rattle.names.specs.Pick.{fault}
-use Rattle.names.specs.Number.{numberBelow, spellNumber}
+use Rattle.names.specs.Number.{numberBelow}
 use Rattle.names.specs.declared.number.Fault.{Fault}
-use Rattle.names.specs.declared.number.Read.the-variants.{Value, Refused}
-use Rattle.names.proofs.Picking.{pick-ind}
+use Rattle.names.specs.declared.number.Read.the-variants.{Value}
 use Rattle.names.proofs.ReadingNumbers.{Blamed, blamed-later, number-below, number-below-refused}
 use Rattle.names.proofs.SpellingNumbers.{Bytes}
-use Rattle.books.specs.Keeps.{BodyFits, RuleFits}
-use Rattle.books.specs.Rules.{colourAt, joined, joinAt, bodyAt, headed, ruleAt, noRule, noRules, refusedRules, afterRule, rulesFrom, rulesAt}
-use Rattle.books.specs.SpellBook.{spellBody, spellRule, spellRules}
+use Rattle.books.specs.Keeps.{RuleFits}
+use Rattle.books.specs.Rules.{bodyAt, headed, ruleAt, noRule, noRules, afterRule, rulesFrom, rulesAt}
+use Rattle.books.specs.SpellBook.{spellRule, spellRules}
 use Rattle.books.specs.declared.rule.Rule.{Rule}
-use Rattle.books.specs.declared.rule.Body.{Body}
-use Rattle.books.specs.declared.rule.Body.the-variants.{Colour, Across, Down}
-use Rattle.books.specs.declared.rules.BodyRead.{BodyRead}
-use Rattle.books.specs.declared.rules.BodyRead.the-variants.{Whole as WholeBody, Refused as RefusedBody}
+use Rattle.books.specs.declared.bodies.BodyRead.{BodyRead}
+use Rattle.books.specs.declared.bodies.BodyRead.the-variants.{Whole as WholeBody, Refused as RefusedBody}
 use Rattle.books.specs.declared.rules.RuleRead.{RuleRead}
 use Rattle.books.specs.declared.rules.RuleRead.the-variants.{Whole as WholeRule, Refused as RefusedRule}
 use Rattle.books.specs.declared.rules.RulesRead.{RulesRead}
 use Rattle.books.proofs.Onwards.{onward-ind}
+use Rattle.books.proofs.ReadingBodies.{BodyFound, body-found}
 use Rattle.books.proofs.StandingNumbers.{Between, below-spelled, between-both}
-
--- ── A body ──
-
--- a body whose kind stands at a place: it fits the counts, ends within the input, and stands there as it is spelled
-record BodyLies (s : List ℕ) (at motifs colours : ℕ) (b : Body) (next : ℕ) : Type 0 where
-  fits : BodyFits motifs colours b
-  inside : next ≤ length s
-  near : next ≤ at + 9
-  spelled : Bytes s → Between s at next (spellBody b)
-
-abbrev BodyFound : List ℕ → ℕ → ℕ → ℕ → BodyRead → Type 0
-BodyFound s at motifs colours (WholeBody b next) = BodyLies s at motifs colours b next
-BodyFound s at motifs colours (RefusedBody f) = Blamed s (at + 9) f
-
--- a join of kind 1 or 2 has that kind in front of its motifs
-joined-spelled : (kind a b : ℕ) → (kind ≡ 0 → ⊥) → kind < 3 → spellNumber kind ++ (spellNumber a ++ spellNumber b) ≡ spellBody (joined kind a b)
-joined-spelled kind a b some low =
-    pick-ind (λ (x : Body). spellNumber kind ++ (spellNumber a ++ spellNumber b) ≡ spellBody x) (eqb kind 1) (Across a b) (Down a b)
-    (λ t. let one : kind ≡ 1 = eqb-true kind 1 t in rw one)
-    (λ t. let other = eqb-false kind 1 t in let two : kind ≡ 2 = omega arith in rw two)
-
-joined-fits : (kind a b motifs colours : ℕ) → a < motifs → b < motifs → BodyFits motifs colours (joined kind a b)
-joined-fits kind a b motifs colours h g = pick-ind (BodyFits motifs colours) (eqb kind 1) (Across a b) (Down a b) (λ _. (h, g)) (λ _. (h, g))
-
-module _ (s : List ℕ) (at motifs colours kind then : ℕ) (e : numberBelow s at 3 7 ≡ Value kind then) where
-  colour-found : kind ≡ 0 → BodyFound s at motifs colours (colourAt s then colours)
-  unfolding colourAt
-  colour-found none =
-      let g = number-below s at 3 7 kind then e in
-      onward-ind (BodyFound s at motifs colours) RefusedBody (numberBelow s then colours 6) _
-      (λ f d. blamed-later (omega (arith, g .near)) (number-below-refused s then colours 6 f d (omega arith) (omega arith)))
-      (λ c next d.
-      let h = number-below s then colours 6 c next d in
-      record {
-        fits = h .low;
-        inside = h .inside;
-        near = omega (arith, g .near, h .near);
-        spelled = λ bytes. rw none at (between-both (below-spelled s bytes at 3 7 kind then e) (below-spelled s bytes then colours 6 c next d));
-      })
-
-  join-found : (kind ≡ 0 → ⊥) → BodyFound s at motifs colours (joinAt s then kind motifs)
-  unfolding joinAt
-  join-found some =
-      let g = number-below s at 3 7 kind then e in
-      onward-ind (BodyFound s at motifs colours) RefusedBody (numberBelow s then motifs 6) _
-      (λ f d. blamed-later (omega (arith, g .near)) (number-below-refused s then motifs 6 f d (omega arith) (omega arith)))
-      (λ a half d.
-      let h = number-below s then motifs 6 a half d in
-      onward-ind (BodyFound s at motifs colours) RefusedBody (numberBelow s half motifs 6) _
-      (λ f q. blamed-later (omega (arith, g .near, h .near)) (number-below-refused s half motifs 6 f q (omega arith) (omega arith)))
-      (λ b next q.
-      let k = number-below s half motifs 6 b next q in
-      record {
-        fits = joined-fits kind a b motifs colours (h .low) (k .low);
-        inside = k .inside;
-        near = omega (arith, g .near, h .near, k .near);
-        spelled = λ bytes. rw (joined-spelled kind a b some (g .low)) at (between-both (below-spelled s bytes at 3 7 kind then e)
-            (between-both (below-spelled s bytes then motifs 6 a half d) (below-spelled s bytes half motifs 6 b next q)));
-      }))
-
-body-found : (s : List ℕ) (at motifs colours : ℕ) → BodyFound s at motifs colours (bodyAt s at motifs colours)
-unfolding bodyAt
-body-found s at motifs colours =
-    onward-ind (BodyFound s at motifs colours) RefusedBody (numberBelow s at 3 7) _
-    (λ f e. blamed-later (omega arith) (number-below-refused s at 3 7 f e (omega arith) (omega arith)))
-    (λ kind then e.
-    pick-ind (BodyFound s at motifs colours) (eqb kind 0) (colourAt s then colours) (joinAt s then kind motifs)
-    (λ t. colour-found s at motifs colours kind then e (eqb-true kind 0 t))
-    (λ t. join-found s at motifs colours kind then e (eqb-false kind 0 t)))
 
 -- ── A rule ──
 
@@ -148,6 +74,10 @@ module _ (s : List ℕ) (motifs colours limit spare : ℕ) where
   abbrev Ended : List Rule → ℕ → ℕ → RulesRead → Type 0
   Ended done at k r = Taken s at motifs colours limit done k spare r ⊎ Blamed s limit (r .fault)
 
+  -- the fixed places after the rules so far
+  abbrev fixed : ℕ → List Rule
+  fixed k = replicate k noRule ++ replicate spare noRule
+
   -- one rule in front of those that were taken after it
   one-more : (done : List Rule) (at k : ℕ) (x : Rule) (next : ℕ) (r : RulesRead) → RuleLies s at motifs colours x next
       → Taken s next motifs colours limit (done ++ (x ∷ [])) k spare r → Taken s at motifs colours limit done (suc k) spare r
@@ -163,18 +93,18 @@ module _ (s : List ℕ) (motifs colours limit spare : ℕ) where
         spelled = λ bytes. between-both (g .spelled bytes) (t .spelled bytes);
       }
 
-  after-rule : (rules done : List Rule) (i at k : ℕ) → rules ≡ done ++ noRule ∷ (replicate k noRule ++ replicate spare noRule) → length done ≡ i → at + 12 * suc k ≤ limit
-      → ((longer more : List Rule) (p : ℕ) → longer ≡ more ++ (replicate k noRule ++ replicate spare noRule) → length more ≡ i + 1 → p ≤ length s → p + 12 * k ≤ limit
+  after-rule : (rules done : List Rule) (i at k : ℕ) → rules ≡ done ++ noRule ∷ fixed k → length done ≡ i → at + 12 * suc k ≤ limit
+      → ((longer more : List Rule) (p : ℕ) → longer ≡ more ++ fixed k → length more ≡ i + 1 → p ≤ length s → p + 12 * k ≤ limit
       → Ended more p k (rulesFrom s motifs colours longer (i + 1) p k))
       → (x : RuleRead) → RuleFound s at motifs colours x
       → Ended done at (suc k) (afterRule rules i (λ longer next. rulesFrom s motifs colours longer (i + 1) next k) x)
   after-rule rules done i at k e h l rec (RefusedRule f) g = inr (blamed-later (omega arith) g)
   after-rule rules done i at k e h l rec (WholeRule x next) g =
-      let longer : set rules i x ≡ (done ++ (x ∷ [])) ++ (replicate k noRule ++ replicate spare noRule) = rw e (set-at done noRule ((replicate k noRule ++ replicate spare noRule)) x i h ∙ sym (append-assoc done (x ∷ []) ((replicate k noRule ++ replicate spare noRule)))) in
+      let longer : set rules i x ≡ (done ++ (x ∷ [])) ++ fixed k = rw e (set-at done noRule (fixed k) x i h ∙ sym (append-assoc done (x ∷ []) (fixed k))) in
       ⊎-elim (λ t. inl (one-more done at k x next _ g t)) (λ t. inr t)
       (rec (set rules i x) (done ++ (x ∷ [])) next longer (omega (arith, length-append done (x ∷ []))) (g .inside) (omega (arith, g .near)))
 
-  ended : (k : ℕ) (rules done : List Rule) (i at : ℕ) → rules ≡ done ++ (replicate k noRule ++ replicate spare noRule) → length done ≡ i → at ≤ length s → at + 12 * k ≤ limit
+  ended : (k : ℕ) (rules done : List Rule) (i at : ℕ) → rules ≡ done ++ fixed k → length done ≡ i → at ≤ length s → at + 12 * k ≤ limit
       → Ended done at k (rulesFrom s motifs colours rules i at k)
   ended zero rules done i at e h l n =
       inl (record {

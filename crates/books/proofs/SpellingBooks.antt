@@ -1,17 +1,17 @@
 -- All contents that keep the rules have exactly one accepted spelling, and reading it gives them back: each part is read back where the
 -- one before it ends, and nothing follows the last.
-use Prim.Native.Nat.{ℕ, _+_, _-_, _<_, _≤_}
+use Prim.Native.Nat.{ℕ, _+_, _-_, _≤_}
 use mathlib.Core.Path.{_≡_, refl, sym, ap, _∙_}
 use mathlib.Core.List.{List, [], _++_, append-assoc, append-nil}
 use native.Mathlib.Omega.{arith}
 use native.Mathlib.Nat.{add-assoc}
 use borrow.Author.Tests.{eq-eqb, le-leb}
-use lib.ListN.{length, take, drop, replicate, length-append, length-drop}
-use lib.Seq.{take-append-seam, drop-length}
+use lib.ListN.{length, take, replicate, length-append, length-drop}
+use lib.Seq.{take-append-seam}
 use Rattle.names.specs.Pick.{fault}
 use Rattle.names.specs.Number.{spellNumber}
 use Rattle.names.specs.Spelling.{spellColours}
-use Rattle.names.specs.Colours.{namesIn, coloursOf}
+use Rattle.names.specs.Colours.{coloursOf}
 use Rattle.names.specs.declared.number.Fault.{Fault}
 use Rattle.names.specs.declared.colours.ColoursRead.{ColoursRead}
 use Rattle.names.proofs.SpellingNumbers.{Bytes}
@@ -21,7 +21,7 @@ use Rattle.books.specs.Contents.{Contents}
 use Rattle.books.specs.Held.{contentsIn}
 use Rattle.books.specs.Keeps.{Keeps}
 use Rattle.books.specs.Rules.{noRule}
-use Rattle.books.specs.Book.{figuresAt, familyOf, endedAt, figured, colouredAt, bookOf}
+use Rattle.books.specs.Book.{figuresAt, familyOf, endedAt, colouredAt, bookOf}
 use Rattle.books.specs.SpellBook.{spellRules, spellBook}
 use Rattle.books.specs.declared.rules.RulesRead.{RulesRead}
 use Rattle.books.specs.declared.book.Figures.{Figures}

@@ -1,5 +1,5 @@
 -- Names and rules are spelled one after the other: what is left to spell from a place on begins with the spelling of what stands there.
-use Prim.Native.Nat.{ℕ, zero, suc, _+_, _-_, _<_, _≤_}
+use Prim.Native.Nat.{ℕ, _+_, _-_, _<_, _≤_}
 use mathlib.Core.Path.{_≡_, refl, ap, _∙_}
 use mathlib.Core.List.{List, [], _∷_, _++_, append-assoc}
 use native.Mathlib.Omega.{arith}
@@ -16,7 +16,6 @@ use Rattle.names.proofs.Count.{left-suc}
 use Rattle.names.proofs.Tests.{lt-or-le}
 use Rattle.books.specs.SpellBook.{spellRule, spellRules}
 use Rattle.books.specs.declared.rule.Rule.{Rule}
-use Rattle.books.specs.declared.rule.Body.the-variants.{Colour}
 
 -- a part is no longer than it was asked to be
 pub take-few : (n : ℕ) (l : List ℕ) → length (take n l) ≤ n
@@ -40,10 +39,6 @@ names-on-length s c n i h =
 pub spell-names-append : (a b : List Name) → spellNames (a ++ b) ≡ spellNames a ++ spellNames b
 spell-names-append [] b = refl
 spell-names-append (n ∷ a) b = simp (spell-names-append a b, append-assoc)
-
--- what a list of rules gives past its end
-abbrev pub noRule : Rule
-noRule = record { head = 0; body = Colour 0 }
 
 pub rules-on : (rs : List Rule) (n i : ℕ) (d : Rule) → i < n → n ≤ length rs
     → spellRules (drop i (take n rs)) ≡ spellRule (getD rs i d) ++ spellRules (drop (i + 1) (take n rs))

@@ -1,6 +1,6 @@
 -- Rules that fit the counts are read back from their spelling, whatever follows it: each number is read where the one before it ends.
-use Prim.Native.Nat.{ℕ, zero, suc, _+_, _-_, _<_, _≤_}
-use mathlib.Core.Path.{_≡_, refl, sym, ap, _∙_}
+use Prim.Native.Nat.{ℕ, _+_, _-_, _<_, _≤_}
+use mathlib.Core.Path.{_≡_, refl, sym, _∙_}
 use mathlib.Core.List.{List, [], _∷_, _++_, append-assoc, List·Memᴰ, List·Memᴰ·head, List·Memᴰ·tail}
 use native.Mathlib.Omega.{arith}
 use native.Mathlib.Nat.{add-assoc, add-zero}
@@ -15,7 +15,7 @@ use Rattle.books.specs.SpellBook.{spellBody, spellRule, spellRules}
 use Rattle.books.specs.declared.rule.Rule.{Rule}
 use Rattle.books.specs.declared.rule.Body.{Body}
 use Rattle.books.specs.declared.rule.Body.the-variants.{Colour, Across, Down}
-use Rattle.books.specs.declared.rules.BodyRead.the-variants.{Whole as WholeBody}
+use Rattle.books.specs.declared.bodies.BodyRead.the-variants.{Whole as WholeBody}
 use Rattle.books.specs.declared.rules.RuleRead.the-variants.{Whole as WholeRule}
 use Rattle.books.proofs.ReadingRules.{no-rules-split}
 use Rattle.books.proofs.StandingNumbers.{Stands, past-stands, below-read}

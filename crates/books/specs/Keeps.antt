@@ -1,6 +1,6 @@
 -- What the contents of a book must keep.
 use Prim.Native.Nat.{ℕ, _≤_, _<_}
-use mathlib.Core.List.{List, List·Memᴰ}
+use mathlib.Core.List.{List·Memᴰ}
 use lib.ListN.{length}
 use Rattle.names.specs.Spelling.{ColoursOk}
 use Rattle.books.specs.Contents.{Contents}

@@ -10,8 +10,8 @@ use Rattle.books.specs.Onward.{onward}
 use Rattle.books.specs.declared.rule.Rule.{Rule}
 use Rattle.books.specs.declared.rule.Body.{Body}
 use Rattle.books.specs.declared.rule.Body.the-variants.{Colour, Across, Down}
-use Rattle.books.specs.declared.rules.BodyRead.{BodyRead}
-use Rattle.books.specs.declared.rules.BodyRead.the-variants.{Whole as WholeBody, Refused as RefusedBody}
+use Rattle.books.specs.declared.bodies.BodyRead.{BodyRead}
+use Rattle.books.specs.declared.bodies.BodyRead.the-variants.{Whole as WholeBody, Refused as RefusedBody}
 use Rattle.books.specs.declared.rules.RuleRead.{RuleRead}
 use Rattle.books.specs.declared.rules.RuleRead.the-variants.{Whole as WholeRule, Refused as RefusedRule}
 use Rattle.books.specs.declared.rules.RulesRead.{RulesRead}

@@ -31,6 +31,7 @@ pub struct BookRead {
     pub family: Family,
 }
 
+// A book at its first fault.
 fn refused_book(f: Fault) -> BookRead
     ensures { λ r. ⌜ r ≡ refusedBook f ⌝ }
 {

@@ -1,12 +1,13 @@
 // Books and sheets: their contents, reading, spelling and writing, and what a family derives.
 pub mod answer;
+mod bodies;
 pub mod book;
 pub mod calls;
 pub mod cells;
 pub mod family;
 mod measuring;
 pub mod rule;
-pub mod rules;
+mod rules;
 pub mod sheet;
 pub mod size;
 pub mod writing;

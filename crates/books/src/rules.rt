@@ -1,4 +1,6 @@
 // The rules of a book, read left to right.
+use crate::bodies;
+use crate::bodies::BodyRead;
 use crate::rule::Body;
 use crate::rule::Rule;
 use names::number;
@@ -6,13 +8,7 @@ use names::number::Fault;
 use names::number::Read;
 ghost use mathlib.Core.Path.{_≡_};
 ghost use Prim.Native.Nat.{_≤_};
-ghost use Rattle.books.specs.Rules.{colourAt, joinAt, bodyAt, ruleAt, noRule, noRules, refusedRules, rulesAt};
-
-// A body and the place after it, or the fault.
-enum BodyRead {
-    Whole(Body, usize),
-    Refused(Fault),
-}
+ghost use Rattle.books.specs.Rules.{ruleAt, noRule, noRules, refusedRules, rulesAt};
 
 // A rule and the place after it, or the fault.
 enum RuleRead {
@@ -37,6 +33,7 @@ fn no_rule() -> Rule
     }
 }
 
+// The rules of a family that has none.
 pub fn no_rules() -> [Rule; 200]
     ensures { λ r. ⌜ r ≡ noRules ⌝ }
 {
@@ -44,6 +41,7 @@ pub fn no_rules() -> [Rule; 200]
     [rule; 200]
 }
 
+// Rules at the first fault in them.
 fn refused_rules(f: Fault) -> RulesRead
     ensures { λ r. ⌜ r ≡ refusedRules f ⌝ }
 {
@@ -52,60 +50,6 @@ fn refused_rules(f: Fault) -> RulesRead
         fault: f,
         rules,
         next: 0,
-    }
-}
-
-// A colour number.
-fn read_colour(s: &[u8], at: usize, colours: usize) -> BodyRead
-    requires { ⌜ colours ≤ 64 ⌝ }
-    ensures { λ r. ⌜ r ≡ colourAt (now (s .entry)) at colours ⌝ }
-{
-    let r = number::read_below(s, at, colours, 6);
-    match r {
-        Read::Refused(f) => BodyRead::Refused(f),
-        Read::Value(colour, next) => BodyRead::Whole(Body::Colour(colour as u8), next),
-    }
-}
-
-// Two motifs: left and right for kind 1, upper and lower for kind 2.
-fn read_join(s: &[u8], at: usize, kind: usize, motifs: usize) -> BodyRead
-    requires { ⌜ motifs ≤ 32 ⌝ }
-    ensures { λ r. ⌜ r ≡ joinAt (now (s .entry)) at kind motifs ⌝ }
-{
-    let r = number::read_below(s, at, motifs, 6);
-    match r {
-        Read::Refused(f) => BodyRead::Refused(f),
-        Read::Value(first, next) => {
-            let q = number::read_below(s, next, motifs, 6);
-            match q {
-                Read::Refused(f) => BodyRead::Refused(f),
-                Read::Value(second, end) => {
-                    if kind == 1 {
-                        BodyRead::Whole(Body::Across(first as u8, second as u8), end)
-                    } else {
-                        BodyRead::Whole(Body::Down(first as u8, second as u8), end)
-                    }
-                }
-            }
-        }
-    }
-}
-
-// A kind, and what it carries.
-fn read_body(s: &[u8], at: usize, motifs: usize, colours: usize) -> BodyRead
-    requires { ⌜ (motifs ≤ 32) × (colours ≤ 64) ⌝ }
-    ensures { λ r. ⌜ r ≡ bodyAt (now (s .entry)) at motifs colours ⌝ }
-{
-    let r = number::read_below(s, at, 3, 7);
-    match r {
-        Read::Refused(f) => BodyRead::Refused(f),
-        Read::Value(kind, next) => {
-            if kind == 0 {
-                read_colour(s, next, colours)
-            } else {
-                read_join(s, next, kind, motifs)
-            }
-        }
     }
 }
 
@@ -118,7 +62,7 @@ fn read_rule(s: &[u8], at: usize, motifs: usize, colours: usize) -> RuleRead
     match r {
         Read::Refused(f) => RuleRead::Refused(f),
         Read::Value(head, next) => {
-            let b = read_body(s, next, motifs, colours);
+            let b = bodies::read_body(s, next, motifs, colours);
             match b {
                 BodyRead::Refused(f) => RuleRead::Refused(f),
                 BodyRead::Whole(body, end) => RuleRead::Whole(

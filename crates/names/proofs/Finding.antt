@@ -1,11 +1,10 @@
 -- A name is looked for one colour after the other: what was found up to a place, with what is found from there on, is what is found.
-use Prim.Native.Nat.{ℕ, zero, suc, _+_, _-_, _<_, _≤_}
-use mathlib.Core.Path.{_≡_, refl, ap, _∙_}
+use Prim.Native.Nat.{ℕ, _+_, _-_, _<_, _≤_}
+use mathlib.Core.Path.{_≡_}
 use mathlib.Core.Bool.{true, false}
-use mathlib.Core.List.{List, [], _∷_}
+use mathlib.Core.List.{List}
 use native.Mathlib.Omega.{arith}
 use borrow.Author.Tests.{le-ltb}
-use lib.ListN.{length}
 use Rattle.names.specs.Name.{Name, sameName, place}
 use Rattle.names.specs.Colours.{nameIn, namesFrom, namesIn, findName}
 use Rattle.names.specs.declared.colours.Colours.{Colours}

@@ -12,3 +12,5 @@ pub mod ReadingNames
 pub mod ReadingColours
 pub mod SpellingColours
 pub mod Examples
+pub mod SpelledBytes
+pub mod LongestColours

@@ -1,15 +1,13 @@
 -- Bytes written at a place: where they fit the slice keeps its length and all else, and two writings in a row are one.
-use Prim.Native.Nat.{ℕ, zero, suc, _+_, _-_, _<_, _≤_}
+use Prim.Native.Nat.{ℕ, _+_, _-_, _<_, _≤_}
 use mathlib.Core.Path.{_≡_, refl, sym, ap, _∙_}
-use mathlib.Core.Bool.{Bool, true, false}
-use mathlib.Core.List.{List, [], _∷_, _++_, append-assoc, append-nil}
+use mathlib.Core.List.{List, [], _∷_, _++_, append-assoc}
 use native.Mathlib.Omega.{arith}
 use native.Mathlib.Numerals.{add-one}
-use borrow.Author.Tests.{le-leb, lt-leb, leb-true, leb-false}
+use borrow.Author.Tests.{le-leb, lt-leb, leb-true}
 use lib.Dec.{leb}
 use lib.ListN.{length, take, drop, set, length-append, length-drop}
-use lib.Seq.{sets-eq, paste, take-all, take-length, length-take-le, take-at, drop-at, drop-drop}
-use Rattle.names.specs.Pick.{pick}
+use lib.Seq.{sets-eq, paste, take-length, length-take-le, take-at, drop-at, drop-drop}
 use Rattle.names.specs.Put.{put, past}
 use Rattle.names.proofs.Picking.{pick-ind}
 

@@ -7,7 +7,6 @@ use borrow.Author.Tests.{ltb-false, leb-true, leb-false, lt-leb, le-ltb}
 use borrow.Author.Count.{below-none, below-more}
 use lib.ListN.{length, getD}
 use lib.Dec.{ltb, leb}
-use Rattle.names.specs.Pick.{pick}
 use Rattle.names.specs.Name.{Shown, nameFrom, nameOf}
 use Rattle.names.specs.declared.name.NameRead.{NameRead}
 use Rattle.names.specs.declared.name.NameRead.the-variants.{Whole, Ends, Bad}

@@ -1,16 +1,16 @@
 -- All names that keep the rules have exactly one accepted spelling as a colour list, and reading it gives them back: each name is spelled
 -- by its length and its bytes, and each of the two is read back at its place.
-use Prim.Native.Nat.{ℕ, zero, suc, _+_, _-_, _*_, _<_, _≤_}
+use Prim.Native.Nat.{ℕ, zero, suc, _+_, _-_, _<_, _≤_}
 use mathlib.Core.Path.{_≡_, refl, subst, sym, ap, _∙_}
 use mathlib.Core.Logic.{⊎-elim}
 use mathlib.Core.Bool.{Bool, true, false}
 use mathlib.Core.List.{List, [], _∷_, _++_, append-assoc, append-nil, List·Memᴰ, List·Memᴰ·head, List·Memᴰ·tail, List·Memᴰ·cases-cons, List·Memᴰ·not-nil, Memᴰ·cast, Memᴰ·append-left, Memᴰ·append-right, List·Memᴰ·append-cases, List·Memᴰ·eq-of-singleton}
 use native.Mathlib.Omega.{arith}
-use borrow.Author.Tests.{ltb-true, ltb-false, lt-ltb, le-ltb}
+use borrow.Author.Tests.{ltb-true, ltb-false, le-ltb}
 use lib.Dec.{ltb}
-use lib.ListN.{length, getD, take, drop, length-append, length-drop, take-append-drop, List·getD-append}
+use lib.ListN.{length, take, drop, length-append, length-drop, take-append-drop, List·getD-append}
 use lib.Seq.{getD-take, drop-drop, drop-append-seam, take-append-seam, length-take-le}
-use Rattle.names.specs.Pick.{pick, fault}
+use Rattle.names.specs.Pick.{fault}
 use Rattle.names.specs.Number.{numberIn, spellNumber}
 use Rattle.names.specs.Name.{Name, nameOf, place}
 use Rattle.names.specs.Colours.{namesIn, findName, colourAt, noColours, withColour, afterColour, coloursFrom, countedAt, coloursOf}
@@ -24,7 +24,7 @@ use Rattle.names.specs.declared.colours.ColourRead.the-variants.{At, Ref
 use Rattle.names.specs.declared.colours.Colours.{Colours}
 use Rattle.names.specs.declared.colours.ColoursRead.{ColoursRead}
 use Rattle.names.proofs.Picking.{pick-ind}
-use Rattle.names.proofs.Places.{place-le, place-found, place-mem}
+use Rattle.names.proofs.Places.{place-found, place-mem}
 use Rattle.names.proofs.Finding.{find-place}
 use Rattle.names.proofs.ReadingNumbers.{number-there, number-in, number-in-range, number-in-refused}
 use Rattle.names.proofs.SpellingNumbers.{Bytes, number-spelled, number-reads-at}

@@ -1,8 +1,8 @@
 -- What reading a colour list finds.
 use Prim.Native.Nat.{ℕ, zero, suc, _+_}
-use mathlib.Core.List.{List, [], _∷_, _++_}
+use mathlib.Core.List.{List, [], _∷_}
 use lib.ListN.{length, getD, take, drop, set, replicate}
-use lib.Dec.{leb, ltb}
+use lib.Dec.{ltb}
 use Rattle.names.specs.Pick.{pick, fault}
 use Rattle.names.specs.Number.{numberIn}
 use Rattle.names.specs.Name.{Name, nameOf, place}

@@ -1,3 +1,4 @@
+-- The colours are read first; where they have no fault, the rest is read after them, and they are at most 64.
 use borrow.Author.Tests.{eq-eqb, ne-eqb}
 use Rattle.names.proofs.ReadingColours.{colours-places}
 use Rattle.books.specs.Book.{bookOf, colouredAt}

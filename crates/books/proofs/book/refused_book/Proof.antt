@@ -1,4 +1,4 @@
-use Rattle.books.specs.Book.{refusedBook}
+-- The family is the fixed one.
 use borrow.Author.Needs.{needs}
 use Rattle.books.proofs.book.refused_book.Statement.{statement}
 use Rattle.books.proofs.book.refused_book.Tie as tie
@@ -7,7 +7,6 @@ no-family-requires : tie.Need-no-family-requires
 no-family-requires c κs = search needs
 
 returns : tie.Need-returns
-unfolding refusedBook
 returns c = simp (← c .no-family .ensures)
 
 pub refused-book-spec : {M : Type 1} → statement M

@@ -1,6 +1,7 @@
+-- The figures are read, then the rules after them, as `figured` says; the figures keep the bounds that reading the rules asks.
 use native.Mathlib.Omega.{arith}
 use mathlib.Core.Path.{_∙_, sym}
-use Rattle.books.proofs.ReadingBooks.{figures-lie}
+use Rattle.books.proofs.ReadingFigures.{figures-lie}
 use borrow.Author.Needs.{needs}
 use Rattle.books.proofs.book.with_colours.Statement.{statement}
 use Rattle.books.proofs.book.with_colours.Tie as tie

@@ -5,7 +5,7 @@ use Rattle.books.proofs.Showing.{shown-there, shown-nothing}
 use native.Mathlib.Omega.{arith}
 use denote.Ref.{now}
 use Rattle.names.proofs.ReadingColours.{Places}
-use Rattle.books.proofs.Showing.{book-places}
+use Rattle.books.proofs.ReadingBooks.{book-places}
 use borrow.Author.Needs.{needs}
 use Rattle.books.proofs.calls.colour.Statement.{statement}
 use Rattle.books.proofs.calls.colour.Tie as tie

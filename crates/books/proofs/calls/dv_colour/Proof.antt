@@ -6,7 +6,7 @@ use borrow.Author.Tests.{lt-ltb, le-ltb}
 use native.Mathlib.Omega.{arith}
 use denote.Ref.{now}
 use Rattle.names.proofs.ReadingColours.{Places}
-use Rattle.books.proofs.Showing.{book-places}
+use Rattle.books.proofs.ReadingBooks.{book-places}
 use borrow.Author.Needs.{needs}
 use Rattle.books.proofs.calls.dv_colour.Statement.{statement}
 use Rattle.books.proofs.calls.dv_colour.Tie as tie

@@ -1,4 +1,4 @@
-use Rattle.books.specs.Book.{noFamily}
+-- No colours and the fixed rules, each by its own function.
 use borrow.Author.Needs.{needs}
 use Rattle.books.proofs.family.no_family.Statement.{statement}
 use Rattle.books.proofs.family.no_family.Tie as tie
@@ -10,7 +10,6 @@ no-rules-requires : tie.Need-no-rules-requires
 no-rules-requires c κs = search needs
 
 returns : tie.Need-returns
-unfolding noFamily
 returns c = simp (← c .before .no-colours .ensures, ← c .no-rules .ensures)
 
 pub no-family-spec : {M : Type 1} → statement M

@@ -1,12 +1,11 @@
 -- The sum so far, with the rules that are left, is the whole.
 use Prim.Native.Nat.{_+_, _-_, _*_, _≤_}
 use mathlib.Core.Path.{_≡_, ap}
-use mathlib.Core.List.{List}
 use native.Mathlib.Omega.{arith}
 use lib.ListN.{length, take, drop}
-use Rattle.books.specs.SpellBook.{spellRule, spellRules}
-use Rattle.books.specs.declared.rule.Rule.{Rule}
-use Rattle.books.proofs.SpellingOn.{rules-on-length, rules-end, noRule}
+use Rattle.books.specs.SpellBook.{spellRules}
+use Rattle.books.specs.Rules.{noRule}
+use Rattle.books.proofs.SpellingOn.{rules-on-length, rules-end}
 use Rattle.books.proofs.measuring.rules_len.Statement.{statement}
 use Rattle.books.proofs.measuring.rules_len.Tie as tie
 

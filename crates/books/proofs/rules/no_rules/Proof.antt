@@ -1,4 +1,4 @@
-use Rattle.books.specs.Rules.{noRules}
+-- Two hundred times the fixed rule.
 use borrow.Author.Needs.{needs}
 use Rattle.books.proofs.rules.no_rules.Statement.{statement}
 use Rattle.books.proofs.rules.no_rules.Tie as tie
@@ -7,7 +7,6 @@ no-rule-requires : tie.Need-no-rule-requires
 no-rule-requires c κs = search needs
 
 returns : tie.Need-returns
-unfolding noRules
 returns c = simp (← c .no-rule .ensures)
 
 pub no-rules-spec : {M : Type 1} → statement M

@@ -1,3 +1,4 @@
+-- The head is read, then the body after it, as `ruleAt` says; a head below 32 fits a byte. `head` and `body` are the places where they were read.
 use native.Mathlib.Omega.{arith}
 use mathlib.Core.Path.{_∙_, sym}
 use Rattle.names.proofs.ReadingNumbers.{number-below}
@@ -26,20 +27,27 @@ enum-known-b-2 c = search needs
 
 cast-t15 : tie.Need-cast-t15
 cast-t15 c =
-    let value = sym (c .before .before .before .before .before .before .before .read-below .ensures) ∙ c .before .before .before .before .before .r2 .given .1 in
+    let head = c .before .before .before .before .before in
+    let value = sym (head .before .before .read-below .ensures) ∙ head .r2 .given .1 in
     omega (arith, number-below _ _ _ _ _ _ value .low)
 
 returns : tie.Need-returns
 unfolding ruleAt
-returns c = simp (← c .before .before .before .read-below .ensures, c .before .r .given .1)
+returns c = simp (sym (c .before .before .before .read-below .ensures) ∙ c .before .r .given .1)
 
 returns-2 : tie.Need-returns-2
 unfolding ruleAt
-returns-2 c = simp (← c .before .before .before .before .before .before .before .read-below .ensures, ← c .before .before .before .read-body .ensures, c .before .before .before .before .before .r2 .given .1, c .before .b .given .1)
+returns-2 c =
+    let body = c .before in
+    let head = body .before .before .before .before in
+    simp ((sym (head .before .before .read-below .ensures) ∙ head .r2 .given .1), (sym (body .before .before .read-body .ensures) ∙ body .b .given .1))
 
 returns-3 : tie.Need-returns-3
 unfolding ruleAt
-returns-3 c = simp (← c .before .before .before .before .before .before .before .read-below .ensures, ← c .before .before .before .read-body .ensures, c .before .before .before .before .before .r2 .given .1, c .before .b2 .given .1)
+returns-3 c =
+    let body = c .before in
+    let head = body .before .before .before .before in
+    simp ((sym (head .before .before .read-below .ensures) ∙ head .r2 .given .1), (sym (body .before .before .read-body .ensures) ∙ body .b2 .given .1))
 
 pub read-rule-spec : {M : Type 1} → statement M
 read-rule-spec =

@@ -1,3 +1,4 @@
+-- The loop's invariant: reading what is left of the rules from here gives what reading them all gives. The measure is what is left of the count.
 use borrow.Author.Needs.{needs}
 use native.Mathlib.Omega.{arith}
 use Prim.Native.Nat.{_≤_, _-_}

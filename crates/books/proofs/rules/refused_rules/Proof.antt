@@ -1,4 +1,4 @@
-use Rattle.books.specs.Rules.{refusedRules}
+-- The rules are the fixed ones.
 use borrow.Author.Needs.{needs}
 use Rattle.books.proofs.rules.refused_rules.Statement.{statement}
 use Rattle.books.proofs.rules.refused_rules.Tie as tie
@@ -7,7 +7,6 @@ no-rules-requires : tie.Need-no-rules-requires
 no-rules-requires c κs = search needs
 
 returns : tie.Need-returns
-unfolding refusedRules
 returns c = simp (← c .no-rules .ensures)
 
 pub refused-rules-spec : {M : Type 1} → statement M

@@ -3,7 +3,7 @@ use native.Mathlib.Omega.{arith}
 use Prim.Native.Nat.{_+_}
 use mathlib.Core.List.{_++_}
 use denote.Ref.{now}
-use lib.ListN.{length, length-append}
+use lib.ListN.{length-append}
 use Rattle.names.specs.Number.{spellNumber}
 use Rattle.names.specs.Colours.{namesIn}
 use Rattle.names.specs.Spelling.{spellNames}

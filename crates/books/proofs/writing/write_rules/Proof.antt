@@ -1,10 +1,10 @@
 -- Writing the rules that are left here is writing all of them there.
 use Prim.Native.Nat.{_-_, _≤_}
-use mathlib.Core.Path.{ap}
 use native.Mathlib.Omega.{arith}
-use lib.ListN.{take, drop, length}
-use Rattle.books.specs.SpellBook.{spellRule, spellRules}
-use Rattle.books.proofs.SpellingOn.{rules-on, rules-on-length, rules-end, noRule}
+use lib.ListN.{take, drop}
+use Rattle.books.specs.SpellBook.{spellRules}
+use Rattle.books.specs.Rules.{noRule}
+use Rattle.books.proofs.SpellingOn.{rules-on, rules-on-length, rules-end}
 use Rattle.books.proofs.InARow.{Still, still-all, still-less, still-none}
 use Rattle.books.proofs.writing.write_rules.Statement.{statement}
 use Rattle.books.proofs.writing.write_rules.Tie as tie

@@ -3,7 +3,6 @@ use Rattle.names.proofs.ReadingNumbers.{number-in}
 use Rattle.names.proofs.ReadingNames.{name-bad}
 use native.Mathlib.Omega.{arith}
 use mathlib.Core.Path.{_≡_, _∙_, sym, ap}
-use mathlib.Core.List.{List}
 use Prim.Native.Nat.{_-_}
 use lib.ListN.{length, length-drop}
 use denote.Ref.{now}

@@ -1,15 +1,15 @@
 -- A spelling is made of bytes, and has at most so many: each part is, and has, and a list has its parts' bytes one after the other.
 use Prim.Native.Nat.{ℕ, zero, suc, _+_, _*_, _/_, _%_, _<_, _≤_}
-use mathlib.Core.Path.{_≡_, refl, sym, ap, _∙_}
+use mathlib.Core.Path.{refl}
 use mathlib.Core.Logic.{⊎-elim}
 use mathlib.Core.List.{List, [], _∷_, _++_, List·Memᴰ, List·Memᴰ·head, List·Memᴰ·tail}
 use native.Mathlib.Omega.{arith}
 use lib.ListN.{length, getD, length-append, List·getD-eq-default}
 use Rattle.names.specs.Name.{Name}
 use Rattle.names.specs.Number.{spellNumber}
 use Rattle.names.specs.Spelling.{NameOk, ColoursOk, spellNames, spellColours}
 use Rattle.names.proofs.Tests.{lt-or-le}
 use Rattle.names.proofs.SpellingNumbers.{Bytes, spell-one, spell-two, spell-short, spell-length}
 
 -- at most so many, each a byte
 pub record FewBytes (l : List ℕ) (most : ℕ) : Type 0 where

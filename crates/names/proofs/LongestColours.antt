@@ -1,24 +1,18 @@
 -- The longest colour list has 2,625 bytes: its count, and 64 names of 40 bytes, each with a length of one byte before it.
 use Prim.Native.Nat.{ℕ, zero, suc, _+_, _*_, _<_, _≤_}
 use mathlib.Core.Path.{_≡_, refl}
-use mathlib.Core.List.{List, [], _∷_, _++_, List·Memᴰ, List·Memᴰ·head, List·Memᴰ·tail, List·Memᴰ·cases-cons, List·Memᴰ·not-nil}
+use mathlib.Core.List.{List, [], _∷_, _++_, List·Memᴰ, List·Memᴰ·cases-cons, List·Memᴰ·not-nil}
 use mathlib.Core.Logic.{⊎-elim}
 use native.Mathlib.Omega.{arith}
 use lib.ListN.{length, getD, replicate, length-append, getD-replicate}
 use Rattle.names.specs.Name.{Name, Shown}
 use Rattle.names.specs.Number.{spellNumber}
 use Rattle.names.specs.Spelling.{NameOk, Distinct, ColoursOk, spellNames, spellColours}
 use Rattle.names.proofs.SpellingNumbers.{spell-short}
-
-names-longest : (ns : List Name) → ((n : Name) → List·Memᴰ n ns → NameOk n) → length (spellNames ns) ≤ 41 * length ns
-names-longest [] each = omega arith
-names-longest (n ∷ ns) each =
-    let few = each n (List·Memᴰ·head refl) .few in
-    omega (arith, length-append (spellNumber (length n)) (n ++ spellNames ns), length-append n (spellNames ns), spell-short (length n) (omega arith), names-longest ns (λ m p. each m (List·Memᴰ·tail p)))
+use Rattle.names.proofs.SpelledBytes.{colours-few}
 
 pub colours-longest : (ns : List Name) → ColoursOk ns → length (spellColours ns) ≤ 2625
-colours-longest ns ok =
-    omega (arith, ok .few, length-append (spellNumber (length ns)) (spellNames ns), spell-short (length ns) (omega (arith, ok .few)), names-longest ns (ok .each))
+colours-longest ns ok = colours-few ns ok .few
 
 -- ── One is as long ──
 

@@ -1,0 +1,81 @@
+-- The house book of document 01 and books that differ from it in one byte, read by computing.
+use Prim.Native.Nat.{ℕ}
+use mathlib.Core.Path.{_≡_, refl}
+use mathlib.Core.List.{List, [], _∷_, _++_}
+use Rattle.names.specs.Pick.{fault}
+use Rattle.names.specs.Number.{numberAt, numberIn, numberBelow, spellNumber}
+use Rattle.names.specs.Name.{Name, nameOf, sameName, place}
+use Rattle.names.specs.Colours.{findName, colourAt as nameAt, coloursOf}
+use Rattle.books.specs.Contents.{Contents}
+use Rattle.books.specs.Held.{contentsIn}
+use Rattle.books.specs.Rules.{colourAt, joinAt, bodyAt, ruleAt, rulesAt}
+use Rattle.books.specs.Book.{figuresAt, endedAt, colouredAt, bookOf}
+use Rattle.books.specs.SpellBook.{spellBook}
+use Rattle.books.specs.declared.rule.Body.the-variants.{Colour, Across, Down}
+
+pub slateC : Name
+slateC = 83 ∷ 108 ∷ 97 ∷ 116 ∷ 101 ∷ 32 ∷ 67 ∷ []
+
+pub slateU : Name
+slateU = 83 ∷ 108 ∷ 97 ∷ 116 ∷ 101 ∷ 32 ∷ 85 ∷ []
+
+-- its two colours, its figures, and rules one after the other
+pub book : List ℕ → List ℕ → List ℕ
+unfolding slateC slateU
+book figures rules = 2 ∷ 7 ∷ slateC ++ (7 ∷ slateU ++ (figures ++ rules))
+
+pub joins : List ℕ
+joins = 0 ∷ 1 ∷ 0 ∷ 0 ∷ 0 ∷ 2 ∷ 1 ∷ 2 ∷ []
+
+pub colours : List ℕ
+colours = 1 ∷ 0 ∷ 0 ∷ 2 ∷ 0 ∷ 1 ∷ []
+
+pub house : List ℕ
+unfolding book joins colours
+house = book (3 ∷ 0 ∷ 4 ∷ []) (joins ++ colours)
+
+pub houseContents : Contents
+unfolding slateC slateU
+houseContents =
+    record {
+      colours = slateC ∷ slateU ∷ [];
+      motifs = 3;
+      start = 0;
+      rules = record { head = 0; body = Across 0 0 } ∷ record { head = 0; body = Down 1 2 } ∷ record { head = 1; body = Colour 0 } ∷ record { head = 2; body = Colour 1 } ∷ [];
+    }
+
+pub record Books : Type 0 where
+  pub fine : bookOf house .fault ≡ fault 0 0
+  pub contents : contentsIn house (bookOf house .family) ≡ houseContents
+  pub spelled : spellBook houseContents ≡ house
+  pub empty : bookOf [] .fault ≡ fault 1 0
+  pub no-motif : bookOf (book (0 ∷ 0 ∷ 4 ∷ []) (joins ++ colours)) .fault ≡ fault 3 17
+  pub motifs-33 : bookOf (book (33 ∷ 0 ∷ 4 ∷ []) (joins ++ colours)) .fault ≡ fault 3 17
+  pub start-3 : bookOf (book (3 ∷ 3 ∷ 4 ∷ []) (joins ++ colours)) .fault ≡ fault 6 18
+  pub rules-201 : bookOf (book (3 ∷ 0 ∷ 201 ∷ 1 ∷ []) (joins ++ colours)) .fault ≡ fault 3 19
+  pub rules-5 : bookOf (book (3 ∷ 0 ∷ 5 ∷ []) (joins ++ colours)) .fault ≡ fault 1 34
+  pub rules-3 : bookOf (book (3 ∷ 0 ∷ 3 ∷ []) (joins ++ colours)) .fault ≡ fault 8 31
+  pub head-3 : bookOf (book (3 ∷ 0 ∷ 1 ∷ []) (3 ∷ 0 ∷ 0 ∷ [])) .fault ≡ fault 6 20
+  pub kind-3 : bookOf (book (3 ∷ 0 ∷ 1 ∷ []) (0 ∷ 3 ∷ 0 ∷ 0 ∷ [])) .fault ≡ fault 7 21
+  pub colour-2 : bookOf (book (3 ∷ 0 ∷ 1 ∷ []) (0 ∷ 0 ∷ 2 ∷ [])) .fault ≡ fault 6 22
+  pub lower-3 : bookOf (book (3 ∷ 0 ∷ 1 ∷ []) (0 ∷ 2 ∷ 0 ∷ 3 ∷ [])) .fault ≡ fault 6 23
+
+pub books : Books
+unfolding house houseContents book joins colours slateC slateU spellNumber bookOf colouredAt figuresAt endedAt rulesAt ruleAt bodyAt joinAt colourAt numberIn numberBelow numberAt coloursOf nameAt nameOf findName place sameName
+books =
+    record {
+      fine = refl;
+      contents = refl;
+      spelled = refl;
+      empty = refl;
+      no-motif = refl;
+      motifs-33 = refl;
+      start-3 = refl;
+      rules-201 = refl;
+      rules-5 = refl;
+      rules-3 = refl;
+      head-3 = refl;
+      kind-3 = refl;
+      colour-2 = refl;
+      lower-3 = refl;
+    }

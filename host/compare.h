@@ -1,0 +1,47 @@
+// The comparison of the library with the independent engine. Each call below is made on both, with the same inputs and
+// with slices that hold the same bytes before; the answers, every lent slice and the canaries are compared after. The
+// first difference ends the program with the inputs shown.
+#ifndef COMPARE_H
+#define COMPARE_H
+
+#include "engine.h"
+#include "spell.h"
+
+// More than every result, and than every room that is asked for.
+enum { ROOMY_WORK = DV_MOST_WORK + 8, ROOMY_TREE = DV_MOST_TREE + 8, ROOMY_OUT = DV_LONGEST_BOOK + 8 };
+
+void comparisons_begin(uint64_t seed);
+
+// The comparisons that follow are counted under this kind.
+void comparisons_of(const char *kind);
+
+// Says how many were made of each kind. Fails where they met too few of the answers to mean much.
+void comparisons_end(void);
+
+// Ends the program: something is wrong with the call last made.
+void wrong(const char *what);
+
+// Each gives the answer that both engines gave. The same bytes as first and second are lent as one slice.
+uint64_t compare_read_book(const struct bytes *book);
+uint64_t compare_read_sheet(const struct bytes *sheet);
+uint64_t compare_colour(const struct bytes *book, size_t number);
+uint64_t compare_derive(const struct bytes *book, const struct bytes *sheet, size_t work_len, size_t tree_len);
+// The new book is put into made, where that is not null and the answer is 0.
+uint64_t compare_combination(enum combination combination, const struct bytes *first, const struct bytes *second,
+                             size_t out_len, struct bytes *made);
+
+// The same with rooms exact, one short, one over and none.
+void compare_rooms_of_sheet(const struct bytes *book, const struct bytes *sheet, unsigned rows, unsigned columns);
+void compare_rooms_of_combination(enum combination combination, const struct bytes *first, const struct bytes *second);
+
+// The kinds.
+void compare_house(void);
+void compare_palindromes(void);
+void compare_limits(void);
+void compare_damaged(void);
+void compare_rooms(void);
+void compare_grown(void);
+void compare_combinations(void);
+void compare_members(void);
+
+#endif

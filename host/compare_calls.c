@@ -1,0 +1,249 @@
+// One call on both engines, and what is said where they differ.
+#define _DEFAULT_SOURCE // sigaction
+#include <signal.h>
+#include <stdio.h>
+#include <stdlib.h>
+#include <string.h>
+#include <unistd.h>
+
+#include "chance.h"
+#include "compare.h"
+#include "lent.h"
+
+enum { ENGINES = 2, SLICES = 2, ENOUGH = 50 };
+
+static const struct engine *const engine[ENGINES] = {&library, &independent};
+
+// What is asked of both engines. The number is a colour's or a combination's.
+struct call {
+    const char *name;
+    uint64_t (*ask)(const struct lent *out);
+    const struct bytes *input[SLICES];
+    size_t number;
+    // The slices that may be written: their entries, and the bytes of one entry.
+    size_t entries[SLICES], size[SLICES];
+};
+
+static struct call call = {.name = "the house example"};
+static const struct engine *asked;
+static struct lent in[SLICES], out[ENGINES][SLICES];
+static uint8_t noise[1 << 16];
+
+static uint64_t seed_of_run;
+static unsigned long met[DV_NO_RULE_FITS + 1];
+static unsigned kinds;
+static struct {
+    const char *name;
+    unsigned long count;
+} kind[16];
+
+void wrong(const char *what)
+{
+    fprintf(stderr, "compare: %s\nin %s, number %zu, slices of %zu and %zu entries, among the %s, seed %llu\n", what,
+            call.name, call.number, call.entries[0], call.entries[1], kind[kinds - 1].name,
+            (unsigned long long)seed_of_run);
+    for (int i = 0; i < SLICES; i++)
+        if (call.input[i] != NULL) {
+            fprintf(stderr, "input %d, %zu bytes:", i + 1, call.input[i]->length);
+            for (size_t j = 0; j < call.input[i]->length; j++)
+                fprintf(stderr, " %u", call.input[i]->at[j]);
+            fprintf(stderr, "\n");
+        }
+    _exit(1);
+}
+
+static void wrong_by(const char *what)
+{
+    char line[200];
+    snprintf(line, sizeof line, "%s %s %s", asked == NULL ? "an" : "the", asked == NULL ? "engine" : asked->name, what);
+    wrong(line);
+}
+
+// Some emulators come here with the stack out of line, which printing does not bear.
+__attribute__((force_align_arg_pointer)) static void stopped(int signal)
+{
+    (void)signal;
+    wrong_by("touched memory outside the lent slices");
+}
+
+void comparisons_begin(uint64_t seed)
+{
+    static const int signals[] = {SIGSEGV, SIGBUS, SIGILL, SIGFPE};
+    struct sigaction action = {.sa_handler = stopped};
+    for (size_t i = 0; i < sizeof signals / sizeof *signals; i++)
+        sigaction(signals[i], &action, NULL);
+    seed_of_run = seed;
+    chance_seed(seed);
+    for (size_t i = 0; i < sizeof noise; i++)
+        noise[i] = (uint8_t)chance_bits();
+    for (int i = 0; i < SLICES; i++)
+        in[i] = lent_room(sizeof(struct bytes));
+    for (int i = 0; i < ENGINES; i++) {
+        out[i][0] = lent_room(ROOMY_WORK * sizeof(uint32_t));
+        out[i][1] = lent_room(ROOMY_TREE * sizeof(uint16_t));
+    }
+}
+
+void comparisons_of(const char *name)
+{
+    kind[kinds++].name = name;
+}
+
+void comparisons_end(void)
+{
+    unsigned long all = 0;
+    for (unsigned i = 0; i < kinds; i++)
+        all += kind[i].count;
+    for (unsigned i = DV_ACCEPTED; i <= DV_OUT_SHORT; i++)
+        if (met[i] < ENOUGH) {
+            fprintf(stderr, "compare: only %lu comparisons met answer %u\n", met[i], i);
+            exit(1);
+        }
+    printf("compare: %lu comparisons, no difference, seed %llu:", all, (unsigned long long)seed_of_run);
+    for (unsigned i = 0; i < kinds; i++)
+        printf("%s %s %lu", i == 0 ? "" : ",", kind[i].name, kind[i].count);
+    printf("\n");
+}
+
+static void compare_answers(uint64_t ours, uint64_t theirs)
+{
+    if (ours == theirs)
+        return;
+    char line[300];
+    snprintf(line, sizeof line,
+             "the library answers %u blaming %u at %zu, count %zu, "
+             "the independent engine %u blaming %u at %zu, count %zu",
+             dv_number(ours), dv_blamed(ours), dv_place(ours), dv_count(ours), dv_number(theirs), dv_blamed(theirs),
+             dv_place(theirs), dv_count(theirs));
+    wrong(line);
+}
+
+static void compare_slices(const uint8_t *ours, const uint8_t *theirs, size_t entries, size_t size)
+{
+    if (memcmp(ours, theirs, entries * size) == 0)
+        return;
+    size_t at = 0;
+    while (ours[at] == theirs[at])
+        at++;
+    char line[200];
+    snprintf(line, sizeof line, "byte %zu of entry %zu of a slice is %u by the library, %u by the independent engine",
+             at % size, at / size, ours[at], theirs[at]);
+    wrong(line);
+}
+
+static uint64_t ask(struct lent *lent, const uint8_t *fill)
+{
+    for (int i = 0; i < SLICES; i++)
+        lend(&lent[i], fill, call.entries[i] * call.size[i]);
+    uint64_t answer = call.ask(lent);
+    for (int i = 0; i < SLICES; i++) {
+        if (!canaries_stand(&lent[i]) || (call.input[i] != NULL && !canaries_stand(&in[i])))
+            wrong_by("wrote before a lent slice");
+        if (call.input[i] != NULL && memcmp(in[i].slice, call.input[i]->at, call.input[i]->length) != 0)
+            wrong_by("wrote to an input");
+    }
+    return answer;
+}
+
+static uint64_t compare(void)
+{
+    const uint8_t *fill = noise + chance_below(sizeof noise / 2);
+    for (int i = 0; i < SLICES; i++)
+        if (call.input[i] != NULL)
+            lend(&in[i], call.input[i]->at, call.input[i]->length);
+    uint64_t answer[ENGINES];
+    for (int i = 0; i < ENGINES; i++) {
+        asked = engine[i];
+        answer[i] = ask(out[i], fill);
+    }
+    compare_answers(answer[0], answer[1]);
+    for (int i = 0; i < SLICES; i++)
+        compare_slices(out[0][i].slice, out[1][i].slice, call.entries[i], call.size[i]);
+    kind[kinds - 1].count++;
+    return answer[0];
+}
+
+static uint64_t met_with(uint64_t answer)
+{
+    met[dv_number(answer)]++;
+    return answer;
+}
+
+static uint64_t ask_read_book(const struct lent *lent)
+{
+    (void)lent;
+    return asked->read_book(in[0].slice, call.input[0]->length);
+}
+
+uint64_t compare_read_book(const struct bytes *book)
+{
+    call = (struct call){.name = "dv_read_book", .ask = ask_read_book, .input = {book}};
+    return met_with(compare());
+}
+
+static uint64_t ask_read_sheet(const struct lent *lent)
+{
+    (void)lent;
+    return asked->read_sheet(in[0].slice, call.input[0]->length);
+}
+
+uint64_t compare_read_sheet(const struct bytes *sheet)
+{
+    call = (struct call){.name = "dv_read_sheet", .ask = ask_read_sheet, .input = {sheet}};
+    return met_with(compare());
+}
+
+static uint64_t ask_colour(const struct lent *lent)
+{
+    (void)lent;
+    return asked->colour(in[0].slice, call.input[0]->length, call.number);
+}
+
+uint64_t compare_colour(const struct bytes *book, size_t number)
+{
+    call = (struct call){.name = "dv_colour", .ask = ask_colour, .input = {book}, .number = number};
+    return compare();
+}
+
+static uint64_t ask_derive(const struct lent *lent)
+{
+    return asked->derive(in[0].slice, call.input[0]->length, in[1].slice, call.input[1]->length,
+                         (uint32_t *)(void *)lent[0].slice, call.entries[0], (uint16_t *)(void *)lent[1].slice,
+                         call.entries[1]);
+}
+
+uint64_t compare_derive(const struct bytes *book, const struct bytes *sheet, size_t work_len, size_t tree_len)
+{
+    call = (struct call){.name = "dv_derive",
+                         .ask = ask_derive,
+                         .input = {book, sheet},
+                         .entries = {work_len, tree_len},
+                         .size = {sizeof(uint32_t), sizeof(uint16_t)}};
+    return met_with(compare());
+}
+
+// The same book given twice is lent as one slice.
+static uint64_t ask_combination(const struct lent *lent)
+{
+    bool twice = call.input[1] == call.input[0];
+    return combine(asked, (enum combination)call.number, in[0].slice, call.input[0]->length,
+                   twice ? in[0].slice : in[1].slice, call.input[1] == NULL ? 0 : call.input[1]->length, lent[0].slice,
+                   call.entries[0]);
+}
+
+uint64_t compare_combination(enum combination combination, const struct bytes *first, const struct bytes *second,
+                             size_t out_len, struct bytes *made)
+{
+    call = (struct call){.name = combination_name[combination],
+                         .ask = ask_combination,
+                         .input = {first, takes_two(combination) ? second : NULL},
+                         .number = combination,
+                         .entries = {out_len},
+                         .size = {1}};
+    uint64_t answer = met_with(compare());
+    if (made != NULL && dv_number(answer) == DV_ACCEPTED) {
+        made->length = dv_count(answer);
+        memcpy(made->at, out[0][0].slice, made->length);
+    }
+    return answer;
+}

@@ -1,0 +1,167 @@
+// Books and sheets with damaged bytes.
+#include <string.h>
+
+#include "chance.h"
+#include "compare.h"
+#include "grow.h"
+
+static void insert(struct bytes *bytes, size_t at, uint8_t byte)
+{
+    memmove(bytes->at + at + 1, bytes->at + at, bytes->length - at);
+    bytes->at[at] = byte;
+    bytes->length++;
+}
+
+static void drop(struct bytes *bytes, size_t at)
+{
+    bytes->length--;
+    memmove(bytes->at + at, bytes->at + at + 1, bytes->length - at);
+}
+
+static void compare_as_book(const struct bytes *book, const struct bytes *sheet, const struct bytes *other)
+{
+    compare_read_book(book);
+    compare_colour(book, chance_below(4));
+    compare_derive(book, sheet, one_in(4) ? 0 : ROOMY_WORK, one_in(4) ? 0 : ROOMY_TREE);
+    enum combination combination = (enum combination)chance_below(COMBINATIONS);
+    if (one_in(2))
+        compare_combination(combination, book, other, one_in(4) ? 0 : ROOMY_OUT, NULL);
+    else
+        compare_combination(combination, other, book, one_in(4) ? 0 : ROOMY_OUT, NULL);
+}
+
+static void compare_as_sheet(const struct bytes *book, const struct bytes *sheet)
+{
+    compare_read_sheet(sheet);
+    compare_derive(book, sheet, one_in(4) ? 0 : ROOMY_WORK, one_in(4) ? 0 : ROOMY_TREE);
+}
+
+// Every byte as every other, every beginning, every byte dropped or doubled, and bytes that follow the end.
+static void damage_throughout(const struct bytes *good, void (*compare_it)(const struct bytes *damaged))
+{
+    struct bytes bytes;
+    for (size_t at = 0; at < good->length; at++) {
+        bytes = *good;
+        for (unsigned byte = 0; byte < 256; byte++) {
+            bytes.at[at] = (uint8_t)byte;
+            compare_it(&bytes);
+        }
+        bytes = *good;
+        bytes.length = at;
+        compare_it(&bytes);
+        bytes = *good;
+        drop(&bytes, at);
+        compare_it(&bytes);
+        bytes = *good;
+        insert(&bytes, at, good->at[at]);
+        compare_it(&bytes);
+        for (unsigned high = 0; high < 256; high += 1 + high / 2) {
+            bytes = *good;
+            bytes.at[at] |= 128;
+            insert(&bytes, at + 1, (uint8_t)high);
+            compare_it(&bytes);
+        }
+    }
+    for (unsigned byte = 0; byte < 256; byte += 5) {
+        bytes = *good;
+        insert(&bytes, good->length, (uint8_t)byte);
+        compare_it(&bytes);
+    }
+}
+
+static struct bytes good_book, good_sheet;
+
+static void compare_damaged_book(const struct bytes *book)
+{
+    compare_as_book(book, &good_sheet, &good_book);
+}
+
+static void compare_damaged_sheet(const struct bytes *sheet)
+{
+    compare_as_sheet(&good_book, sheet);
+}
+
+// One damage by chance to bytes that are not empty.
+static void damage(struct bytes *bytes)
+{
+    static const uint8_t telling[] = {0, 1, 2, 3, 12, 13, 31, 32, 33, 40, 41, 64, 65, 126, 127, 128, 200, 201, 255};
+    size_t at = one_in(3) ? chance_below(4) : chance_below((unsigned)bytes->length);
+    at = at < bytes->length ? at : bytes->length - 1;
+    switch (chance_below(7)) {
+    case 0:
+        bytes->at[at] = (uint8_t)chance_bits();
+        break;
+    case 1:
+        bytes->at[at] = telling[chance_below(sizeof telling)];
+        break;
+    case 2:
+        drop(bytes, at);
+        break;
+    case 3:
+        insert(bytes, at, telling[chance_below(sizeof telling)]);
+        break;
+    case 4:
+        bytes->length = at;
+        break;
+    case 5:
+        insert(bytes, bytes->length, (uint8_t)chance_bits());
+        break;
+    default:
+        bytes->at[at] |= 128;
+        insert(bytes, at + 1, one_in(2) ? 0 : (uint8_t)chance_bits());
+    }
+}
+
+static void damage_by_chance(void)
+{
+    struct family family;
+    struct grid grid;
+    struct bytes book, sheet;
+    grow_some_family(&family);
+    grow_grid(&family, &grid, 4, 4);
+    relist(&grid);
+    spell_book(&family, &good_book);
+    spell_sheet(&grid, &good_sheet);
+    book = good_book;
+    sheet = good_sheet;
+    damage(&book);
+    damage(&sheet);
+    compare_as_book(&book, one_in(2) ? &sheet : &good_sheet, &good_book);
+    compare_as_sheet(&good_book, &sheet);
+    if (book.length > 0)
+        damage(&book);
+    compare_as_book(&book, &good_sheet, &book);
+}
+
+// Bytes that are no book at all, and lists that name a colour twice.
+static void compare_wild(void)
+{
+    struct bytes bytes = {chance_below(60), {0}};
+    for (size_t i = 0; i < bytes.length; i++)
+        bytes.at[i] = one_in(8) ? (uint8_t)chance_bits() : (uint8_t)chance_below(4);
+    compare_as_book(&bytes, &bytes, &good_book);
+    compare_read_sheet(&bytes);
+    struct family family;
+    grow_family(&family, chance_from(2, 20), 2, 3);
+    unsigned count = family.palette.count;
+    family.palette.ink[chance_from(1, count - 1)] = family.palette.ink[chance_below(count)];
+    spell_book(&family, &bytes);
+    compare_as_book(&bytes, &good_sheet, &good_book);
+    compare_as_sheet(&good_book, &bytes);
+}
+
+void compare_damaged(void)
+{
+    struct family family;
+    struct grid grid;
+    grow_family(&family, 2, 3, 5);
+    grow_grid(&family, &grid, 3, 3);
+    spell_book(&family, &good_book);
+    spell_sheet(&grid, &good_sheet);
+    damage_throughout(&good_book, compare_damaged_book);
+    damage_throughout(&good_sheet, compare_damaged_sheet);
+    for (unsigned i = 0; i < 4000; i++) {
+        damage_by_chance();
+        compare_wild();
+    }
+}

@@ -1,0 +1,101 @@
+// The house example of document 01, P1 to P12, on each engine by itself: here the outcomes are the document's own.
+#include <stdio.h>
+#include <stdlib.h>
+#include <string.h>
+
+#include "compare.h"
+
+#define SLATES 2, 7, 'S', 'l', 'a', 't', 'e', ' ', 'C', 7, 'S', 'l', 'a', 't', 'e', ' ', 'U'
+#define SLATES_TURNED 2, 7, 'S', 'l', 'a', 't', 'e', ' ', 'U', 7, 'S', 'l', 'a', 't', 'e', ' ', 'C'
+#define SLATE_ALONE 2, 5, 'S', 'l', 'a', 't', 'e', 7, 'S', 'l', 'a', 't', 'e', ' ', 'U'
+#define HOUSE_RULES 0, 1, 0, 0, 0, 2, 1, 2, 1, 0, 0, 2, 0, 1
+#define HOUSE_RULES_RAISED 3, 1, 3, 3, 3, 2, 4, 5, 4, 0, 0, 5, 0, 1
+#define BYTES(...) {sizeof((uint8_t[]){__VA_ARGS__}), {__VA_ARGS__}}
+
+static const struct bytes house = BYTES(SLATES, 3, 0, 4, HOUSE_RULES);
+static const struct bytes sheet_a = BYTES(SLATES, 2, 3, 0, 0, 0, 1, 1, 1);
+static const struct bytes sheet_a_turned = BYTES(SLATES_TURNED, 2, 3, 1, 1, 1, 0, 0, 0);
+static const struct bytes sheet_a_slate = BYTES(SLATE_ALONE, 2, 3, 0, 0, 0, 1, 1, 1);
+static const struct bytes one_cell = BYTES(SLATES, 1, 1, 0);
+static const struct bytes upright = BYTES(SLATES, 2, 1, 0, 1);
+static const struct bytes lying = BYTES(SLATES, 1, 2, 0, 1);
+
+static const uint32_t table_a[18] = {2, 2, 2, 4, 4, 4, 0, 0, 0, 0, 0, 0, 1, 1, 1, 1, 1, 1};
+static const uint16_t tree_a[22] = {0, 1, 1, 1, 2, 0, 3, 0, 0, 1, 1, 1, 2, 0, 3, 0, 1, 1, 2, 0, 3, 0};
+static const uint16_t tree_upright[6] = {1, 1, 2, 0, 3, 0};
+
+static const struct bytes house_transposed = BYTES(SLATES, 3, 0, 4, 0, 2, 0, 0, 0, 1, 1, 2, 1, 0, 0, 2, 0, 1);
+static const struct bytes house_beside = BYTES(SLATES, 7, 6, 9, HOUSE_RULES, HOUSE_RULES_RAISED, 6, 1, 0, 3);
+static const struct bytes house_run = BYTES(SLATES, 4, 3, 7, HOUSE_RULES, 3, 1, 0, 0, 3, 2, 1, 2, 3, 1, 0, 3);
+static const struct bytes house_either = BYTES(SLATES, 7, 6, 12, HOUSE_RULES, HOUSE_RULES_RAISED, 6, 1, 0, 0, 6, 2, 1,
+                                               2, 6, 1, 3, 3, 6, 2, 4, 5);
+
+static const struct engine *judged;
+
+static void expect(bool holds, const char *what)
+{
+    if (holds)
+        return;
+    fprintf(stderr, "compare: the %s engine does not keep the house example of document 01: %s\n", judged->name, what);
+    exit(1);
+}
+
+static uint64_t derive(const struct bytes *book, const struct bytes *sheet, uint32_t *work, uint16_t *tree)
+{
+    return judged->derive(book->at, book->length, sheet->at, sheet->length, work, DV_MOST_WORK, tree, DV_MOST_TREE);
+}
+
+// Whether a combination of the house book, with itself where it takes two, is this book.
+static bool makes(enum combination combination, const struct bytes *made)
+{
+    uint8_t out[DV_LONGEST_BOOK];
+    uint64_t answer = combine(judged, combination, house.at, house.length, house.at, house.length, out, sizeof out);
+    return answer == (uint64_t)made->length << 32 && memcmp(out, made->at, made->length) == 0;
+}
+
+static void expect_sheets(void)
+{
+    static uint32_t work[DV_MOST_WORK];
+    static uint16_t tree[DV_MOST_TREE];
+    expect(house.length == 34 && judged->read_book(house.at, house.length) == 0, "the house book");
+    expect(derive(&house, &sheet_a, work, tree) == 0 && memcmp(tree, tree_a, sizeof tree_a) == 0, "P1");
+    expect(memcmp(work, table_a, sizeof table_a) == 0, "P2");
+    memset(tree, 0xff, sizeof tree);
+    expect(derive(&house, &sheet_a_turned, work, tree) == 0 && memcmp(tree, tree_a, sizeof tree_a) == 0, "P3");
+    expect(derive(&house, &sheet_a_slate, work, tree) == 11, "P4");
+    expect(derive(&house, &one_cell, work, tree) == 11, "P5");
+    expect(derive(&house, &upright, work, tree) == 0 && memcmp(tree, tree_upright, sizeof tree_upright) == 0, "P6");
+    expect(derive(&house_transposed, &lying, work, tree) == 0 && derive(&house_transposed, &sheet_a, work, tree) == 11,
+           "P9, the sheets");
+    expect(derive(&house_beside, &upright, work, tree) == 11, "P10, the sheet");
+}
+
+static void expect_books(void)
+{
+    static const uint8_t misspelt[] = {128, 0};
+    struct bytes rules_200 = BYTES(1, 1, 'a', 1, 0, 200, 1);
+    rules_200.length += 200 * 3;
+    expect(judged->read_book(misspelt, sizeof misspelt) == (2 | 1 << 8), "P7");
+    expect(judged->read_book(rules_200.at, rules_200.length) == 0, "P8");
+    expect(makes(TRANSPOSED, &house_transposed), "P9, the book");
+    expect(house_beside.length == 52 && makes(BESIDE, &house_beside), "P10, the book");
+    expect(makes(RUN, &house_run), "P11");
+    expect(makes(EITHER_OF, &house_either), "P12");
+    expect(judged->colour(house.at, house.length, 1) == (10 | UINT64_C(7) << 32), "the name Slate U");
+}
+
+void compare_house(void)
+{
+    static const struct engine *const engines[] = {&independent, &library};
+    for (int i = 0; i < 2; i++) {
+        judged = engines[i];
+        expect_sheets();
+        expect_books();
+    }
+    static const struct bytes empty = {0, {0}};
+    if (compare_read_book(&empty) != (1 | 1 << 8) || compare_read_sheet(&empty) != (1 | 1 << 8))
+        wrong("empty input is not refused with 1 at 0");
+    if (compare_derive(&house, &sheet_a, 18, 22) != 0 || compare_derive(&house, &sheet_a, 17, 22) != 9 ||
+        compare_derive(&house, &sheet_a, 18, 21) != 10)
+        wrong("sheet A wants a work slice of 18 and a tree slice of 22");
+}

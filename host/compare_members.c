@@ -1,0 +1,180 @@
+// What each combination holds: for small families, all sheets up to 3 by 3 in two colours under the book that it
+// writes, against their membership in the families that it is made of.
+#include <string.h>
+
+#include "chance.h"
+#include "compare.h"
+#include "grow.h"
+
+enum { SIDE = 3, FAMILIES = 20 };
+
+// A sheet of two colours: bit row * columns + column is the cell's.
+struct small {
+    unsigned rows, columns, cells;
+};
+
+struct members {
+    bool has[SIDE + 1][SIDE + 1][1 << SIDE * SIDE];
+};
+
+static bool has(const struct members *members, struct small sheet)
+{
+    return members->has[sheet.rows][sheet.columns][sheet.cells];
+}
+
+static unsigned cell(struct small sheet, unsigned row, unsigned column)
+{
+    return sheet.cells >> (row * sheet.columns + column) & 1;
+}
+
+// The piece of a sheet from a row and a column on.
+static struct small piece(struct small sheet, unsigned rows, unsigned columns, unsigned top, unsigned left)
+{
+    struct small part = {rows, columns, 0};
+    for (unsigned row = 0; row < rows; row++)
+        for (unsigned column = 0; column < columns; column++)
+            part.cells |= cell(sheet, top + row, left + column) << (row * columns + column);
+    return part;
+}
+
+// The first k columns, or rows, and the rest.
+static struct small first_part(struct small sheet, bool across, unsigned k)
+{
+    if (across)
+        return piece(sheet, sheet.rows, k, 0, 0);
+    return piece(sheet, k, sheet.columns, 0, 0);
+}
+
+static struct small rest(struct small sheet, bool across, unsigned k)
+{
+    if (across)
+        return piece(sheet, sheet.rows, sheet.columns - k, 0, k);
+    return piece(sheet, sheet.rows - k, sheet.columns, k, 0);
+}
+
+static bool joins(const struct members *f, const struct members *g, struct small sheet, bool across)
+{
+    for (unsigned k = 1; k < (across ? sheet.columns : sheet.rows); k++)
+        if (has(f, first_part(sheet, across, k)) && has(g, rest(sheet, across, k)))
+            return true;
+    return false;
+}
+
+static bool repeats(const struct members *f, struct small sheet, bool across)
+{
+    for (unsigned k = 1; k < (across ? sheet.columns : sheet.rows); k++)
+        if (has(f, first_part(sheet, across, k)) && repeats(f, rest(sheet, across, k), across))
+            return true;
+    return has(f, sheet);
+}
+
+static struct small turned(struct small sheet, enum combination combination)
+{
+    bool transposed = combination == TRANSPOSED;
+    struct small image = {transposed ? sheet.columns : sheet.rows, transposed ? sheet.rows : sheet.columns, 0};
+    for (unsigned row = 0; row < sheet.rows; row++)
+        for (unsigned column = 0; column < sheet.columns; column++) {
+            unsigned to_row = transposed ? column : combination == FLIPPED ? sheet.rows - 1 - row : row;
+            unsigned to_column = transposed ? row : combination == MIRRORED ? sheet.columns - 1 - column : column;
+            image.cells |= cell(sheet, row, column) << (to_row * image.columns + to_column);
+        }
+    return image;
+}
+
+static bool holds(enum combination combination, const struct members *f, const struct members *g, struct small sheet)
+{
+    switch (combination) {
+    case EITHER_OF:
+        return has(f, sheet) || has(g, sheet);
+    case BESIDE:
+    case ABOVE:
+        return joins(f, g, sheet, combination == BESIDE);
+    case RUN:
+    case STACK:
+        return repeats(f, sheet, combination == RUN);
+    default:
+        return has(f, turned(sheet, combination));
+    }
+}
+
+static bool derived(const struct bytes *book, struct small sheet)
+{
+    struct grid grid = {.rows = sheet.rows, .columns = sheet.columns};
+    struct bytes bytes;
+    add_ink(&grid.palette, "a");
+    add_ink(&grid.palette, "b");
+    for (unsigned i = 0; i < sheet.rows * sheet.columns; i++)
+        grid.cell[i] = sheet.cells >> i & 1;
+    spell_sheet(&grid, &bytes);
+    return compare_derive(book, &bytes, DV_WORK_ENTRIES(SIDE, SIDE), DV_TREE_ENTRIES(SIDE, SIDE)) == DV_ACCEPTED;
+}
+
+// The sheets that a book derives, and how many they are.
+static unsigned members_of(const struct bytes *book, struct members *members)
+{
+    unsigned count = 0;
+    struct small sheet;
+    for (sheet.rows = 1; sheet.rows <= SIDE; sheet.rows++)
+        for (sheet.columns = 1; sheet.columns <= SIDE; sheet.columns++)
+            for (sheet.cells = 0; sheet.cells < 1u << sheet.rows * sheet.columns; sheet.cells++) {
+                bool in = derived(book, sheet);
+                members->has[sheet.rows][sheet.columns][sheet.cells] = in;
+                count += in;
+            }
+    return count;
+}
+
+static void expect_members(enum combination combination, const struct bytes *made, const struct members *f,
+                           const struct members *g)
+{
+    struct small sheet;
+    for (sheet.rows = 1; sheet.rows <= SIDE; sheet.rows++)
+        for (sheet.columns = 1; sheet.columns <= SIDE; sheet.columns++)
+            for (sheet.cells = 0; sheet.cells < 1u << sheet.rows * sheet.columns; sheet.cells++)
+                if (derived(made, sheet) != holds(combination, f, g, sheet))
+                    wrong("the book that a combination wrote has other sheets than the combination");
+}
+
+// A family of two colours, listed either way round, that has more than a few sheets and not all.
+static void grow_small(struct bytes *book, struct members *members)
+{
+    struct family family;
+    unsigned count;
+    do {
+        grow_family(&family, 2, chance_from(1, 4), chance_from(3, 12));
+        family.palette.count = 0;
+        bool turned_round = one_in(2);
+        add_ink(&family.palette, turned_round ? "b" : "a");
+        add_ink(&family.palette, turned_round ? "a" : "b");
+        spell_book(&family, book);
+        count = members_of(book, members);
+    } while (count < 6 || count > 650);
+}
+
+static void expect_back(enum combination combination, const struct bytes *book, const struct bytes *made)
+{
+    struct bytes back;
+    if (compare_combination(combination, made, NULL, ROOMY_OUT, &back) >> 32 != book->length ||
+        memcmp(back.at, book->at, book->length) != 0)
+        wrong("twice does not give the book back");
+}
+
+void compare_members(void)
+{
+    static struct members f, g;
+    struct bytes first, second, made;
+    grow_small(&second, &g);
+    for (unsigned i = 0; i < FAMILIES; i++) {
+        grow_small(&first, &f);
+        for (int number = 0; number < COMBINATIONS; number++) {
+            enum combination combination = (enum combination)number;
+            if (dv_number(compare_combination(combination, &first, &second, ROOMY_OUT, &made)) != DV_ACCEPTED)
+                wrong("a combination of small families is refused");
+            expect_members(combination, &made, &f, &g);
+            if (combination >= MIRRORED)
+                expect_back(combination, &first, &made);
+        }
+        second = first;
+        g = f;
+    }
+}

@@ -1,0 +1,131 @@
+// A small RIP: tells whether a sheet belongs to a family and how it is made up, and joins two families.
+//
+//     example BOOK SHEET [SECOND-BOOK]
+#include <stdio.h>
+#include <stdlib.h>
+
+#include "../include/druvelstek.h"
+
+static const char *const words[] = {
+    "accepted",
+    "the input ends too early",
+    "a number is misspelt",
+    "a count, length, rows or columns is out of range",
+    "a name has a byte that cannot be printed",
+    "a name stands twice",
+    "there is no motif or colour of this number",
+    "there is no such kind of rule",
+    "bytes follow the end",
+    "the work slice is too short",
+    "the tree slice is too short",
+    "the sheet does not belong to the family",
+    "too many colours, motifs or rules",
+    "the output slice is too short",
+    "no rule fits at some node",
+};
+
+static uint8_t book[DV_LONGEST_BOOK + 1], second[DV_LONGEST_BOOK + 1], joined[DV_LONGEST_BOOK];
+static uint8_t sheet[DV_LONGEST_SHEET + 1];
+static uint32_t work[DV_MOST_WORK];
+static uint16_t tree[DV_MOST_TREE];
+
+static size_t book_len;
+static unsigned kind[DV_MOST_RULES], colour[DV_MOST_RULES];
+
+// One byte more than the longest that can be accepted is enough to have a longer file refused.
+static size_t load(const char *path, uint8_t *bytes, size_t most)
+{
+    FILE *file = fopen(path, "rb");
+    if (file == NULL) {
+        perror(path);
+        exit(2);
+    }
+    size_t length = fread(bytes, 1, most, file);
+    fclose(file);
+    return length;
+}
+
+static void say(const char *what, uint64_t answer)
+{
+    printf("%s: %s", what, words[dv_number(answer)]);
+    if (dv_blamed(answer) != 0)
+        printf(", at byte %zu of input %u", dv_place(answer), dv_blamed(answer));
+    printf("\n");
+}
+
+// A number of accepted bytes, which need no more tests.
+static unsigned number(const uint8_t **at)
+{
+    unsigned low = *(*at)++;
+    return low < 128 ? low : low - 128 + 128u * *(*at)++;
+}
+
+static const uint8_t *past_colours(const uint8_t *at)
+{
+    for (unsigned count = number(&at); count > 0; count--) {
+        unsigned length = number(&at);
+        at += length;
+    }
+    return at;
+}
+
+// The tree names a rule by its number; its kind says which way the piece is cut.
+static void note_rules(void)
+{
+    const uint8_t *at = past_colours(book);
+    number(&at); // motifs
+    number(&at); // start
+    unsigned rules = number(&at);
+    for (unsigned i = 0; i < rules; i++) {
+        number(&at); // head
+        kind[i] = number(&at);
+        colour[i] = number(&at);
+        if (kind[i] != 0)
+            number(&at);
+    }
+}
+
+// Prints the panel of a node and the panels that it is cut into, and gives the node after them.
+static const uint16_t *print_panel(const uint16_t *node, unsigned rows, unsigned columns, unsigned top, unsigned left)
+{
+    unsigned rule = node[0], k = node[1];
+    printf("rule %u: %u by %u at row %u, column %u", rule, rows, columns, top, left);
+    if (kind[rule] == 0) {
+        uint64_t shown = dv_colour(book, book_len, colour[rule]);
+        printf(", %.*s\n", (int)dv_shown_length(shown), (const char *)book + dv_shown_place(shown));
+        return node + 2;
+    }
+    printf(kind[rule] == 1 ? ", cut across after %u\n" : ", cut down after %u\n", k);
+    if (kind[rule] == 1)
+        return print_panel(print_panel(node + 2, rows, k, top, left), rows, columns - k, top, left + k);
+    return print_panel(print_panel(node + 2, k, columns, top, left), rows - k, columns, top + k, left);
+}
+
+int main(int argc, char **argv)
+{
+    if (argc < 3 || argc > 4) {
+        fprintf(stderr, "usage: example BOOK SHEET [SECOND-BOOK]\n");
+        return 2;
+    }
+    book_len = load(argv[1], book, sizeof book);
+    size_t sheet_len = load(argv[2], sheet, sizeof sheet);
+    size_t second_len = load(argv[argc - 1 == 3 ? 3 : 1], second, sizeof second);
+
+    uint64_t answer = dv_derive(book, book_len, sheet, sheet_len, work, DV_MOST_WORK, tree, DV_MOST_TREE);
+    say("the sheet", answer);
+    if (dv_number(answer) == DV_ACCEPTED) {
+        const uint8_t *at = past_colours(sheet);
+        unsigned rows = number(&at), columns = number(&at);
+        note_rules();
+        print_panel(tree, rows, columns, 0, 0);
+    }
+
+    answer = dv_beside(book, book_len, second, second_len, joined, sizeof joined);
+    say("the two families side by side", answer);
+    if (dv_number(answer) == DV_ACCEPTED) {
+        printf("a book of %zu bytes\n", dv_count(answer));
+        answer = dv_derive(joined, dv_count(answer), sheet, sheet_len, work, DV_MOST_WORK, tree, DV_MOST_TREE);
+        say("the sheet under that book", answer);
+    }
+    return 0;
+}

@@ -1,0 +1,237 @@
+#include "grow.h"
+
+#include <string.h>
+
+#include "chance.h"
+
+bool same_ink(const struct ink *one, const struct ink *other)
+{
+    return one->length == other->length && memcmp(one->name, other->name, one->length) == 0;
+}
+
+static bool lists(const struct palette *palette, const struct ink *ink)
+{
+    for (unsigned i = 0; i < palette->count; i++)
+        if (same_ink(&palette->ink[i], ink))
+            return true;
+    return false;
+}
+
+static char some_letter(void)
+{
+    return (char)chance_from(32, 126);
+}
+
+// A name by itself, or one of the list with its last letter gone, changed or doubled by a blank.
+static struct ink some_ink(const struct palette *palette)
+{
+    struct ink ink = {0};
+    if (palette->count > 0 && !one_in(3))
+        ink = palette->ink[chance_below(palette->count)];
+    switch (ink.length == 0 ? 0 : chance_from(1, 3)) {
+    case 1:
+        ink.length -= ink.length > 1;
+        break;
+    case 2:
+        ink.name[ink.length - 1] = some_letter();
+        break;
+    case 3:
+        if (ink.length < DV_LONGEST_NAME)
+            ink.name[ink.length++] = one_in(2) ? ' ' : some_letter();
+        break;
+    default:
+        ink.length = one_in(4) ? DV_LONGEST_NAME : chance_from(1, 9);
+        for (unsigned i = 0; i < ink.length; i++)
+            ink.name[i] = some_letter();
+    }
+    return ink;
+}
+
+void grow_palette(struct palette *palette, unsigned count)
+{
+    palette->count = 0;
+    while (palette->count < count) {
+        struct ink ink = some_ink(palette);
+        if (!lists(palette, &ink))
+            palette->ink[palette->count++] = ink;
+    }
+}
+
+void grow_family(struct family *family, unsigned colours, unsigned motifs, unsigned rules)
+{
+    grow_palette(&family->palette, colours);
+    family->motifs = motifs;
+    family->rules = 0;
+    while (family->rules < rules) {
+        if (family->rules > 0 && one_in(20)) {
+            struct rule again = family->rule[chance_below(family->rules)];
+            family->rule[family->rules++] = again;
+        } else if (one_in(3)) {
+            add_rule(family, chance_below(motifs), KIND_COLOUR, chance_below(colours), 0);
+        } else {
+            add_rule(family, chance_below(motifs), chance_from(KIND_ACROSS, KIND_DOWN), chance_below(motifs),
+                     chance_below(motifs));
+        }
+    }
+    // Most often a motif with rules of its own.
+    family->start = one_in(8) ? chance_below(motifs) : family->rule[chance_below(rules)].head;
+}
+
+void grow_some_family(struct family *family)
+{
+    switch (chance_below(16)) {
+    case 0:
+        grow_family(family, chance_from(1, DV_MOST_COLOURS), chance_from(1, DV_MOST_MOTIFS),
+                    chance_from(1, DV_MOST_RULES));
+        break;
+    case 1:
+    case 2:
+    case 3:
+        grow_family(family, chance_from(1, 8), chance_from(1, 12), chance_from(1, 40));
+        break;
+    default:
+        grow_family(family, chance_from(1, 3), chance_from(1, 5), chance_from(1, 20));
+    }
+}
+
+// Which motifs have some grid of each height and width.
+struct sizes {
+    uint32_t motifs[DV_MOST_ROWS + 1][DV_MOST_COLUMNS + 1];
+};
+
+// Whether the two parts of a piece of this size, cut at k, can have the rule's motifs.
+static bool parts_have(const struct sizes *sizes, struct rule rule, unsigned height, unsigned width, unsigned k)
+{
+    bool across = rule.kind == KIND_ACROSS;
+    uint32_t first = across ? sizes->motifs[height][k] : sizes->motifs[k][width];
+    uint32_t second = across ? sizes->motifs[height][width - k] : sizes->motifs[height - k][width];
+    return (first >> rule.first & 1) != 0 && (second >> rule.second & 1) != 0;
+}
+
+// The first k from a given one on at which the rule has a grid of this size: 0 for none. A colour rule has k 1.
+static unsigned next_cut(const struct sizes *sizes, struct rule rule, unsigned height, unsigned width, unsigned k)
+{
+    if (rule.kind == KIND_COLOUR)
+        return height == 1 && width == 1 && k == 1;
+    unsigned end = rule.kind == KIND_ACROSS ? width : height;
+    while (k < end && !parts_have(sizes, rule, height, width, k))
+        k++;
+    return k < end ? k : 0;
+}
+
+static void size_up(const struct family *family, struct sizes *sizes, unsigned rows, unsigned columns)
+{
+    memset(sizes, 0, sizeof *sizes);
+    for (unsigned height = 1; height <= rows; height++)
+        for (unsigned width = 1; width <= columns; width++)
+            for (unsigned i = 0; i < family->rules; i++)
+                if (next_cut(sizes, family->rule[i], height, width, 1) != 0)
+                    sizes->motifs[height][width] |= UINT32_C(1) << family->rule[i].head;
+}
+
+// Picks one of the rules and cuts at which the motif has a grid of this size, each as likely as another.
+static struct rule pick(const struct family *family, const struct sizes *sizes, unsigned motif, unsigned height,
+                        unsigned width, unsigned *cut)
+{
+    struct rule picked = {0, 0, 0, 0};
+    unsigned found = 0;
+    for (unsigned i = 0; i < family->rules; i++) {
+        if (family->rule[i].head != motif)
+            continue;
+        for (unsigned k = 0; (k = next_cut(sizes, family->rule[i], height, width, k + 1)) != 0;)
+            if (one_in(++found)) {
+                picked = family->rule[i];
+                *cut = k;
+            }
+    }
+    return picked;
+}
+
+static void grow_piece(const struct family *family, const struct sizes *sizes, struct grid *grid, unsigned motif,
+                       unsigned height, unsigned width, unsigned top, unsigned left)
+{
+    unsigned k = 0;
+    struct rule rule = pick(family, sizes, motif, height, width, &k);
+    if (rule.kind == KIND_COLOUR) {
+        grid->cell[top * grid->columns + left] = rule.first;
+    } else if (rule.kind == KIND_ACROSS) {
+        grow_piece(family, sizes, grid, rule.first, height, k, top, left);
+        grow_piece(family, sizes, grid, rule.second, height, width - k, top, left + k);
+    } else {
+        grow_piece(family, sizes, grid, rule.first, k, width, top, left);
+        grow_piece(family, sizes, grid, rule.second, height - k, width, top + k, left);
+    }
+}
+
+// Picks a size that the start has: the larger of a few, since small ones are the common ones.
+static bool pick_size(const struct family *family, const struct sizes *sizes, struct grid *grid, unsigned most_rows,
+                      unsigned most_columns)
+{
+    bool found = false;
+    for (unsigned tries = 0; tries < 40; tries++) {
+        unsigned rows = chance_from(1, most_rows), columns = chance_from(1, most_columns);
+        if (!(sizes->motifs[rows][columns] >> family->start & 1))
+            continue;
+        if (!found || rows * columns > grid->rows * grid->columns || one_in(8)) {
+            grid->rows = rows;
+            grid->columns = columns;
+        }
+        found = true;
+    }
+    return found;
+}
+
+bool grow_grid(const struct family *family, struct grid *grid, unsigned most_rows, unsigned most_columns)
+{
+    struct sizes sizes;
+    grid->palette = family->palette;
+    size_up(family, &sizes, most_rows, most_columns);
+    if (pick_size(family, &sizes, grid, most_rows, most_columns)) {
+        grow_piece(family, &sizes, grid, family->start, grid->rows, grid->columns, 0, 0);
+        return true;
+    }
+    grid->rows = chance_from(1, most_rows);
+    grid->columns = chance_from(1, most_columns);
+    for (unsigned i = 0; i < grid->rows * grid->columns; i++)
+        grid->cell[i] = chance_below(grid->palette.count);
+    return false;
+}
+
+static bool uses(const struct grid *grid, unsigned colour)
+{
+    for (unsigned i = 0; i < grid->rows * grid->columns; i++)
+        if (grid->cell[i] == colour)
+            return true;
+    return false;
+}
+
+void relist(struct grid *grid)
+{
+    struct palette old = grid->palette, *list = &grid->palette;
+    unsigned number[DV_MOST_COLOURS + 1], place[DV_MOST_COLOURS + 1], left = 0;
+    for (unsigned i = 0; i < old.count; i++)
+        if (uses(grid, i) || one_in(2))
+            place[left++] = i;
+    list->count = 0;
+    while (left > 0 || (list->count < DV_MOST_COLOURS && one_in(3))) {
+        if (left > 0 && !one_in(5)) {
+            unsigned i = chance_below(left);
+            number[place[i]] = list->count;
+            list->ink[list->count++] = old.ink[place[i]];
+            place[i] = place[--left];
+        } else if (list->count + left < DV_MOST_COLOURS) {
+            struct ink ink = some_ink(&old);
+            if (!lists(&old, &ink) && !lists(list, &ink))
+                list->ink[list->count++] = ink;
+        }
+    }
+    for (unsigned i = 0; i < grid->rows * grid->columns; i++)
+        grid->cell[i] = number[grid->cell[i]];
+}
+
+void spoil_cell(struct grid *grid)
+{
+    unsigned at = chance_below(grid->rows * grid->columns);
+    if (grid->palette.count > 1)
+        grid->cell[at] = (grid->cell[at] + chance_from(1, grid->palette.count - 1)) % grid->palette.count;
+}

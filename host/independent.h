@@ -1,0 +1,29 @@
+// A second engine, written from document 01 alone. It shares no code with the library and takes every call of
+// include/druvelstek.h under its own name; what is said there of each call holds here.
+#ifndef INDEPENDENT_H
+#define INDEPENDENT_H
+
+#include <stddef.h>
+#include <stdint.h>
+
+uint64_t independent_read_book(const uint8_t *book, size_t book_len);
+uint64_t independent_read_sheet(const uint8_t *sheet, size_t sheet_len);
+uint64_t independent_colour(const uint8_t *book, size_t book_len, size_t number);
+
+uint64_t independent_derive(const uint8_t *book, size_t book_len, const uint8_t *sheet, size_t sheet_len,
+                            uint32_t *work, size_t work_len, uint16_t *tree, size_t tree_len);
+
+uint64_t independent_either_of(const uint8_t *first, size_t first_len, const uint8_t *second, size_t second_len,
+                               uint8_t *out, size_t out_len);
+uint64_t independent_beside(const uint8_t *first, size_t first_len, const uint8_t *second, size_t second_len,
+                            uint8_t *out, size_t out_len);
+uint64_t independent_above(const uint8_t *first, size_t first_len, const uint8_t *second, size_t second_len,
+                           uint8_t *out, size_t out_len);
+
+uint64_t independent_run(const uint8_t *book, size_t book_len, uint8_t *out, size_t out_len);
+uint64_t independent_stack(const uint8_t *book, size_t book_len, uint8_t *out, size_t out_len);
+uint64_t independent_mirrored(const uint8_t *book, size_t book_len, uint8_t *out, size_t out_len);
+uint64_t independent_flipped(const uint8_t *book, size_t book_len, uint8_t *out, size_t out_len);
+uint64_t independent_transposed(const uint8_t *book, size_t book_len, uint8_t *out, size_t out_len);
+
+#endif

@@ -1,0 +1,176 @@
+// Reading of books and sheets, from the left to the first fault.
+#include "independent_read.h"
+
+#include <stdbool.h>
+#include <string.h>
+
+#include "independent.h"
+
+// The bytes, how far they are read, and the first fault.
+struct reader {
+    const uint8_t *bytes;
+    size_t length, at;
+    unsigned number;
+    size_t place;
+};
+
+uint64_t independent_answer(unsigned number, unsigned blamed, size_t place)
+{
+    return number | (uint64_t)blamed << 8 | (uint64_t)place << 12;
+}
+
+static bool refuse(struct reader *in, unsigned number, size_t place)
+{
+    in->number = number;
+    in->place = place;
+    return false;
+}
+
+// A number from least to most; outside these the refusal is the one given.
+static bool read_number(struct reader *in, unsigned least, unsigned most, unsigned refusal, unsigned *number)
+{
+    size_t place = in->at;
+    if (in->at == in->length)
+        return refuse(in, 1, in->length);
+    unsigned value = in->bytes[in->at++];
+    if (value > 127) {
+        if (in->at == in->length)
+            return refuse(in, 1, in->length);
+        unsigned high = in->bytes[in->at++];
+        if (high == 0 || high > 127)
+            return refuse(in, 2, place);
+        value = value - 128 + 128 * high;
+    }
+    if (value < least || value > most)
+        return refuse(in, refusal, place);
+    *number = value;
+    return true;
+}
+
+static bool read_range(struct reader *in, unsigned least, unsigned most, unsigned *number)
+{
+    return read_number(in, least, most, 3, number);
+}
+
+static bool read_below(struct reader *in, unsigned count, unsigned *number)
+{
+    return read_number(in, 0, count - 1, 6, number);
+}
+
+unsigned independent_colour_named(const struct colours *colours, struct name name)
+{
+    unsigned number = 0;
+    while (number < colours->count && (colours->name[number].length != name.length ||
+                                       memcmp(colours->name[number].bytes, name.bytes, name.length) != 0))
+        number++;
+    return number;
+}
+
+static bool read_name(struct reader *in, struct colours *colours)
+{
+    struct name name;
+    if (!read_range(in, 1, 40, &name.length))
+        return false;
+    size_t place = in->at;
+    name.bytes = in->bytes + place;
+    for (; in->at < place + name.length; in->at++) {
+        if (in->at == in->length)
+            return refuse(in, 1, in->length);
+        if (in->bytes[in->at] < 32 || in->bytes[in->at] > 126)
+            return refuse(in, 4, in->at);
+    }
+    if (independent_colour_named(colours, name) < colours->count)
+        return refuse(in, 5, place);
+    colours->name[colours->count++] = name;
+    return true;
+}
+
+static bool read_colours(struct reader *in, struct colours *colours)
+{
+    unsigned count;
+    colours->count = 0;
+    if (!read_range(in, 1, 64, &count))
+        return false;
+    while (colours->count < count)
+        if (!read_name(in, colours))
+            return false;
+    return true;
+}
+
+static bool read_rule(struct reader *in, const struct book *book, struct rule *rule)
+{
+    unsigned head, kind, first, second = 0;
+    if (!read_below(in, book->motifs, &head) || !read_number(in, 0, 2, 7, &kind))
+        return false;
+    if (kind == KIND_COLOUR) {
+        if (!read_below(in, book->colours.count, &first))
+            return false;
+    } else if (!read_below(in, book->motifs, &first) || !read_below(in, book->motifs, &second)) {
+        return false;
+    }
+    *rule = (struct rule){(uint8_t)head, (uint8_t)kind, (uint8_t)first, (uint8_t)second};
+    return true;
+}
+
+static bool at_end(struct reader *in)
+{
+    return in->at == in->length || refuse(in, 8, in->at);
+}
+
+static bool read_book(struct reader *in, struct book *book)
+{
+    if (!read_colours(in, &book->colours) || !read_range(in, 1, 32, &book->motifs) ||
+        !read_below(in, book->motifs, &book->start) || !read_range(in, 1, 200, &book->rules))
+        return false;
+    for (unsigned i = 0; i < book->rules; i++)
+        if (!read_rule(in, book, &book->rule[i]))
+            return false;
+    return at_end(in);
+}
+
+static bool read_sheet(struct reader *in, struct sheet *sheet)
+{
+    if (!read_colours(in, &sheet->colours) || !read_range(in, 1, 12, &sheet->rows) ||
+        !read_range(in, 1, 12, &sheet->columns))
+        return false;
+    for (unsigned i = 0; i < sheet->rows * sheet->columns; i++) {
+        unsigned colour;
+        if (!read_below(in, sheet->colours.count, &colour))
+            return false;
+        sheet->cell[i] = (uint8_t)colour;
+    }
+    return at_end(in);
+}
+
+uint64_t independent_book_of(struct book *book, const uint8_t *bytes, size_t length, unsigned blamed)
+{
+    struct reader in = {bytes, length, 0, 0, 0};
+    return read_book(&in, book) ? 0 : independent_answer(in.number, blamed, in.place);
+}
+
+uint64_t independent_sheet_of(struct sheet *sheet, const uint8_t *bytes, size_t length, unsigned blamed)
+{
+    struct reader in = {bytes, length, 0, 0, 0};
+    return read_sheet(&in, sheet) ? 0 : independent_answer(in.number, blamed, in.place);
+}
+
+uint64_t independent_read_book(const uint8_t *book, size_t book_len)
+{
+    struct book contents;
+    return independent_book_of(&contents, book, book_len, 1);
+}
+
+uint64_t independent_read_sheet(const uint8_t *sheet, size_t sheet_len)
+{
+    struct sheet contents;
+    return independent_sheet_of(&contents, sheet, sheet_len, 1);
+}
+
+uint64_t independent_colour(const uint8_t *book, size_t book_len, size_t number)
+{
+    struct book contents;
+    if (independent_book_of(&contents, book, book_len, 1) != 0 || number >= contents.colours.count)
+        return 0;
+    struct name name = contents.colours.name[number];
+    return (uint64_t)(name.bytes - book) | (uint64_t)name.length << 32;
+}

@@ -1,0 +1,50 @@
+// What the independent engine reads a book and a sheet into.
+#ifndef INDEPENDENT_READ_H
+#define INDEPENDENT_READ_H
+
+#include <stddef.h>
+#include <stdint.h>
+
+enum { KIND_COLOUR = 0, KIND_ACROSS = 1, KIND_DOWN = 2 };
+
+// A name is the part of the lent bytes that holds it.
+struct name {
+    const uint8_t *bytes;
+    unsigned length;
+};
+
+// Room for the lists of two books, so that a combination is made first and held to the limits after.
+struct colours {
+    unsigned count;
+    struct name name[2 * 64];
+};
+
+// A colour rule has its colour as first.
+struct rule {
+    uint8_t head, kind, first, second;
+};
+
+// Room for two books' rules and a copy of each, for the same reason, and for the rule of a new start.
+struct book {
+    struct colours colours;
+    unsigned motifs, start, rules;
+    struct rule rule[2 * (200 + 200) + 1];
+};
+
+struct sheet {
+    struct colours colours;
+    unsigned rows, columns;
+    uint8_t cell[12 * 12];
+};
+
+// An answer with no count.
+uint64_t independent_answer(unsigned number, unsigned blamed, size_t place);
+
+// The number of the colour with this name, or the list's count where it has none.
+unsigned independent_colour_named(const struct colours *colours, struct name name);
+
+// Each reads its input whole and answers 0, or 1 to 8 blaming the input of that number.
+uint64_t independent_book_of(struct book *book, const uint8_t *bytes, size_t length, unsigned blamed);
+uint64_t independent_sheet_of(struct sheet *sheet, const uint8_t *bytes, size_t length, unsigned blamed);
+
+#endif

@@ -1,0 +1,137 @@
+// Druvelstek: the C face of the verified library.
+//
+// A book is one family of layouts and a sheet is a grid of colours, both spelt as document 01 says. The library tells
+// whether the family derives the sheet, gives the table of pieces and one derivation, shows a colour's name, and makes
+// new books from lent ones. Each call is proved to keep what its comment says, on every input.
+//
+// What a caller sees to, for every call:
+// - A slice is a pointer and then its length, in elements. The pointer is valid for that many elements, and aligned for
+//   their type, until the call returns. An empty slice still wants a pointer that is not null.
+// - A slice that the call may write (work, tree, out) overlaps no other slice of the same call. Slices that are only
+//   read may overlap: the same book may be given twice.
+// Nothing is asked of what the slices hold. A call keeps no pointer, takes no memory but stack, and writes nothing but
+// what its comment names.
+#ifndef DRUVELSTEK_H
+#define DRUVELSTEK_H
+
+#include <stddef.h>
+#include <stdint.h>
+
+#ifdef __cplusplus
+extern "C" {
+#endif
+
+// The greatest sizes.
+#define DV_MOST_COLOURS 64
+#define DV_LONGEST_NAME 40
+#define DV_MOST_MOTIFS 32
+#define DV_MOST_RULES 200
+#define DV_MOST_ROWS 12
+#define DV_MOST_COLUMNS 12
+#define DV_LONGEST_BOOK 3429
+#define DV_LONGEST_SHEET 2771
+
+// Entries of the work slice for a sheet of so many rows and columns: one for each of its pieces.
+#define DV_WORK_ENTRIES(rows, columns) ((rows) * ((rows) + 1) / 2 * ((columns) * ((columns) + 1) / 2))
+// Entries of the tree slice: rule and k for each of its nodes.
+#define DV_TREE_ENTRIES(rows, columns) (2 * (2 * (rows) * (columns) - 1))
+// Enough for every sheet.
+#define DV_MOST_WORK DV_WORK_ENTRIES(DV_MOST_ROWS, DV_MOST_COLUMNS)
+#define DV_MOST_TREE DV_TREE_ENTRIES(DV_MOST_ROWS, DV_MOST_COLUMNS)
+
+// The answer numbers. 1 to 8 blame the input in which the fault stands, 1 the first and 2 the second, and have a place
+// in it, counted from 0. All others blame 0, with place 0.
+enum dv_answer_number {
+    DV_ACCEPTED = 0,
+    DV_ENDS_EARLY = 1,      // input ends inside or before something due; place: its length
+    DV_MISSPELT = 2,        // second byte of a number is 0 or above 127; place: number's first byte
+    DV_OUT_OF_RANGE = 3,    // a count, length, rows or columns outside its range; place: number's first byte
+    DV_NAME_BYTE = 4,       // name byte below 32 or above 126; place: that byte
+    DV_NAME_TWICE = 5,      // name already in this list; place: first byte of the later name
+    DV_NOT_BELOW_COUNT = 6, // motif or colour number not below its count; place: number's first byte
+    DV_NO_SUCH_KIND = 7,    // kind above 2; place: number's first byte
+    DV_BYTES_FOLLOW = 8,    // bytes follow the end; place: first such byte
+    DV_WORK_SHORT = 9,      // work slice shorter than needed
+    DV_TREE_SHORT = 10,     // tree slice shorter than needed
+    DV_NOT_DERIVED = 11,    // the start motif does not derive the sheet
+    DV_TOO_MANY = 12,       // a combination exceeds 64 colours, 32 motifs or 200 rules
+    DV_OUT_SHORT = 13,      // output slice shorter than the result
+    DV_NO_RULE_FITS = 14    // the start bit of the whole sheet is set, yet at some node of the tree no rule fits
+};
+
+// An answer is number + 2^8 * blamed + 2^12 * place + 2^32 * count; here it is taken apart. The count is the number of
+// bytes that a combination wrote, 0 on refusal and for every other call.
+static inline unsigned dv_number(uint64_t answer) { return (unsigned)(answer & 0xff); }
+static inline unsigned dv_blamed(uint64_t answer) { return (unsigned)(answer >> 8 & 0xf); }
+static inline size_t dv_place(uint64_t answer) { return (size_t)(answer >> 12 & 0xfffff); }
+static inline size_t dv_count(uint64_t answer) { return (size_t)(answer >> 32); }
+
+// Reads a book. Answers 0 when it is the spelling of a family's contents, and else 1 to 8, blaming 1, for the first
+// fault from the left.
+uint64_t dv_read_book(const uint8_t *book, size_t book_len);
+
+// Reads a sheet, and answers like dv_read_book.
+uint64_t dv_read_sheet(const uint8_t *sheet, size_t sheet_len);
+
+// Shows the name of a colour, numbered from 0, as the part of the lent book that holds it: place + 2^32 * length, which
+// dv_shown_place and dv_shown_length take apart. A refused book, or a number not below the count of colours, shows an
+// empty part, 0. No name is empty. This call alone has no answer number.
+uint64_t dv_colour(const uint8_t *book, size_t book_len, size_t number);
+
+static inline size_t dv_shown_place(uint64_t shown) { return (size_t)(shown & 0xffffffff); }
+static inline size_t dv_shown_length(uint64_t shown) { return (size_t)(shown >> 32); }
+
+// Decides whether the family derives the sheet of m rows and n columns. Answers, in this order: 1 to 8 blaming 1, the
+// book; 1 to 8 blaming 2, the sheet; 9; 10; 11; 14; 0.
+//
+// On 0, 11 and 14 the first DV_WORK_ENTRIES(m, n) entries of work hold the table of pieces: by height, then width, then
+// top row, then left column, each rising; bit A is set exactly when motif A derives that piece, other bits are clear.
+//
+// On 0 the first DV_TREE_ENTRIES(m, n) entries of tree hold the derivation: node first, then left or upper part, then
+// right or lower part, each node as its rule number and its k, the columns or rows of its first part (0 for a colour
+// rule). At each node stands the lowest-numbered rule that can derive the piece, for a join with the smallest k that
+// works. On 14 these entries are 0. Everything else in work and tree is unchanged.
+uint64_t dv_derive(const uint8_t *book, size_t book_len, const uint8_t *sheet, size_t sheet_len, uint32_t *work,
+                   size_t work_len, uint16_t *tree, size_t tree_len);
+
+// The eight combinations. Each answers, in this order: 1 to 8 blaming 1, the first book; 1 to 8 blaming 2, the second;
+// 12; 13; 0. On 0 the first dv_count bytes of out are the new book. Everything else in out is unchanged.
+//
+// F, the first book, has f motifs and start s; G, the second, has g motifs and start t. F's colours come first, then
+// those of G not in F by name, in G's order; G's colour numbers follow their names. G's motifs are raised by f.
+
+// The sheets of either family. New start f+g: F's rules, G's rules, copies of F's rules with head s, then of G's with
+// head t, copies taking the new head.
+uint64_t dv_either_of(const uint8_t *first, size_t first_len, const uint8_t *second, size_t second_len, uint8_t *out,
+                      size_t out_len);
+
+// A sheet of the first family with one of the second to its right. New start f+g: F's rules, G's rules, then new start
+// to s across raised t.
+uint64_t dv_beside(const uint8_t *first, size_t first_len, const uint8_t *second, size_t second_len, uint8_t *out,
+                   size_t out_len);
+
+// A sheet of the first family with one of the second below it. As dv_beside, with the last rule down.
+uint64_t dv_above(const uint8_t *first, size_t first_len, const uint8_t *second, size_t second_len, uint8_t *out,
+                  size_t out_len);
+
+// One or more sheets of the family, each to the right of the one before. New start f: F's rules, copies of those with
+// head s under the new head, then new start to s across new start.
+uint64_t dv_run(const uint8_t *book, size_t book_len, uint8_t *out, size_t out_len);
+
+// One or more sheets of the family, each below the one before. As dv_run, with the last rule down.
+uint64_t dv_stack(const uint8_t *book, size_t book_len, uint8_t *out, size_t out_len);
+
+// The family's sheets with left and right exchanged: exchanges the motifs of across rules. Nothing else changes.
+uint64_t dv_mirrored(const uint8_t *book, size_t book_len, uint8_t *out, size_t out_len);
+
+// The family's sheets with top and bottom exchanged: exchanges the motifs of down rules. Nothing else changes.
+uint64_t dv_flipped(const uint8_t *book, size_t book_len, uint8_t *out, size_t out_len);
+
+// The family's sheets with rows and columns exchanged: exchanges kinds 1 and 2. Nothing else changes.
+uint64_t dv_transposed(const uint8_t *book, size_t book_len, uint8_t *out, size_t out_len);
+
+#ifdef __cplusplus
+}
+#endif
+
+#endif
