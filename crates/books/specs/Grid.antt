@@ -6,6 +6,7 @@ use lib.ListN.{length, getD}
 use Rattle.names.specs.Name.{Name}
 use Rattle.names.specs.Spelling.{ColoursOk}
 use Rattle.books.specs.Picture.{Picture}
+use Rattle.books.specs.Size.{greatest}
 
 -- colour names in order, rows, columns, and a colour number for each cell, row by row
 pub record Grid : Type 0 where
@@ -17,9 +18,9 @@ pub record Grid : Type 0 where
 pub record GridKeeps (g : Grid) : Type 0 where
   pub colours-ok : ColoursOk (g .colours)
   pub rows-some : 1 ≤ g .rows
-  pub rows-few : g .rows ≤ 12
+  pub rows-few : g .rows ≤ greatest
   pub cols-some : 1 ≤ g .cols
-  pub cols-few : g .cols ≤ 12
+  pub cols-few : g .cols ≤ greatest
   pub cells-all : length (g .cells) ≡ g .rows * g .cols
   pub cells-fit : (i : ℕ) → i < length (g .cells) → getD (g .cells) i 0 < length (g .colours)
 

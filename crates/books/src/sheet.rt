@@ -16,7 +16,7 @@ pub struct Sheet {
     pub colours: Colours,
     pub rows: usize,
     pub cols: usize,
-    pub cells: [u8; 144],
+    pub cells: [u8; ROOM],
 }
 
 // A sheet that was read; a refused one has no colours, no rows, no columns, and cells 0.
