@@ -1,0 +1,31 @@
+-- A course passes the slots of the two parts of every cut, so that what is gathered along it is what the cuts of the piece give.
+use mathlib.Core.Path.{_≡_, ap₂}
+use mathlib.Core.List.{List}
+use Prim.Native.Nat.{ℕ, _+_, _-_, _<_}
+use native.Mathlib.Nat.{le-of-eq}
+use native.Mathlib.Omega.{arith}
+use lib.ListN.{length, getD, take, drop, length-drop}
+use lib.Seq.{take-all}
+use Rattle.books.specs.Picture.{Dir}
+use Rattle.pieces.specs.Pieces.{Inside, slotOf}
+use Rattle.pieces.specs.Parts.{extent, firstPart, restPart}
+use Rattle.pieces.specs.Course.{step, after, courseOf}
+use Rattle.pieces.specs.Joined.{gathered, joined, atCut, along}
+use Rattle.pieces.specs.Settled.{Plan, at, cutsOf}
+use Rattle.pieces.specs.declared.piece.Piece.{Piece}
+use Rattle.pieces.proofs.Courses.{course-at, course-on}
+use Rattle.pieces.proofs.Gathered.{gathered-same}
+
+pub along-cuts : (j : Plan) (t : List ℕ) (d : Dir) (p : Piece) → Inside (j .rows) (j .cols) p
+    → along t (j .masks d) (j .count d) (courseOf d (j .rows) (j .cols) p) ≡ cutsOf j t d p
+unfolding along cutsOf courseOf
+along-cuts j t d p i =
+    gathered-same (extent d p - 1) (atCut t (j .masks d) (j .count d) (courseOf d (j .rows) (j .cols) p)) _
+    (λ k h.
+    let a = course-at d (j .rows) (j .cols) p i k (omega arith) in
+    let b = course-on d (j .rows) (j .cols) p i k (omega arith) in
+    ap₂ (λ (x y : ℕ). joined (j .masks d) (j .count d) (getD t x 0) (getD t y 0)) (a .first) (b .second))
+
+-- A part of a slice that goes to its end is all that is left.
+pub tail-whole : (k : ℕ) (s : List ℕ) → take (length s - k) (drop k s) ≡ drop k s
+tail-whole k s = take-all (length s - k) (drop k s) (le-of-eq (length-drop k s))

@@ -1,0 +1,71 @@
+-- A bit of a gathering is a bit of one of its parts; a join fires exactly where both motifs are set, and then sets its head's bit alone.
+use mathlib.Core.Path.{_≡_, refl, ap₂, subst}
+use mathlib.Core.Logic.{⊎-elim}
+use mathlib.Core.Bool.{Bool}
+use Prim.Native.Nat.{ℕ, zero, suc, _+_, _^_, _≤_, _<_}
+use native.Mathlib.Omega.{arith}
+use native.Mathlib.Decide.{ℕ-discrete}
+use native.Mathlib.Numerals.{add-one}
+use lib.Bits.{bitAnd, bitOr, or-lt}
+use lib.Pow.{pow-pos, pow-lt}
+use borrow.Author.Tests.{eq-eqb, ne-eqb}
+use Rattle.pieces.specs.Table.{bit}
+use Rattle.pieces.specs.Joined.{firing, gathered}
+use Rattle.pieces.proofs.Bits.{none-set, or-split, or-left, or-right, bit-pow, pow-has, and-pow-zero, and-pow-some}
+
+pub gathered-next : (n : ℕ) (f : ℕ → ℕ) → gathered (n + 1) f ≡ bitOr (gathered n f) (f n)
+unfolding gathered
+gathered-next n f = rw add-one
+
+pub gathered-has : (n : ℕ) (f : ℕ → ℕ) (a : ℕ) → bit (gathered n f) a ≡ 1 → (i : ℕ) × (i < n) × (bit (f i) a ≡ 1)
+unfolding gathered
+gathered-has zero f a h = absurd (none-set a h)
+gathered-has (suc n) f a h = ⊎-elim (λ o. more (gathered-has n f a o)) (λ o. (n, omega arith, o)) (or-split (gathered n f) (f n) a h)
+  where
+    more : (i : ℕ) × (i < n) × (bit (f i) a ≡ 1) → (i : ℕ) × (i < suc n) × (bit (f i) a ≡ 1)
+    more w = let l : w .0 < n = w .1 in (w .0, omega arith, w .2)
+
+pub has-gathered : (n : ℕ) (f : ℕ → ℕ) (a i : ℕ) → i < n → bit (f i) a ≡ 1 → bit (gathered n f) a ≡ 1
+unfolding gathered
+has-gathered zero f a i l h = absurd (omega arith)
+has-gathered (suc n) f a i l h = go (λ k. has-gathered n f a i k h) (ℕ-discrete i n)
+  where
+    go : (i < n → bit (gathered n f) a ≡ 1) → Dec (i ≡ n) → bit (bitOr (gathered n f) (f n)) a ≡ 1
+    go ih (yes e) = or-right (gathered n f) (f n) a (subst (λ (k : ℕ). bit (f k) a ≡ 1) e h)
+    go ih (no ne) = or-left (gathered n f) (f n) a (ih (omega arith))
+
+pub gathered-same : (n : ℕ) (f g : ℕ → ℕ) → ((i : ℕ) → i < n → f i ≡ g i) → gathered n f ≡ gathered n g
+unfolding gathered
+gathered-same zero f g h = refl
+gathered-same (suc n) f g h = ap₂ bitOr (gathered-same n f g (λ i l. h i (omega arith))) (h n (omega arith))
+
+pub gathered-lt : (k n : ℕ) (f : ℕ → ℕ) → ((i : ℕ) → i < n → f i < 2 ^ k) → gathered n f < 2 ^ k
+unfolding gathered
+gathered-lt k zero f h = pow-pos k
+gathered-lt k (suc n) f h = or-lt k (gathered n f) (f n) (gathered-lt k n f (λ i l. h i (omega arith))) (h n (omega arith))
+
+-- ---- one join
+
+pub firing-has : (l r x y h a : ℕ) → bit (firing l r (2 ^ x) (2 ^ y) (2 ^ h)) a ≡ 1 → (a ≡ h) × (bit l x ≡ 1) × (bit r y ≡ 1)
+unfolding firing
+firing-has l r x y h a o = go (ℕ-discrete (bitAnd l (2 ^ x)) 0) (ℕ-discrete (bitAnd r (2 ^ y)) 0)
+  where
+    go : Dec (bitAnd l (2 ^ x) ≡ 0) → Dec (bitAnd r (2 ^ y) ≡ 0) → (a ≡ h) × (bit l x ≡ 1) × (bit r y ≡ 1)
+    go (yes p) q = absurd (none-set a (rw (eq-eqb (bitAnd l (2 ^ x)) 0 p) at o))
+    go (no p) (yes q) = absurd (none-set a (rw (ne-eqb (bitAnd l (2 ^ x)) 0 p, eq-eqb (bitAnd r (2 ^ y)) 0 q) at o))
+    go (no p) (no q) =
+        (pow-has h a (rw (ne-eqb (bitAnd l (2 ^ x)) 0 p, ne-eqb (bitAnd r (2 ^ y)) 0 q) at o), and-pow-some l x p, and-pow-some r y q)
+
+pub has-firing : (l r x y h : ℕ) → bit l x ≡ 1 → bit r y ≡ 1 → bit (firing l r (2 ^ x) (2 ^ y) (2 ^ h)) h ≡ 1
+unfolding firing
+has-firing l r x y h p q =
+    rw (ne-eqb (bitAnd l (2 ^ x)) 0 (λ z. and-pow-zero l x z p), ne-eqb (bitAnd r (2 ^ y)) 0 (λ z. and-pow-zero r y z q)) (bit-pow h)
+
+pub firing-lt : (k l r x y h : ℕ) → h < k → firing l r x y (2 ^ h) < 2 ^ k
+unfolding firing
+firing-lt k l r x y h i = go (ℕ-discrete (bitAnd l x) 0) (ℕ-discrete (bitAnd r y) 0)
+  where
+    go : Dec (bitAnd l x ≡ 0) → Dec (bitAnd r y ≡ 0) → firing l r x y (2 ^ h) < 2 ^ k
+    go (yes p) q = rw (eq-eqb (bitAnd l x) 0 p) (pow-pos k)
+    go (no p) (yes q) = rw (ne-eqb (bitAnd l x) 0 p, eq-eqb (bitAnd r y) 0 q) (pow-pos k)
+    go (no p) (no q) = rw (ne-eqb (bitAnd l x) 0 p, ne-eqb (bitAnd r y) 0 q) (pow-lt i)

@@ -1,0 +1,160 @@
+-- A work slice that holds the table shows exactly which motifs derive each piece, so that the start's bit at the whole sheet decides, and what the tree writer
+-- finds is the derivation given.
+use Prim.Native.Nat.{ℕ, _+_, _*_, _≤_, _<_}
+use mathlib.Core.Path.{_≡_, refl, sym, ap, _∙_, subst}
+use mathlib.Core.Bool.{Bool, true, false}
+use mathlib.Core.List.{List, _++_}
+use mathlib.Core.Logic.{⊎-elim}
+use mathlib.Core.Option.{Option, some, none}
+use native.Mathlib.Omega.{arith}
+use borrow.Author.Tests.{eqb-false}
+use lib.ListN.{length, getD, take, drop, length-append, length-drop, length-map}
+use lib.Seq.{take-at, take-all, length-take-le, getD-take}
+use Rattle.names.specs.Colours.{nameIn, namesIn, findName}
+use Rattle.names.specs.Name.{Name, place}
+use Rattle.names.proofs.Picking.{pick-ind}
+use Rattle.names.proofs.Tests.{lt-or-le}
+use Rattle.names.proofs.Finding.{find-place}
+use Rattle.names.proofs.ReadingColours.{names-count}
+use Rattle.names.proofs.SpellingNumbers.{Bytes}
+use Rattle.books.specs.Contents.{Contents}
+use Rattle.books.specs.Picture.{Picture}
+use Rattle.books.specs.Derives.{Derives}
+use Rattle.books.specs.Decide.{derives?}
+use Rattle.books.specs.Book.{bookOf}
+use Rattle.books.specs.Sheet.{sheetOf}
+use Rattle.books.specs.Answer.{plain}
+use Rattle.books.specs.Held.{contentsIn, gridIn}
+use Rattle.books.specs.Grid.{picture}
+use Rattle.books.specs.declared.family.Family.{Family}
+use Rattle.books.specs.declared.sheet.Sheet.{Sheet}
+use Rattle.books.proofs.Deciding.{decided, refused}
+use Rattle.books.proofs.ReadingBooks.{book-lies, book-accepted}
+use Rattle.books.proofs.ReadingSheets.{sheet-lies}
+use Rattle.books.proofs.SpellingSheets.{sheet-accepted}
+use Rattle.pieces.specs.declared.piece.Piece.{Piece}
+use Rattle.pieces.specs.Pieces.{piece, pieces, Inside, slotOf, total}
+use Rattle.pieces.specs.Area.{whole, treeSize}
+use Rattle.pieces.specs.Table.{bit, cut, entry, table}
+use Rattle.pieces.specs.View.{Exact, hasBit, seen}
+use Rattle.pieces.specs.Tree.{tree, treeOf}
+use Rattle.pieces.specs.Wrote.{found, outcome}
+use Rattle.pieces.specs.Painted.{AsRead}
+use Rattle.pieces.specs.Derivation.{Derivation, leaving, entriesNeeded, numbersNeeded, filled, Holds, treeAnswer, judged}
+use Rattle.pieces.proofs.Entries.{derives-entry}
+use Rattle.pieces.proofs.Slots.{length-pieces, slot-lt, getD-slot}
+use Rattle.pieces.proofs.CellsFirst.{cell-before}
+use Rattle.pieces.proofs.SettledTable.{getD-map}
+use Rattle.pieces.proofs.Cutting.{whole-inside, cut-whole}
+use Rattle.pieces.proofs.ExactViews.{seen-exact}
+use Rattle.pieces.proofs.TheTree.{exact-tree}
+use Rattle.pieces.proofs.WholeTable.{cell-name}
+
+-- a book and a sheet that are accepted are as reading gives them
+pub as-read : (book sheet : List ℕ) → Bytes book → Bytes sheet → bookOf book .fault .number ≡ 0 → sheetOf sheet .fault .number ≡ 0
+    → AsRead book (bookOf book .family) sheet (sheetOf sheet .sheet)
+as-read book sheet hb hs zb zs =
+    record {
+      book-keeps = book-accepted book hb zb .keeps;
+      rules-few = book-lies book zb .rules-few;
+      rules-size = book-lies book zb .rules-size;
+      sheet-keeps = sheet-accepted sheet hs zs .keeps;
+      area-few = sheet-lies sheet zs .area-few;
+    }
+
+-- ── A slice that holds the table ──
+
+table-length : (b : Contents) (p : Picture) → length (table b p) ≡ entriesNeeded p
+unfolding table
+table-length b p = length-map (pieces (p .rows) (p .cols)) (λ q. entry b (cut p q)) ∙ length-pieces (p .rows) (p .cols)
+
+pub filled-holds : (b : Contents) (p : Picture) (entries : List ℕ) → Holds b p (filled b p entries)
+filled-holds b p entries = record { held = take-at (table b p) (drop (entriesNeeded p) entries) (entriesNeeded p) (table-length b p) }
+
+pub filled-length : (b : Contents) (p : Picture) (entries : List ℕ) → entriesNeeded p ≤ length entries → length (filled b p entries) ≡ length entries
+filled-length b p entries h =
+    omega (arith, length-append (table b p) (drop (entriesNeeded p) entries), table-length b p, length-drop (entriesNeeded p) entries)
+
+module _ (b : Contents) (p : Picture) (work : List ℕ) (h : Holds b p work) where
+  pub held-long : entriesNeeded p ≤ length work
+  held-long =
+      ⊎-elim (λ (l : length work < entriesNeeded p). absurd (omega (arith, ap length (sym (take-all (entriesNeeded p) work (omega arith)) ∙ h .held), table-length b p)))
+      (λ (l : entriesNeeded p ≤ length work). l)
+      (lt-or-le (length work) (entriesNeeded p))
+
+  pub held-entry : (q : Piece) → Inside (p .rows) (p .cols) q → getD work (slotOf (p .rows) (p .cols) q) 0 ≡ entry b (cut p q)
+  unfolding table
+  held-entry q inq =
+      let slot = slotOf (p .rows) (p .cols) q in
+      let low : slot < total (p .rows) (p .cols) = slot-lt (p .rows) (p .cols) q inq in
+      sym (getD-take (entriesNeeded p) work slot 0 low)
+      ∙ (ap (λ (l : List ℕ). getD l slot 0) (h .held)
+      ∙ (getD-map (λ x. entry b (cut p x)) (pieces (p .rows) (p .cols)) slot q (omega (arith, length-pieces (p .rows) (p .cols)))
+      ∙ ap (λ (x : Piece). entry b (cut p x)) (getD-slot (p .rows) (p .cols) q inq q)))
+
+-- ── The tests that the code makes ──
+
+pub found-answer : (t : Option (List ℕ)) → found t ≡ true → plain 0 ≡ treeAnswer t
+found-answer (some xs) e = refl
+found-answer none e = let z : _≡_ {A = ℕ} 0 1 = cc in absurd (omega arith)
+
+pub lost-answer : (t : Option (List ℕ)) → found t ≡ false → plain 14 ≡ treeAnswer t
+lost-answer (some xs) e = let z : _≡_ {A = ℕ} 0 1 = cc in absurd (omega arith)
+lost-answer none e = refl
+
+-- judging leaves the table as it is
+pub judged-entries : (b : Contents) (p : Picture) (entries numbers : List ℕ) → entries ≡ judged b p entries numbers .entries
+unfolding judged
+judged-entries b p entries numbers = pick-ind (λ (d : Derivation). entries ≡ d .entries) (derives? b (b .start) p) _ _ (λ _. refl) (λ _. refl)
+
+-- the numbers of a sheet's cells in the book
+abbrev pub Numbered : List ℕ → Family → List ℕ → Sheet → List ℕ → Type 0
+Numbered book f bytes g numbers =
+    (i : ℕ) → i < g .rows * g .cols → getD numbers i 0 ≡ findName book (f .colours) (nameIn bytes (g .colours) (getD (g .cells) i 0))
+
+module _ {book : List ℕ} {f : Family} {bytes : List ℕ} {g : Sheet} (given : AsRead book f bytes g) (work : List ℕ)
+    (holds : Holds (contentsIn book f) (picture (gridIn bytes g)) work) where
+  abbrev b : Contents
+  b = contentsIn book f
+
+  abbrev p : Picture
+  p = picture (gridIn bytes g)
+
+  pub colours-few : f .colours .count ≤ 64
+  colours-few = omega (arith, given .book-keeps .colours-ok .few, names-count book (f .colours))
+
+  module _ (numbers : List ℕ) (numbered : Numbered book f bytes g numbers) where
+    exact : Exact b p (seen (g .rows) (g .cols) work numbers)
+    exact =
+        seen-exact b p (given .book-keeps .sound) (given .book-keeps .colours-ok .distinct) work numbers (held-entry b p work holds)
+        (λ i j hi hj. numbered (i * g .cols + j) (cell-before (g .rows) (g .cols) i j hi hj)
+        ∙ (find-place book (f .colours) _ colours-few ∙ ap (place (namesIn book (f .colours))) (sym (cell-name given i j hi hj))))
+
+    starts : hasBit (g .rows) (g .cols) work (f .start) (whole (g .rows) (g .cols)) ≡ true → Derives b (f .start) p
+    starts e =
+        let k = given .sheet-keeps in
+        subst (Derives b (f .start)) (cut-whole p) (exact .has-exact (f .start) (whole (g .rows) (g .cols)) (whole-inside (g .rows) (g .cols) (k .rows-some) (k .cols-some)) .0 e)
+
+    -- where the start has its bit, the tree that is found is the derivation given
+    pub judged-by-tree : (entries tree-slice : List ℕ) → hasBit (g .rows) (g .cols) work (f .start) (whole (g .rows) (g .cols)) ≡ true
+        → let t = treeOf (seen (g .rows) (g .cols) work numbers) (take (f .count) (f .rules)) (f .start) (whole (g .rows) (g .cols)) in
+        judged b p entries tree-slice ≡ record { answer = treeAnswer t; entries = entries; numbers = outcome (numbersNeeded p) tree-slice t }
+    unfolding judged
+    judged-by-tree entries tree-slice e =
+        let x = starts e in
+        simp (decided b (f .start) p .1 x, exact-tree b p (seen (g .rows) (g .cols) work numbers) exact x)
+
+  -- where it has not, the sheet is not derived
+  not-derived : hasBit (g .rows) (g .cols) work (f .start) (whole (g .rows) (g .cols)) ≡ false → Derives b (f .start) p → ⊥
+  unfolding hasBit
+  not-derived e x =
+      let k = given .sheet-keeps in
+      let sheet = whole (g .rows) (g .cols) in
+      let entered = held-entry b p work holds sheet (whole-inside (g .rows) (g .cols) (k .rows-some) (k .cols-some)) in
+      let set = derives-entry b (cut p sheet) (f .start) (given .book-keeps .sound .start-fits) (subst (Derives b (f .start)) (sym (cut-whole p)) x) in
+      eqb-false (bit (getD work (slotOf (g .rows) (g .cols) sheet) 0) (f .start)) 1 e (ap (λ (n : ℕ). bit n (f .start)) entered ∙ set)
+
+  pub judged-none : (entries tree-slice : List ℕ) → hasBit (g .rows) (g .cols) work (f .start) (whole (g .rows) (g .cols)) ≡ false
+      → judged b p entries tree-slice ≡ leaving (plain 11) entries tree-slice
+  unfolding judged
+  judged-none entries tree-slice e = simp (refused b (f .start) p .1 (not-derived e))

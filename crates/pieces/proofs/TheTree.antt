@@ -1,0 +1,79 @@
+-- The tree of a derived picture: it is the derivation given, and that is one list of 2(2mn - 1) small numbers, which exists exactly where the
+-- picture is derived. Any two exact views give the same tree, so that the code's table gives this one, and at no node of it a rule is missing.
+use Prim.Native.Nat.{ℕ, _+_, _-_, _*_, _≤_, _<_}
+use mathlib.Core.Path.{_≡_, refl, sym, _∙_, ap}
+use mathlib.Core.Bool.{Bool, true}
+use mathlib.Core.List.{List}
+use mathlib.Core.Logic.{_↔_}
+use mathlib.Core.Option.{Option, some, none}
+use native.Mathlib.Omega.{arith}
+use lib.ListN.{length}
+use Rattle.books.specs.Contents.{Contents}
+use Rattle.books.specs.Picture.{Picture}
+use Rattle.books.specs.Derives.{Derives}
+use Rattle.books.specs.Decide.{derives?}
+use Rattle.books.specs.declared.rule.Rule.{Rule}
+use Rattle.books.proofs.NothingEmpty.{derives-rows, derives-cols}
+use Rattle.pieces.specs.declared.piece.Piece.{Piece}
+use Rattle.pieces.specs.Pieces.{Inside}
+use Rattle.pieces.specs.Area.{whole, treeSize}
+use Rattle.pieces.specs.Table.{cut}
+use Rattle.pieces.specs.View.{View, Exact, named}
+use Rattle.pieces.specs.Given.{Given}
+use Rattle.pieces.specs.Tree.{treeOf, tree}
+use Rattle.pieces.specs.Wrote.{found}
+use Rattle.pieces.proofs.Cutting.{whole-inside, cut-whole}
+use Rattle.pieces.proofs.TreeSteps.{Each, Small, tree-length, tree-small}
+use Rattle.pieces.proofs.Giving.{given-unique, given-derives}
+use Rattle.pieces.proofs.TreeGiven.{piece-given}
+use Rattle.pieces.proofs.ExactViews.{named-exact}
+
+-- Where a motif derives the picture, an exact view's tree of the whole is the derivation given.
+whole-given : (b : Contents) (p : Picture) (v : View) → Exact b p v → (a : ℕ) → Derives b a p
+    → (xs : List ℕ) × (treeOf v (b .rules) a (whole (p .rows) (p .cols)) ≡ some xs) × Given b a p xs
+whole-given b p v exact a x =
+    let (xs, e, g) = piece-given b p v exact a (whole (p .rows) (p .cols)) (whole-inside _ _ (derives-rows x) (derives-cols x)) (rw (cut-whole p) x) in
+    (xs, e, rw (cut-whole p) at g)
+
+pub tree-given : (b : Contents) (p : Picture) → Derives b (b .start) p → (xs : List ℕ) × (tree b p ≡ some xs) × Given b (b .start) p xs
+tree-given b p x = whole-given b p _ (named-exact b p) (b .start) x
+
+-- The derivation given exists exactly where the motif derives the picture. That it is one is `given-unique`.
+pub given-exists : (b : Contents) (a : ℕ) (p : Picture) → ((xs : List ℕ) × Given b a p xs) ↔ Derives b a p
+given-exists b a p = (
+  λ g. given-derives (g .1),
+  λ x. let (xs, e, g) = whole-given b p _ (named-exact b p) a x in (xs, g),
+)
+
+-- An exact view gives the tree.
+pub exact-tree : (b : Contents) (p : Picture) (v : View) → Exact b p v → Derives b (b .start) p
+    → treeOf v (b .rules) (b .start) (whole (p .rows) (p .cols)) ≡ tree b p
+exact-tree b p v exact x =
+    let (xs, e, g) = whole-given b p v exact (b .start) x in
+    let (ys, f, h) = tree-given b p x in
+    e ∙ ap some (given-unique g h) ∙ sym f
+
+-- At no node of a derived picture a rule is missing.
+pub tree-found : (b : Contents) (p : Picture) → Derives b (b .start) p → found (tree b p) ≡ true
+tree-found b p x = let (xs, e, g) = tree-given b p x in ap found e
+
+-- What is true of every tree is true of the derivation given.
+every-given : (b : Contents) (a : ℕ) (p : Picture) (xs : List ℕ) (P : List ℕ → Type 0)
+    → ((v : View) → Inside (p .rows) (p .cols) (whole (p .rows) (p .cols)) → Each P (treeOf v (b .rules) a (whole (p .rows) (p .cols))))
+    → Given b a p xs → P xs
+every-given b a p xs P each g =
+    let x : Derives b a p = given-derives g in
+    let v : View = named b p (λ c q. derives? b c (cut p q)) in
+    let (ys, e, h) = whole-given b p v (named-exact b p) a x in
+    rw (given-unique g h) (rw e at (each v (whole-inside _ _ (derives-rows x) (derives-cols x))))
+
+pub given-length : (b : Contents) (a : ℕ) (p : Picture) (xs : List ℕ) → Given b a p xs → length xs ≡ 2 * (2 * (p .rows * p .cols) - 1)
+given-length b a p xs =
+    every-given b a p xs (λ l. length l ≡ treeSize (whole (p .rows) (p .cols)))
+    (λ v i. tree-length v (b .rules) (p .rows) (p .cols) a (whole (p .rows) (p .cols)) i)
+
+pub given-small : (b : Contents) (a : ℕ) (p : Picture) (xs : List ℕ) → length (b .rules) ≤ 65536 → p .rows ≤ 65536 → p .cols ≤ 65536
+    → Given b a p xs → Small 65536 xs
+given-small b a p xs hr hm hn =
+    every-given b a p xs (Small 65536)
+    (λ v i. tree-small v (b .rules) (p .rows) (p .cols) 65536 hr hm hn (omega arith) a (whole (p .rows) (p .cols)) i)

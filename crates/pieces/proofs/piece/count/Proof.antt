@@ -1,0 +1,36 @@
+-- A piece is a stretch of rows and a stretch of columns.
+use mathlib.Core.Path.{sym, ap₂, _∙_}
+use Prim.Native.Nat.{_*_}
+use Rattle.pieces.proofs.Stretches.{total-stretches}
+use borrow.Author.Needs.{needs}
+use Rattle.pieces.proofs.piece.count.Statement.{statement}
+use Rattle.pieces.proofs.piece.count.Tie as tie
+use Rattle.pieces.proofs.piece.count.Reads as reads
+use Rattle.pieces.proofs.piece.count.Lts as lts
+use Rattle.pieces.proofs.piece.stretches_of.Reads as stretches-of-reads
+use Rattle.pieces.proofs.piece.times.Reads as times-reads
+
+-- src/piece.rt:35:11
+stretches-of-requires : tie.Need-stretches-of-requires
+stretches-of-requires c κs = search needs
+
+-- src/piece.rt:35:31
+stretches-of-requires-2 : tie.Need-stretches-of-requires-2
+stretches-of-requires-2 c κs = search needs
+
+-- src/piece.rt:35:5
+times-requires : tie.Need-times-requires
+times-requires c κs = search needs
+
+-- src/piece.rt:31:1
+returns : tie.Need-returns
+returns c =
+    let a = c .before .before .before .args in (
+      c .times .ensures .0 ∙ ap₂ _*_ (c .before .before .stretches-of .ensures .0) (c .before .stretches-of2 .ensures .0)
+          ∙ sym (total-stretches (a .m) (a .n)),
+      c .times .ensures .1,
+    )
+
+pub count-spec : {M : Type 1} → statement M
+count-spec =
+    tie.close (tie.spec stretches-of-requires stretches-of-requires-2 times-requires returns)

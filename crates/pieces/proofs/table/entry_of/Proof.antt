@@ -1,0 +1,93 @@
+-- Along the two courses are all cuts of the piece.
+use mathlib.Core.Path.{sym, ap, ap₂, _∙_}
+use mathlib.Core.List.{List}
+use Prim.Native.Nat.{ℕ}
+use native.Mathlib.Omega.{arith}
+use lib.Bits.{bitOr}
+use lib.ListN.{length, drop, length-drop}
+use lib.Seq.{length-take-le}
+use Rattle.books.specs.Picture.{across, down}
+use Rattle.pieces.specs.Joined.{along}
+use Rattle.pieces.specs.Settled.{plan}
+use Rattle.pieces.specs.declared.course.Course.{Course}
+use Rattle.pieces.proofs.Courses.{course-runs}
+use Rattle.pieces.proofs.AllCuts.{along-cuts, tail-whole}
+use borrow.Author.Needs.{needs}
+use Rattle.pieces.proofs.table.entry_of.Statement.{statement}
+use Rattle.pieces.proofs.table.entry_of.Tie as tie
+use Rattle.pieces.proofs.table.entry_of.Reads as reads
+use Rattle.pieces.proofs.table.entry_of.Lts as lts
+use Rattle.pieces.proofs.course.across_course.Reads as across-course-reads
+use Rattle.pieces.proofs.course.down_course.Reads as down-course-reads
+use Rattle.pieces.proofs.table.join_along.Reads as join-along-reads
+
+-- src/table.rt:69:30
+slice-aggregate-join-along : tie.Need-slice-aggregate-join-along
+slice-aggregate-join-along c = let s = c .before .before .before in sym (length-take-le 600 (s .args .rules .now) (omega (arith, s .pre .1)))
+
+-- src/table.rt:69:59
+across-course-requires : tie.Need-across-course-requires
+across-course-requires c κs = search needs
+
+-- src/table.rt:69:9
+join-along-requires : tie.Need-join-along-requires
+join-along-requires c κs =
+    let s = c .before .before .before .before in (
+      rw (c .across-course .ensures) (course-runs across _ _ _ _ (s .pre .0 .0) (s .pre .0 .1) (s .pre .0 .3)),
+      length-take-le 600 (s .args .rules .now) (omega (arith, s .pre .1)),
+      s .pre .1 .1,
+    )
+
+-- src/table.rt:70:30
+sub-join-along : tie.Need-sub-join-along
+sub-join-along c = search needs
+
+-- src/table.rt:70:30
+part-join-along-start : tie.Need-part-join-along-start
+part-join-along-start c = search needs
+
+-- src/table.rt:70:30
+part-join-along-end : tie.Need-part-join-along-end
+part-join-along-end c = search needs
+
+-- src/table.rt:70:57
+down-course-requires : tie.Need-down-course-requires
+down-course-requires c κs = search needs
+
+-- src/table.rt:70:9
+join-along-requires-2 : tie.Need-join-along-requires-2
+join-along-requires-2 c κs =
+    let s = c .before .before .before .before .before .before .before in (
+      rw (c .down-course .ensures) (course-runs down _ _ _ _ (s .pre .0 .0) (s .pre .0 .1) (s .pre .0 .3)),
+      rw (tail-whole 600 (s .args .rules .now)) (omega (arith, length-drop 600 (s .args .rules .now), s .pre .1)),
+      s .pre .1 .2,
+    )
+
+-- src/table.rt:64:1
+returns : tie.Need-returns
+returns c =
+    let t = c .before .before .before in
+    let s = t .before .before .before .before .before in
+    let j = plan (s .args .m) (s .args .n) (s .args .rules .now) (s .args .joins) in
+    let w = s .args .work .now in
+    ap₂ bitOr
+    (t .join-along .ensures
+    ∙ ap (λ (x : Course). along w (j .masks across) (j .count across) x) (t .before .across-course .ensures)
+    ∙ along-cuts j w across (s .args .p) (s .pre .0 .1))
+    (c .join-along2 .ensures
+    ∙ ap₂ (λ (l : List ℕ) (x : Course). along w l (j .count down) x) (tail-whole 600 (s .args .rules .now)) (c .before .down-course .ensures)
+    ∙ along-cuts j w down (s .args .p) (s .pre .0 .1))
+
+pub entry-of-spec : {M : Type 1} → statement M
+entry-of-spec =
+    tie.close
+    (tie.spec
+    slice-aggregate-join-along
+    across-course-requires
+    join-along-requires
+    sub-join-along
+    part-join-along-start
+    part-join-along-end
+    down-course-requires
+    join-along-requires-2
+    returns)

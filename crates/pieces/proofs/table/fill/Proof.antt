@@ -1,0 +1,125 @@
+-- The table is settled slot by slot, from the last cell on.
+use mathlib.Core.Path.{sym}
+use Prim.Native.Nat.{_-_}
+use native.Mathlib.Nat.{lt-of-lt-of-le, le-of-eq}
+use native.Mathlib.Omega.{arith}
+use Rattle.pieces.specs.Settled.{plan}
+use Rattle.pieces.proofs.CellsFirst.{last-cell-inside}
+use Rattle.pieces.proofs.Settling.{Filling, filling-start, filling-step, filling-end}
+use borrow.Author.Needs.{needs}
+use Rattle.pieces.proofs.table.fill.Statement.{statement}
+use Rattle.pieces.proofs.table.fill.Tie as tie
+use Rattle.pieces.proofs.table.fill.Reads as reads
+use Rattle.pieces.proofs.table.fill.Lts as lts
+use Rattle.pieces.proofs.piece.count.Reads as count-reads
+use Rattle.pieces.proofs.piece.next.Reads as next-reads
+use Rattle.pieces.proofs.piece.times.Reads as times-reads
+use Rattle.pieces.proofs.table.entry_of.Reads as entry-of-reads
+
+abbrev Inv-loop : tie.InvT-loop
+Inv-loop work₀ rules joins m n end p₀ k₀ work p k = Filling (plan m n rules joins) work₀ work p k
+
+abbrev μ-loop : tie.MeasureT-loop
+μ-loop work₀ rules joins m n end p₀ k₀ work p k = end - k
+
+-- src/table.rt:80:9
+count-requires : tie.Need-count-requires Inv-loop μ-loop
+count-requires c κs = search needs
+
+-- src/table.rt:87:18
+sub-t10 : tie.Need-sub-t10 Inv-loop μ-loop
+sub-t10 c = search needs
+
+-- src/table.rt:88:19
+sub-t11 : tie.Need-sub-t11 Inv-loop μ-loop
+sub-t11 c = search needs
+
+-- src/table.rt:81:9
+next-requires : tie.Need-next-requires Inv-loop μ-loop
+next-requires c κs = let s = c .before .before .before in (s .pre .0 .0, last-cell-inside _ _ (s .pre .0 .0 .rows-some) (s .pre .0 .0 .cols-some))
+
+-- src/table.rt:91:9
+times-requires : tie.Need-times-requires Inv-loop μ-loop
+times-requires c κs = search needs
+
+-- src/table.rt:92:5
+loop-holds : tie.Need-loop-holds Inv-loop μ-loop
+loop-holds c =
+    let r = c .before .before .before .before .before .pre .0 .0 in
+    filling-start _ _ _ _ (r .rows-some) (r .cols-some) (c .times .ensures .0) (c .before .next .ensures)
+
+-- src/table.rt:93:13
+entry-of-requires : tie.Need-entry-of-requires Inv-loop μ-loop
+entry-of-requires c κs =
+    let t = c .before .before in
+    let s = t .before .before .before .before .before .before in
+    let f = t .loop .inv in
+    let less = lt-of-lt-of-le (c .before .loop-test .taken) (le-of-eq (t .before .before .before .count .ensures .0)) in
+    ((s .pre .0 .0, f .inside less, sym (f .here), omega (arith, f .sized, s .pre .0)), s .pre .1)
+
+-- src/table.rt:94:9
+mul-work : tie.Need-mul-work Inv-loop μ-loop
+mul-work c =
+    let t = c .before .before .before in
+    omega (arith, t .before .before .before .count .ensures, c .before .before .loop-test .taken)
+
+-- src/table.rt:94:9
+slice-write-work : tie.Need-slice-write-work Inv-loop μ-loop
+slice-write-work c =
+    let t = c .before .before .before in
+    let s = t .before .before .before .before .before .before in
+    omega (arith, t .loop .inv .sized, s .pre .0, t .before .before .before .count .ensures, c .before .before .loop-test .taken)
+
+-- src/table.rt:95:9
+next-requires-2 : tie.Need-next-requires-2 Inv-loop μ-loop
+next-requires-2 c κs =
+    let t = c .before .before .before in
+    let s = t .before .before .before .before .before .before in
+    let less = lt-of-lt-of-le (c .before .before .loop-test .taken) (le-of-eq (t .before .before .before .count .ensures .0)) in
+    (s .pre .0 .0, t .loop .inv .inside less)
+
+-- src/table.rt:96:9
+add-k : tie.Need-add-k Inv-loop μ-loop
+add-k c = search needs
+
+-- src/table.rt:92:5
+loop-less : tie.Need-loop-less Inv-loop μ-loop
+loop-less c = search needs
+
+-- src/table.rt:92:5
+loop-again : tie.Need-loop-again Inv-loop μ-loop
+loop-again c =
+    let t = c .before .before .before .before in
+    let s = t .before .before .before .before .before .before in
+    let less = lt-of-lt-of-le (c .before .before .before .loop-test .taken) (le-of-eq (t .before .before .before .count .ensures .0)) in
+    filling-step _ _ _ _ _ _ _ (t .loop .inv) less (s .pre .0 .1) (c .before .entry-of .ensures) (c .next2 .ensures)
+
+-- src/table.rt:75:1
+same-length : tie.Need-same-length Inv-loop μ-loop
+same-length c = c .before .loop .inv .sized
+
+-- src/table.rt:75:1
+returns : tie.Need-returns Inv-loop μ-loop
+returns c = filling-end _ _ _ _ _ (c .before .loop .inv) (omega (arith, c .loop-test .left, c .before .before .before .before .count .ensures .0))
+
+pub fill-spec : {M : Type 1} → statement M
+fill-spec =
+    tie.close
+    (tie.spec
+    Inv-loop
+    μ-loop
+    count-requires
+    sub-t10
+    sub-t11
+    next-requires
+    times-requires
+    loop-holds
+    entry-of-requires
+    mul-work
+    slice-write-work
+    next-requires-2
+    add-k
+    loop-less
+    loop-again
+    same-length
+    returns)

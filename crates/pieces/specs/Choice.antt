@@ -1,0 +1,58 @@
+-- What is taken at a piece and its motif: the lowest-numbered rule with that head that fits, and for a join the smallest cut that works.
+use Prim.Native.Nat.{ℕ, zero, suc, _-_}
+use mathlib.Core.Bool.{Bool, true, false}
+use mathlib.Core.List.{List}
+use lib.Dec.{eqb, ltb}
+use lib.ListN.{length, getD}
+use Rattle.names.specs.Pick.{pick}
+use Rattle.books.specs.Decide.{andThen}
+use Rattle.books.specs.declared.rule.Rule.{Rule}
+use Rattle.books.specs.declared.rule.Body.{Body}
+use Rattle.books.specs.declared.rule.Body.the-variants.{Colour, Across as AcrossBody, Down as DownBody}
+use Rattle.pieces.specs.declared.piece.Piece.{Piece}
+use Rattle.pieces.specs.declared.part.Direction.{Direction}
+use Rattle.pieces.specs.declared.part.Direction.the-variants.{Across, Down}
+use Rattle.pieces.specs.declared.choice.Choice.{Choice}
+use Rattle.pieces.specs.declared.choice.Choice.the-variants.{NoRule, Leaf, Join}
+use Rattle.pieces.specs.Direction.{reach, front, back}
+use Rattle.pieces.specs.Masks.{noRule}
+use Rattle.pieces.specs.View.{View}
+
+-- the least of n numbers from i on that a test accepts, or the number after them
+unfoldable pub least : (ℕ → Bool) → ℕ → ℕ → ℕ
+least t i zero = i
+least t i (suc n) = elim (t i) [ true ↦ i | false ↦ least t (suc i) n ]
+
+-- a cut works where both parts have their bits
+unfoldable pub works : (ℕ → Piece → Bool) → Direction → ℕ → ℕ → Piece → ℕ → Bool
+works has d l r q k = andThen (has l (front d k q)) (λ _. has r (back d k q))
+
+-- the smallest cut that works, or the piece's reach where none does
+unfoldable pub cutOf : (ℕ → Piece → Bool) → Direction → ℕ → ℕ → Piece → ℕ
+cutOf has d l r q = least (works has d l r q) 1 (reach d q - 1)
+
+-- whether a body fits a piece
+unfoldable pub fits : View → Piece → Body → Bool
+fits v q (Colour c) = andThen (eqb (q .height) 1) (λ _. andThen (eqb (q .width) 1) (λ _. v .paints c q))
+fits v q (AcrossBody l r) = ltb (cutOf (v .has) Across l r q) (q .width)
+fits v q (DownBody u w) = ltb (cutOf (v .has) Down u w q) (q .height)
+
+-- whether a rule has head a and fits
+unfoldable pub takes : View → ℕ → Piece → Rule → Bool
+takes v a q r = andThen (eqb (r .head) a) (λ _. fits v q (r .body))
+
+-- the lowest-numbered rule that is taken, or the rules' count where none is
+unfoldable pub taken : View → List Rule → ℕ → Piece → ℕ → Bool
+taken v rules a q i = takes v a q (getD rules i noRule)
+
+unfoldable pub lowest : View → List Rule → ℕ → Piece → ℕ
+lowest v rules a q = least (taken v rules a q) 0 (length rules)
+
+unfoldable pub chosen : View → Piece → ℕ → Body → Choice
+chosen v q i (Colour c) = Leaf i
+chosen v q i (AcrossBody l r) = Join i Across (cutOf (v .has) Across l r q) l r
+chosen v q i (DownBody u w) = Join i Down (cutOf (v .has) Down u w q) u w
+
+unfoldable pub choose : View → List Rule → ℕ → Piece → Choice
+choose v rules a q =
+    pick (ltb (lowest v rules a q) (length rules)) (chosen v q (lowest v rules a q) (getD rules (lowest v rules a q) noRule .body)) NoRule

@@ -1,0 +1,63 @@
+-- The course of the cuts of a piece: the slots of the two parts, carried from cut to cut by additions alone.
+use Prim.Native.Nat.{ℕ, zero, suc, _+_, _-_, _*_, _≤_, _<_, _^_}
+use Rattle.books.specs.Picture.{Dir, across, down}
+use Rattle.pieces.specs.Pieces.{stretches, slotOf}
+use Rattle.pieces.specs.Parts.{extent, firstPart}
+use Rattle.pieces.specs.declared.piece.Piece.{Piece}
+use Rattle.pieces.specs.declared.course.Course.{Course}
+
+-- from one cut to the next
+abbrev pub step : Course → Course
+step c =
+    record {
+      cuts = c .cuts;
+      first = c .first + c .rise;
+      rise = c .rise - c .change;
+      second = c .second - c .fall;
+      fall = c .fall + c .change;
+      change = c .change;
+    }
+
+unfoldable pub after : ℕ → Course → Course
+after zero c = c
+after (suc k) c = step (after k c)
+
+-- a step in numbers that fit
+pub record Steps (c : Course) : Type 0 where
+  pub climbs : c .first + c .rise < 2 ^ 32
+  pub slows : c .change ≤ c .rise
+  pub sinks : c .fall ≤ c .second
+  pub hastens : c .fall + c .change < 2 ^ 32
+
+-- a course that stays in a table of so many entries
+abbrev pub Runs : ℕ → Course → Type 0
+Runs len c = (k : ℕ) → k < c .cuts → Steps (after k c) × (after k c .first < len) × (step (after k c) .second < len)
+
+-- the cells of a sheet in a direction
+abbrev pub cells : Dir → ℕ → ℕ → ℕ
+cells across m n = n
+cells down m n = m
+
+-- by how much the steps change; by how much the first part's rise is less than so many changes; and the second part's fall
+abbrev pub change : Dir → ℕ → ℕ → Piece → ℕ
+change across m n p = m - (p .height - 1)
+change down m n p = stretches n n
+
+abbrev pub short : Dir → ℕ → Piece → ℕ
+short across n p = p .top
+short down n p = stretches n (p .width - 1)
+
+abbrev pub shorter : Dir → ℕ → Piece → ℕ
+shorter across n p = p .top + 1
+shorter down n p = stretches n (p .width - 1) + (n - (p .width - 1))
+
+unfoldable pub courseOf : Dir → ℕ → ℕ → Piece → Course
+courseOf d m n p =
+    record {
+      cuts = extent d p - 1;
+      first = slotOf m n (firstPart d 1 p);
+      rise = cells d m n * change d m n p - short d n p;
+      second = slotOf m n p;
+      fall = (cells d m n + 2 - extent d p) * change d m n p - shorter d n p;
+      change = change d m n p;
+    }

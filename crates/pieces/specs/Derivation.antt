@@ -1,0 +1,74 @@
+-- What asking for a derivation answers, and what it leaves in the two lent slices: `entries` for the table, `numbers` for the tree.
+use Prim.Native.Nat.{ℕ}
+use mathlib.Core.Path.{_≡_}
+use mathlib.Core.List.{List, _++_}
+use mathlib.Core.Option.{Option, some, none}
+use lib.Dec.{eqb, ltb}
+use lib.ListN.{length, take, drop}
+use Rattle.names.specs.Pick.{pick}
+use Rattle.books.specs.Contents.{Contents}
+use Rattle.books.specs.Picture.{Picture}
+use Rattle.books.specs.Grid.{picture}
+use Rattle.books.specs.Held.{contentsIn, gridIn}
+use Rattle.books.specs.Decide.{derives?}
+use Rattle.books.specs.Book.{bookOf}
+use Rattle.books.specs.Sheet.{sheetOf}
+use Rattle.books.specs.Answer.{plain, blaming}
+use Rattle.books.specs.declared.answer.Answer.{Answer}
+use Rattle.pieces.specs.Pieces.{total}
+use Rattle.pieces.specs.Area.{whole, treeSize}
+use Rattle.pieces.specs.Table.{table}
+use Rattle.pieces.specs.Tree.{tree}
+use Rattle.pieces.specs.Wrote.{outcome}
+
+pub record Derivation : Type 0 where
+  pub answer : Answer
+  pub entries : List ℕ
+  pub numbers : List ℕ
+
+-- an answer that leaves both slices as they are
+abbrev pub leaving : Answer → List ℕ → List ℕ → Derivation
+leaving a entries numbers = record { answer = a; entries = entries; numbers = numbers }
+
+-- the entries and the numbers that a picture needs
+abbrev pub entriesNeeded : Picture → ℕ
+entriesNeeded p = total (p .rows) (p .cols)
+
+abbrev pub numbersNeeded : Picture → ℕ
+numbersNeeded p = treeSize (whole (p .rows) (p .cols))
+
+-- the table, with the slice beyond as it was
+abbrev pub filled : Contents → Picture → List ℕ → List ℕ
+filled b p entries = table b p ++ drop (entriesNeeded p) entries
+
+-- a slice that holds the table
+pub record Holds (b : Contents) (p : Picture) (entries : List ℕ) : Type 0 where
+  pub held : take (entriesNeeded p) entries ≡ table b p
+
+-- there is a derivation, or at some node no rule fits
+abbrev pub treeAnswer : Option (List ℕ) → Answer
+treeAnswer (some xs) = plain 0
+treeAnswer none = plain 14
+
+-- with the table written: 11 where the start motif does not derive the picture, and else the derivation given
+unfoldable pub judged : Contents → Picture → List ℕ → List ℕ → Derivation
+judged b p entries numbers =
+    pick (derives? b (b .start) p)
+    (record { answer = treeAnswer (tree b p); entries = entries; numbers = outcome (numbersNeeded p) numbers (tree b p) })
+    (leaving (plain 11) entries numbers)
+
+-- 9 where the work slice is too short, 10 where the tree slice is
+unfoldable pub roomed : Contents → Picture → List ℕ → List ℕ → Derivation
+roomed b p entries numbers =
+    pick (ltb (length entries) (entriesNeeded p)) (leaving (plain 9) entries numbers)
+    (pick (ltb (length numbers) (numbersNeeded p)) (leaving (plain 10) entries numbers)
+    (judged b p (filled b p entries) numbers))
+
+-- the book's fault, then the sheet's
+unfoldable pub derivation : List ℕ → List ℕ → List ℕ → List ℕ → Derivation
+derivation book sheet entries numbers =
+    pick (eqb (bookOf book .fault .number) 0)
+    (pick (eqb (sheetOf sheet .fault .number) 0)
+    (roomed (contentsIn book (bookOf book .family)) (picture (gridIn sheet (sheetOf sheet .sheet))) entries numbers)
+    (leaving (blaming 2 (sheetOf sheet .fault)) entries numbers))
+    (leaving (blaming 1 (bookOf book .fault)) entries numbers)

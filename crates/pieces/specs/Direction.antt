@@ -1,0 +1,20 @@
+-- The direction of a join in the code, and the two parts that its cut makes of a piece.
+use Prim.Native.Nat.{ℕ}
+use Rattle.books.specs.Picture.{Dir, across, down}
+use Rattle.pieces.specs.declared.piece.Piece.{Piece}
+use Rattle.pieces.specs.declared.part.Direction.{Direction}
+use Rattle.pieces.specs.declared.part.Direction.the-variants.{Across, Down}
+use Rattle.pieces.specs.Parts.{extent, firstPart, restPart}
+
+abbrev pub dirOf : Direction → Dir
+dirOf Across = across
+dirOf Down = down
+
+unfoldable pub reach : Direction → Piece → ℕ
+reach d q = extent (dirOf d) q
+
+unfoldable pub front : Direction → ℕ → Piece → Piece
+front d k q = firstPart (dirOf d) k q
+
+unfoldable pub back : Direction → ℕ → Piece → Piece
+back d k q = restPart (dirOf d) k q

@@ -1,0 +1,17 @@
+pub mod Pieces
+pub mod Parts
+pub mod Course
+pub mod Joined
+pub mod Settled
+pub mod Masks
+pub mod Painted
+pub mod Table
+pub mod Direction
+pub mod Area
+pub mod Row
+pub mod View
+pub mod Given
+pub mod Choice
+pub mod Tree
+pub mod Wrote
+pub mod Derivation

@@ -1,0 +1,20 @@
+-- The two parts of a piece that a cut makes, across or down.
+use Prim.Native.Nat.{ℕ, _+_, _-_}
+use Rattle.books.specs.Picture.{Dir, across, down}
+use Rattle.pieces.specs.Pieces.{piece}
+use Rattle.pieces.specs.declared.piece.Piece.{Piece}
+
+-- how far a piece reaches in a direction: its columns, or its rows
+abbrev pub extent : Dir → Piece → ℕ
+extent across p = p .width
+extent down p = p .height
+
+-- its first k columns, or rows, ...
+abbrev pub firstPart : Dir → ℕ → Piece → Piece
+firstPart across k p = piece (p .height) k (p .top) (p .left)
+firstPart down k p = piece k (p .width) (p .top) (p .left)
+
+-- ... and the rest
+abbrev pub restPart : Dir → ℕ → Piece → Piece
+restPart across k p = piece (p .height) (p .width - k) (p .top) (p .left + k)
+restPart down k p = piece (p .height - k) (p .width) (p .top + k) (p .left)

@@ -1,0 +1,51 @@
+-- The recurrence of the table: each entry is made of the entries of the parts.
+use Prim.Native.Nat.{ℕ, _+_, _-_, _*_, _≤_, _<_}
+use mathlib.Core.Path.{_≡_}
+use mathlib.Core.List.{List}
+use lib.Bits.{bitOr}
+use lib.ListN.{getD, take, drop}
+use Rattle.books.specs.Picture.{Dir, across, down}
+use Rattle.pieces.specs.Pieces.{Inside, total, slotOf}
+use Rattle.pieces.specs.Parts.{extent, firstPart, restPart}
+use Rattle.pieces.specs.Joined.{gathered, joined}
+use Rattle.pieces.specs.declared.piece.Piece.{Piece}
+use Rattle.pieces.specs.declared.masks.Joins.{Joins}
+
+-- a sheet's rows and columns, and for each direction the masks of the joins and their number
+pub record Plan : Type 0 where
+  pub rows : ℕ
+  pub cols : ℕ
+  pub masks : Dir → List ℕ
+  pub count : Dir → ℕ
+
+abbrev pub masksOf : List ℕ → Dir → List ℕ
+masksOf rules across = take 600 rules
+masksOf rules down = drop 600 rules
+
+abbrev pub countOf : Joins → Dir → ℕ
+countOf j across = j .across
+countOf j down = j .down
+
+abbrev pub plan : ℕ → ℕ → List ℕ → Joins → Plan
+plan m n rules j = record { rows = m; cols = n; masks = masksOf rules; count = countOf j }
+
+-- the entry of a piece in the table t
+abbrev pub at : Plan → List ℕ → Piece → ℕ
+at j t p = getD t (slotOf (j .rows) (j .cols) p) 0
+
+-- what the cuts of a piece in one direction give
+unfoldable pub cutsOf : Plan → List ℕ → Dir → Piece → ℕ
+cutsOf j t d p =
+    gathered (extent d p - 1) (λ k. joined (j .masks d) (j .count d) (at j t (firstPart d (k + 1) p)) (at j t (restPart d (k + 1) p)))
+
+-- the pieces of more than one cell whose slots are below k have what their cuts give
+abbrev pub Settled : Plan → ℕ → List ℕ → Type 0
+Settled j k t =
+    (p : Piece) → Inside (j .rows) (j .cols) p → 2 < p .height + p .width → slotOf (j .rows) (j .cols) p < k
+    → at j t p ≡ bitOr (cutsOf j t across p) (cutsOf j t down p)
+
+-- a table that was filled: settled, with the cells, which stand first, and what lies beyond as they were
+pub record Filled (j : Plan) (before after : List ℕ) : Type 0 where
+  pub settled : Settled j (total (j .rows) (j .cols)) after
+  pub cells : (i : ℕ) → i < j .rows * j .cols → getD after i 0 ≡ getD before i 0
+  pub rest : (i : ℕ) → total (j .rows) (j .cols) ≤ i → getD after i 0 ≡ getD before i 0

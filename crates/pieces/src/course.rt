@@ -1,0 +1,71 @@
+// How the slots of the two parts of a piece run from cut to cut, so that no cut has to work them out anew.
+use crate::piece;
+use crate::piece::Piece;
+ghost use mathlib.Core.Path.{_≡_};
+ghost use Rattle.books.specs.Picture.{across, down};
+ghost use Rattle.pieces.specs.Pieces.{Inside, Room, slotOf};
+ghost use Rattle.pieces.specs.Course.{step, Steps, courseOf};
+
+// The first part's slot rises, each time by less, and the second part's falls, each time by more; both steps change by one number.
+// `second` is a cut behind: before the first cut it is the slot of the whole piece.
+pub struct Course {
+    pub cuts: usize,
+    pub first: usize,
+    pub rise: usize,
+    pub second: usize,
+    pub fall: usize,
+    pub change: usize,
+}
+
+// From one cut to the next.
+pub fn next_cut(c: Course) -> Course
+    requires { ⌜ Steps c ⌝ }
+    ensures { λ r. ⌜ r ≡ step c ⌝ }
+{
+    Course {
+        cuts: c.cuts,
+        first: c.first + c.rise,
+        rise: c.rise - c.change,
+        second: c.second - c.fall,
+        fall: c.fall + c.change,
+        change: c.change,
+    }
+}
+
+// The course of the across cuts of a piece in a slot.
+pub fn across_course(m: usize, n: usize, p: Piece, slot: usize) -> Course
+    requires { ⌜ Room m n × Inside m n p × (slot ≡ slotOf m n p) ⌝ }
+    ensures { λ r. ⌜ r ≡ courseOf across m n p ⌝ }
+{
+    let places = m - (p.height - 1);
+    let flatter = piece::times(
+        piece::stretches_of(m, p.height - 1),
+        piece::stretches_of(n, n),
+    );
+    Course {
+        cuts: p.width - 1,
+        first: flatter + (piece::times(p.top, n) + p.left),
+        rise: piece::times(n, places) - p.top,
+        second: slot,
+        fall: piece::times(n + 2 - p.width, places) - (p.top + 1),
+        change: places,
+    }
+}
+
+// The course of the down cuts of a piece in a slot.
+pub fn down_course(m: usize, n: usize, p: Piece, slot: usize) -> Course
+    requires { ⌜ Room m n × Inside m n p × (slot ≡ slotOf m n p) ⌝ }
+    ensures { λ r. ⌜ r ≡ courseOf down m n p ⌝ }
+{
+    let all = piece::stretches_of(n, n);
+    let narrower = piece::stretches_of(n, p.width - 1);
+    let places = n - (p.width - 1);
+    Course {
+        cuts: p.height - 1,
+        first: piece::times(m, narrower) + (piece::times(p.top, places) + p.left),
+        rise: piece::times(m, all) - narrower,
+        second: slot,
+        fall: piece::times(m + 2 - p.height, all) - (narrower + places),
+        change: all,
+    }
+}

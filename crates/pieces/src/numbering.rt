@@ -1,0 +1,40 @@
+// The colours of a sheet's cells, by their numbers in the book.
+use books::sheet::Sheet;
+use names::colours;
+use names::colours::Colours;
+use names::name;
+ghost use mathlib.Core.Path.{_≡_};
+ghost use Prim.Native.Nat.{ℕ, _≤_, _<_};
+ghost use lib.ListN.{length, getD};
+ghost use Rattle.names.specs.Colours.{nameIn, findName};
+
+// The number of one cell's colour in the book, or the count of the book's colours where it has no such colour.
+fn number_of(book: &[u8], c: Colours, sheet: &[u8], g: Sheet, i: usize) -> u8
+    requires { ⌜ (c .count ≤ 64) × (i < 144) × (getD (g .cells) i 0 < 64) ⌝ }
+    ensures { λ r. ⌜ r ≡ findName (now (book .entry)) c (nameIn (now (sheet .entry)) (g .colours) (getD (g .cells) i 0)) ⌝ }
+{
+    let colour = g.cells[i] as usize;
+    let d = g.colours;
+    let start = d.starts[colour] as usize;
+    let len = d.lens[colour] as usize;
+    colours::find_name(book, c, name::tail(sheet, start), len) as u8
+}
+
+// The numbers of the first so many cells.
+pub fn number_cells(
+    book: &[u8],
+    c: Colours,
+    sheet: &[u8],
+    g: Sheet,
+    count: usize,
+    numbers: &mut [u8],
+)
+    requires { ⌜ (c .count ≤ 64) × (count ≤ 144) × (count ≤ length (now numbers)) × ((i : ℕ) → i < count → getD (g .cells) i 0 < 64) ⌝ }
+    ensures { λ _. ⌜ ((i : ℕ) → i < count → getD (now (numbers .exit)) i 0 ≡ findName (now (book .entry)) c (nameIn (now (sheet .entry)) (g .colours) (getD (g .cells) i 0))) ⌝ }
+{
+    let mut i = 0;
+    while i < count {
+        numbers[i] = number_of(book, c, sheet, g, i);
+        i += 1;
+    }
+}

@@ -1,0 +1,85 @@
+// A piece of a sheet, and its place in the table.
+ghost use mathlib.Core.Path.{_≡_};
+ghost use Prim.Native.Nat.{_*_, _≤_, _<_};
+ghost use Rattle.pieces.specs.Pieces.{Inside, Room, stretches, total, slotOf, NextTo};
+
+// So many rows and columns, from a top row and a left column on.
+pub struct Piece {
+    pub height: usize,
+    pub width: usize,
+    pub top: usize,
+    pub left: usize,
+}
+
+// A product of two small numbers.
+pub fn times(a: usize, b: usize) -> usize
+    requires { ⌜ (a ≤ 600) × (b ≤ 600) ⌝ }
+    ensures { λ r. ⌜ (r ≡ a * b) × (r ≤ 360000) ⌝ }
+{
+    a * b
+}
+
+// The stretches of at most k cells in a row of n cells.
+pub fn stretches_of(n: usize, k: usize) -> usize
+    requires { ⌜ (n ≤ 24) × (k ≤ n) ⌝ }
+    ensures { λ r. ⌜ (r ≡ stretches n k) × (r ≤ 576) ⌝ }
+{
+    times(k, 2 * n + 1 - k) / 2
+}
+
+// The number of pieces of a sheet.
+pub fn count(m: usize, n: usize) -> usize
+    requires { ⌜ Room m n ⌝ }
+    ensures { λ r. ⌜ (r ≡ total m n) × (r ≤ 360000) ⌝ }
+{
+    times(stretches_of(m, m), stretches_of(n, n))
+}
+
+// Where the table has a piece.
+pub fn slot(m: usize, n: usize, p: Piece) -> usize
+    requires { ⌜ Room m n × Inside m n p ⌝ }
+    ensures { λ r. ⌜ (r ≡ slotOf m n p) × (r < total m n) ⌝ }
+{
+    let u = p.height - 1;
+    let v = p.width - 1;
+    let flatter = times(stretches_of(m, u), stretches_of(n, n));
+    let narrower = times(m - u, stretches_of(n, v));
+    flatter + (narrower + (times(p.top, n - v) + p.left))
+}
+
+// The piece after p in the table.
+pub fn next(m: usize, n: usize, p: Piece) -> Piece
+    requires { ⌜ Room m n × Inside m n p ⌝ }
+    ensures { λ r. ⌜ NextTo m n p r ⌝ }
+{
+    if p.left + p.width < n {
+        return Piece {
+            height: p.height,
+            width: p.width,
+            top: p.top,
+            left: p.left + 1,
+        };
+    }
+    if p.top + p.height < m {
+        return Piece {
+            height: p.height,
+            width: p.width,
+            top: p.top + 1,
+            left: 0,
+        };
+    }
+    if p.width < n {
+        return Piece {
+            height: p.height,
+            width: p.width + 1,
+            top: 0,
+            left: 0,
+        };
+    }
+    Piece {
+        height: p.height + 1,
+        width: 1,
+        top: 0,
+        left: 0,
+    }
+}

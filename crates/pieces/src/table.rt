@@ -1,0 +1,136 @@
+// The table is filled by slots rising: the parts of a piece have smaller slots than the piece.
+use crate::cells;
+use crate::course;
+use crate::course::Course;
+use crate::masks;
+use crate::masks::Joins;
+use crate::piece;
+use crate::piece::Piece;
+use books::family::Family;
+use books::sheet::Sheet;
+ghost use mathlib.Core.Path.{_≡_};
+ghost use Prim.Native.Nat.{_≤_, _<_, _*_};
+ghost use lib.Bits.{bitOr};
+ghost use lib.ListN.{length, drop};
+ghost use mathlib.Core.List.{_++_};
+ghost use Rattle.books.specs.Grid.{picture};
+ghost use Rattle.books.specs.Held.{contentsIn, gridIn};
+ghost use Rattle.books.specs.Picture.{across, down};
+ghost use Rattle.pieces.specs.Pieces.{Inside, Room, slotOf, total};
+ghost use Rattle.pieces.specs.Course.{Runs};
+ghost use Rattle.pieces.specs.Joined.{firing, joined, along};
+ghost use Rattle.pieces.specs.Painted.{AsRead};
+ghost use Rattle.pieces.specs.Table.{table};
+ghost use Rattle.pieces.specs.Settled.{plan, cutsOf, Filled};
+
+// One join at one cut.
+fn fired(l: u32, r: u32, first: u32, second: u32, head: u32) -> u32
+    ensures { λ x. ⌜ x ≡ firing l r first second head ⌝ }
+{
+    if l & first == 0 {
+        return 0;
+    }
+    if r & second == 0 {
+        return 0;
+    }
+    head
+}
+
+// Every join of one direction at one cut: no branch on the kind of a rule, so that the loop can run on several joins at a time.
+fn join(masks: &[u32], count: usize, l: u32, r: u32) -> u32
+    requires { ⌜ (length (now masks) ≡ 600) × (count ≤ 200) ⌝ }
+    ensures { λ x. ⌜ x ≡ joined (now (masks .entry)) count l r ⌝ }
+{
+    let mut acc = 0u32;
+    let mut i = 0;
+    while i < count {
+        acc |= fired(l, r, masks[i], masks[200 + i], masks[400 + i]);
+        i += 1;
+    }
+    acc
+}
+
+// Every join of one direction at every cut of a piece.
+fn join_along(work: &[u32], masks: &[u32], count: usize, course: Course) -> u32
+    requires { ⌜ Runs (length (now work)) course × (length (now masks) ≡ 600) × (count ≤ 200) ⌝ }
+    ensures { λ x. ⌜ x ≡ along (now (work .entry)) (now (masks .entry)) count course ⌝ }
+{
+    let mut acc = 0u32;
+    let mut c = course;
+    let mut k = 0;
+    let cuts = course.cuts;
+    while k < cuts {
+        let a = c.first;
+        c = course::next_cut(c);
+        let b = c.second;
+        acc |= join(masks, count, work[a], work[b]);
+        k += 1;
+    }
+    acc
+}
+
+// The entry of a piece of more than one cell, from the entries of its parts.
+fn entry_of(
+    work: &[u32],
+    rules: &[u32],
+    joins: Joins,
+    m: usize,
+    n: usize,
+    p: Piece,
+    slot: usize,
+) -> u32
+    requires { ⌜ Room m n × Inside m n p × (slot ≡ slotOf m n p) × (total m n ≤ length (now work)) ⌝ }
+    requires { ⌜ (length (now rules) ≡ 1200) × (joins .across ≤ 200) × (joins .down ≤ 200) ⌝ }
+    ensures { λ x. ⌜ x ≡ bitOr (cutsOf (plan m n (now (rules .entry)) joins) (now (work .entry)) across p) (cutsOf (plan m n (now (rules .entry)) joins) (now (work .entry)) down p) ⌝ }
+{
+    let a = join_along(
+        work,
+        &rules[..600],
+        joins.across,
+        course::across_course(m, n, p, slot),
+    );
+    let d = join_along(
+        work,
+        &rules[600..],
+        joins.down,
+        course::down_course(m, n, p, slot),
+    );
+    a | d
+}
+
+// Every entry of a table that begins with those of the cells.
+pub fn fill(work: &mut [u32], rules: &[u32], joins: Joins, m: usize, n: usize)
+    requires { ⌜ Room m n × (total m n ≤ length (now work)) ⌝ }
+    requires { ⌜ (length (now rules) ≡ 1200) × (joins .across ≤ 200) × (joins .down ≤ 200) ⌝ }
+    ensures { λ _. ⌜ Filled (plan m n (now (rules .entry)) joins) (now (work .entry)) (now (work .exit)) ⌝ }
+{
+    let end = piece::count(m, n);
+    let mut p = piece::next(
+        m,
+        n,
+        Piece {
+            height: 1,
+            width: 1,
+            top: m - 1,
+            left: n - 1,
+        },
+    );
+    let mut k = piece::times(m, n);
+    while k < end {
+        let e = entry_of(work, rules, joins, m, n, p, k);
+        work[k] = e;
+        p = piece::next(m, n, p);
+        k += 1;
+    }
+}
+
+// The table of a sheet for a book, as document 01 sets it out. A call that read both hands them on, so that they are as reading gives them.
+pub fn fill_table(book: &[u8], f: Family, bytes: &[u8], g: Sheet, work: &mut [u32])
+    requires { ⌜ AsRead (now book) f (now bytes) g × (total (g .rows) (g .cols) ≤ length (now work)) ⌝ }
+    ensures { λ _. ⌜ now (work .exit) ≡ table (contentsIn (now (book .entry)) f) (picture (gridIn (now (bytes .entry)) g)) ++ drop (total (g .rows) (g .cols)) (now (work .entry)) ⌝ }
+{
+    cells::begin(book, f, bytes, g, work);
+    let mut rules = [0u32; 1200];
+    let joins = masks::split(f, &mut rules);
+    fill(work, &rules, joins, g.rows, g.cols);
+}
