@@ -26,7 +26,7 @@ blame-requires c κs = search needs
 
 -- src/derive.rt:88:9
 returns : tie.Need-returns
-returns c = 
+returns c =
     let a = c .before .before .before .before .before .before .before .before .before .args in
     let read = c .before .before .before .before .read-book .ensures in
     rw (book-first (now (a .book)) (now (a .sheet)) (now (a .work)) (now (a .tree)) (rw read at (c .before .if1 .taken)))
@@ -42,7 +42,7 @@ blame-requires-2 c κs = search needs
 
 -- src/derive.rt:93:9
 returns-2 : tie.Need-returns-2
-returns-2 c = 
+returns-2 c =
     let a = c .before .before .before .before .before .before .before .before .before .before .before .before .before .args in
     let read = c .before .before .before .before .before .before .before .before .read-book .ensures in
     let read2 = c .before .before .before .before .read-sheet .ensures in
@@ -51,7 +51,7 @@ returns-2 c =
 
 -- src/derive.rt:97:5
 fill-and-judge-requires : tie.Need-fill-and-judge-requires
-fill-and-judge-requires c κs = 
+fill-and-judge-requires c κs =
     let a = c .before .before .before .before .before .before .before .before .before .before .before .before .before .before .before .before .args in
     let book = now (a .book) in
     let sheet = now (a .sheet) in
@@ -71,7 +71,7 @@ same-length-2 c = search needs
 
 -- src/derive.rt:82:1
 returns-3 : tie.Need-returns-3
-returns-3 c = 
+returns-3 c =
     let a = c .before .before .before .before .before .before .before .before .before .before .before .before .before .before .before .before .before .before .before .before .before .args in
     let read = c .before .before .before .before .before .before .before .before .before .before .before .before .before .before .before .before .read-book .ensures in
     let read2 = c .before .before .before .before .before .before .before .before .before .before .before .before .read-sheet .ensures in

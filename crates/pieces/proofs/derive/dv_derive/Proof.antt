@@ -14,7 +14,7 @@ derive-requires c κs = search needs
 
 -- src/derive.rt:105:5
 pack-requires : tie.Need-pack-requires
-pack-requires c κs = 
+pack-requires c κs =
     let a = c .before .before .before .before .before .before .before .before .before .before .before .args in
     rw (c .before .before .before .before .derive .ensures .0) (derivation-packs (now (a .book)) (now (a .sheet)) (now (a .work)) (now (a .tree)))
 

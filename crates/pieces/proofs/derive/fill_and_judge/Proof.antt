@@ -27,7 +27,7 @@ unblamed-requires c κs = search needs
 -- src/derive.rt:72:9
 returns : tie.Need-returns
 unfolding roomed
-returns c = 
+returns c =
     let short = rw (c .before .before .count .ensures .0) at (c .before .if1 .taken) in
     simp (lt-ltb _ _ short) (c .unblamed .ensures, (refl, refl))
 
@@ -41,7 +41,7 @@ mul-if2 c = search needs
 
 -- src/derive.rt:74:26
 sub-if2 : tie.Need-sub-if2
-sub-if2 c = 
+sub-if2 c =
     let k = c .before .before .before .before .before .before .before .pre .sheet-keeps in
     let some = mul-le-mul (k .rows-some) (k .cols-some) in
     omega (arith, c .times .ensures .0)
@@ -57,7 +57,7 @@ unblamed-requires-2 c κs = search needs
 -- src/derive.rt:75:9
 returns-2 : tie.Need-returns-2
 unfolding roomed
-returns-2 c = 
+returns-2 c =
     let enough = rw (c .before .before .before .before .count .ensures .0) at (c .before .before .before .if1 .left) in
     let short = rw (c .before .before .times .ensures .0) at (c .before .if2 .taken) in
     simp (le-ltb _ _ enough, lt-ltb _ _ short) (c .unblamed2 .ensures, (refl, refl))
@@ -68,7 +68,7 @@ fill-table-requires c κs = search needs
 
 -- src/derive.rt:78:5
 judge-requires : tie.Need-judge-requires
-judge-requires c κs = 
+judge-requires c κs =
     let a = c .before .before .before .before .before .before .before .before .before .before .before .before .before .before .args in
     let enough = rw (c .before .before .before .before .before .before .before .times .ensures .0) at (c .before .before .before .before .before .before .if2 .left) in
     (c .before .before .before .before .before .before .before .before .before .before .before .before .before .before .pre, rw (c .before .before .before .before .fill-table .ensures) (filled-holds _ _ (now (a .work))), enough)
@@ -84,7 +84,7 @@ same-length-2 c = search needs
 -- src/derive.rt:58:1
 returns-3 : tie.Need-returns-3
 unfolding roomed
-returns-3 c = 
+returns-3 c =
     let work = rw (c .before .before .before .before .before .before .before .before .before .before .before .before .count .ensures .0) at (c .before .before .before .before .before .before .before .before .before .before .before .if1 .left) in
     let tree = rw (c .before .before .before .before .before .before .before .before .before .before .times .ensures .0) at (c .before .before .before .before .before .before .before .before .before .if2 .left) in
     simp (le-ltb _ _ work, le-ltb _ _ tree, ← c .before .before .before .before .before .before .before .fill-table .ensures) (c .before .before .judge .ensures .0, (judged-entries _ _ _ _, c .before .before .judge .ensures .1))

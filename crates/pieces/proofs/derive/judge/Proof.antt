@@ -21,11 +21,12 @@ use Rattle.pieces.proofs.tree.write_tree.Reads as write-tree-reads
 
 -- src/derive.rt:36:8
 has-requires : tie.Need-has-requires
-has-requires c κs = 
+has-requires c κs =
     let a = c .before .before .before .before .args in
-    let given = c .before .before .before .before .pre .0 in
-    (record { sizes = room given; entries = held-long _ _ (now (a .work)) (c .before .before .before .before .pre .1) },
-    whole-inside (a .g .rows) (a .g .cols) (given .sheet-keeps .rows-some) (given .sheet-keeps .cols-some))
+    let given = c .before .before .before .before .pre .0 in (
+      record { sizes = room given; entries = held-long _ _ (now (a .work)) (c .before .before .before .before .pre .1) },
+      whole-inside (a .g .rows) (a .g .cols) (given .sheet-keeps .rows-some) (given .sheet-keeps .cols-some),
+    )
 
 -- src/derive.rt:44:13
 times-requires : tie.Need-times-requires
@@ -37,7 +38,7 @@ slice-aggregate-number-cells c = search needs
 
 -- src/derive.rt:39:9
 number-cells-requires : tie.Need-number-cells-requires
-number-cells-requires c κs = 
+number-cells-requires c κs =
     let a = c .before .before .before .before .before .before .before .before .before .args in
     let given = c .before .before .before .before .before .before .before .before .before .pre .0 in
     let area = c .before .times .ensures .0 in
@@ -49,12 +50,13 @@ slice-aggregate-write-tree c = search needs
 
 -- src/derive.rt:47:12
 write-tree-requires : tie.Need-write-tree-requires
-write-tree-requires c κs = 
+write-tree-requires c κs =
     let a = c .before .before .before .before .before .before .before .before .before .before .before .before .before .args in
-    let given = c .before .before .before .before .before .before .before .before .before .before .before .before .before .pre .0 in
-    (given .rules-few,
-    record { tabled = record { sizes = room given; entries = held-long _ _ (now (a .work)) (c .before .before .before .before .before .before .before .before .before .before .before .before .before .pre .1) }; cells = omega (arith, c .before .before .before .number-cells .kept .1 .1 .1 .1 .1 .0, given .area-few) },
-    c .before .before .before .before .before .before .before .before .before .before .before .before .before .pre .2)
+    let given = c .before .before .before .before .before .before .before .before .before .before .before .before .before .pre .0 in (
+      given .rules-few,
+      record { tabled = record { sizes = room given; entries = held-long _ _ (now (a .work)) (c .before .before .before .before .before .before .before .before .before .before .before .before .before .pre .1) }; cells = omega (arith, c .before .before .before .number-cells .kept .1 .1 .1 .1 .1 .0, given .area-few) },
+      c .before .before .before .before .before .before .before .before .before .before .before .before .before .pre .2,
+    )
 
 -- src/derive.rt:48:13
 unblamed-requires : tie.Need-unblamed-requires
@@ -74,7 +76,7 @@ same-length c = search needs
 
 -- src/derive.rt:24:1
 returns : tie.Need-returns
-returns c = 
+returns c =
     let a = c .before .before .before .before .before .before .before .before .before .before .before .before .before .before .before .before .before .before .args in
     let area = c .before .before .before .before .before .before .before .before .before .before .times .ensures .0 in
     let numbers = c .before .before .before .before .before .before .before .before .number-cells .last .1 .1 .1 .1 .1 .0 in
@@ -91,7 +93,7 @@ same-length-2 c = search needs
 
 -- src/derive.rt:24:1
 returns-2 : tie.Need-returns-2
-returns-2 c = 
+returns-2 c =
     let a = c .before .before .before .before .before .before .before .before .before .before .before .before .before .before .before .before .before .before .args in
     let area = c .before .before .before .before .before .before .before .before .before .before .times .ensures .0 in
     let numbers = c .before .before .before .before .before .before .before .before .number-cells .last .1 .1 .1 .1 .1 .0 in
@@ -104,7 +106,7 @@ returns-2 c =
 
 -- src/derive.rt:24:1
 returns-3 : tie.Need-returns-3
-returns-3 c = 
+returns-3 c =
     let a = c .before .before .before .before .before .before .before .args in
     let judged = judged-none (c .before .before .before .before .before .before .before .pre .0) (now (a .work)) (c .before .before .before .before .before .before .before .pre .1) (now (a .work)) (now (a .tree)) (sym (c .before .before .has .ensures) ∙ c .before .if1 .left) in
     rw judged (c .unblamed3 .ensures, refl)
