@@ -35,7 +35,7 @@ named-exact b p =
     }
 
 -- A motif that derives something is the head of a rule.
-motif-below : (b : Contents) → Sound b → {a : ℕ} {p : Picture} → Derives b a p → a < b .motifs
+pub motif-below : (b : Contents) → Sound b → {a : ℕ} {p : Picture} → Derives b a p → a < b .motifs
 motif-below b sound {a} x =
     let (i, y, u, able) = derives-able x in sound .rules-fit _ (at-has b i a y u) .head-fits
 

@@ -30,3 +30,4 @@ pub mod ExactViews
 pub mod TheTree
 pub mod Judging
 pub mod DerivationAnswers
+pub mod Demand2
