@@ -1,5 +1,5 @@
 -- How many rules a combination has: the rules of a head are copied one for one, raised or not, and a join adds one rule.
-use Prim.Native.Nat.{ℕ, suc, _+_}
+use Prim.Native.Nat.{ℕ, suc, _+_, _≤_}
 use mathlib.Core.Path.{_≡_, refl, sym, _∙_, ap}
 use mathlib.Core.Bool.{Bool}
 use mathlib.Core.List.{List, [], _∷_}
@@ -8,6 +8,7 @@ use native.Mathlib.Omega.{arith}
 use lib.Dec.{eqb}
 use lib.ListN.{length, length-append, length-map}
 use Rattle.names.specs.Pick.{pick}
+use Rattle.names.proofs.Picking.{pick-ind}
 use Rattle.names.proofs.Tests.{true-or-false}
 use Rattle.books.specs.Contents.{Contents}
 use Rattle.books.specs.Picture.{Dir}
@@ -25,6 +26,15 @@ copies-length n s (r ∷ rs) =
     (λ e. ap length (copies-taken n s r rs e) ∙ ap suc (copies-length n s rs) ∙ sym (ap (λ (t : Bool). pick t (suc (headed s rs)) (headed s rs)) e))
     (λ e. ap length (copies-left n s r rs e) ∙ copies-length n s rs ∙ sym (ap (λ (t : Bool). pick t (suc (headed s rs)) (headed s rs)) e))
     (true-or-false (eqb (r .head) s))
+
+-- no more rules have a head than there are
+pub headed-few : (s : ℕ) (rs : List Rule) → headed s rs ≤ length rs
+unfolding headed
+headed-few s [] = omega arith
+headed-few s (r ∷ rs) =
+    pick-ind (λ n. n ≤ suc (length rs)) (eqb (r .head) s) (suc (headed s rs)) (headed s rs)
+    (λ e. omega (arith, headed-few s rs))
+    (λ e. omega (arith, headed-few s rs))
 
 pub joined-length : (d : Dir) (f g : Contents) → length ((joined d f g) .rules) ≡ length (f .rules) + length (g .rules) + 1
 unfolding joined

@@ -19,7 +19,7 @@ use Rattle.families.proofs.Merging.{merged-mem, merged-length}
 use Rattle.families.proofs.Copying.{copies-back}
 
 -- Every rule of a list fits the counts of motifs and colours.
-abbrev RulesFit : ℕ → ℕ → List Rule → Type 0
+abbrev pub RulesFit : ℕ → ℕ → List Rule → Type 0
 RulesFit m n rs = (r : Rule) → List·Memᴰ r rs → RuleFits m n r
 
 fit-append : (m n : ℕ) (xs ys : List Rule) → RulesFit m n xs → RulesFit m n ys → RulesFit m n (xs ++ ys)
@@ -30,7 +30,7 @@ body-more m n m′ n′ (Colour c) h k f = omega arith
 body-more m n m′ n′ (Across l r) h k f = omega arith
 body-more m n m′ n′ (Down u v) h k f = omega arith
 
-fit-more : (m n m′ n′ : ℕ) (xs : List Rule) → m ≤ m′ → n ≤ n′ → RulesFit m n xs → RulesFit m′ n′ xs
+pub fit-more : (m n m′ n′ : ℕ) (xs : List Rule) → m ≤ m′ → n ≤ n′ → RulesFit m n xs → RulesFit m′ n′ xs
 fit-more m n m′ n′ xs h k f r u =
     let w = f r u in
     record { head-fits = omega (arith, w .head-fits); body-fits = body-more m n m′ n′ (r .body) h k (w .body-fits) }

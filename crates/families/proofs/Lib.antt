@@ -14,3 +14,10 @@ pub mod Heads
 pub mod Inside
 pub mod Standing
 pub mod Reheading
+pub mod MergingLists
+pub mod AddingRules
+pub mod Testing
+pub mod Drafts
+pub mod DraftsOfTwo
+pub mod Reading
+pub mod Finishing

@@ -1,0 +1,120 @@
+-- Rules are gathered one after the other: what is left to be added from a place on, added there, makes the whole; and rules that were added stand after
+-- those that stood before.
+use Prim.Native.Nat.{ℕ, suc, _+_, _≤_, _<_}
+use mathlib.Core.Path.{_≡_, refl, sym, _∙_, ap}
+use mathlib.Core.List.{List, [], _∷_, _++_, map, List·Memᴰ, Memᴰ·cast}
+use native.Mathlib.Omega.{arith}
+use native.Mathlib.Numerals.{add-one}
+use borrow.Author.Tests.{eq-eqb, ne-eqb}
+use lib.ListN.{length, getD, take, drop, set, length-append, length-map, drop-of-length-le}
+use lib.Seq.{sets, sets-eq, length-sets, length-take-le, take-at, drop-cons, getD-take}
+use Rattle.names.proofs.Places.{getD-mem}
+use Rattle.books.specs.declared.rule.Rule.{Rule}
+use Rattle.books.specs.declared.rule.Body.the-variants.{Colour}
+use Rattle.families.specs.declared.gathering.Rules.{Rules}
+use Rattle.families.specs.Combine.{copies}
+use Rattle.families.specs.Counts.{headed}
+use Rattle.families.proofs.Copying.{copies-taken, copies-left, copies-raised}
+use Rattle.families.proofs.Counting.{copies-length}
+use Rattle.families.specs.Gathered.{standing, followed, raisedBy, changed, Rows}
+
+-- the rule at a place, and what a place past the last one has
+abbrev noRule : Rule
+noRule = record { head = 0; body = Colour 0 }
+
+abbrev pub ruleAt : Rules → ℕ → Rule
+ruleAt k i = getD (k .rules) i noRule
+
+pub next-place : (at i : ℕ) → at + (i + 1) ≡ at + i + 1
+next-place at i = omega arith
+
+-- one rule written, and the others after it
+pub one-written : (rules : List Rule) (at : ℕ) (x : Rule) (xs : List Rule) → sets (set rules at x) (at + 1) xs ≡ sets rules at (x ∷ xs)
+one-written rules at x xs = ap (λ (n : ℕ). sets (set rules at x) n xs) (add-one at)
+
+module _ (k : Rules) (rows : Rows k) where
+  pub standing-length : length (standing k) ≡ k .count
+  standing-length = length-take-le (k .count) (k .rules) (omega (arith, rows .few, rows .places200))
+
+  -- one rule less is left
+  pub left-next : (i : ℕ) → i < k .count → drop i (standing k) ≡ ruleAt k i ∷ drop (i + 1) (standing k)
+  left-next i h =
+      drop-cons (standing k) i noRule (omega (arith, standing-length))
+      ∙ ap (λ (r : Rule). r ∷ drop (suc i) (standing k)) (getD-take (k .count) (k .rules) i noRule h)
+      ∙ ap (λ (n : ℕ). ruleAt k i ∷ drop n (standing k)) (sym (add-one i))
+
+  pub left-none : (i : ℕ) → k .count ≤ i → drop i (standing k) ≡ []
+  left-none i h = drop-of-length-le (standing k) {i = i} (omega (arith, standing-length))
+
+  pub rule-stands : (i : ℕ) → i < k .count → List·Memᴰ (ruleAt k i) (standing k)
+  rule-stands i h = Memᴰ·cast (sym (getD-take (k .count) (k .rules) i noRule h)) (getD-mem (standing k) i noRule (omega (arith, standing-length)))
+
+  -- the next rule has the head, and is counted and copied, or it has another
+  module _ (s : ℕ) (i : ℕ) (h : i < k .count) where
+    pub headed-here : (ruleAt k i) .head ≡ s → headed s (drop i (standing k)) ≡ suc (headed s (drop (i + 1) (standing k)))
+    unfolding headed
+    headed-here e = ap (headed s) (left-next i h) ∙ simp (eq-eqb _ _ e)
+
+    pub headed-elsewhere : ((ruleAt k i) .head ≡ s → ⊥) → headed s (drop i (standing k)) ≡ headed s (drop (i + 1) (standing k))
+    unfolding headed
+    headed-elsewhere e = ap (headed s) (left-next i h) ∙ simp (ne-eqb _ _ e)
+
+    pub copies-here : (n : ℕ) → (ruleAt k i) .head ≡ s
+        → copies n s (drop i (standing k)) ≡ record { head = n; body = (ruleAt k i) .body } ∷ copies n s (drop (i + 1) (standing k))
+    copies-here n e = ap (copies n s) (left-next i h) ∙ copies-taken n s _ _ (eq-eqb _ _ e)
+
+    pub copies-elsewhere : (n : ℕ) → ((ruleAt k i) .head ≡ s → ⊥) → copies n s (drop i (standing k)) ≡ copies n s (drop (i + 1) (standing k))
+    copies-elsewhere n e = ap (copies n s) (left-next i h) ∙ copies-left n s _ _ (ne-eqb _ _ e)
+
+-- Rules that stand in a list, in its row of places.
+pub record Stands (l : Rules) (xs : List Rule) : Type 0 where
+  pub rows : Rows l
+  pub are : standing l ≡ xs
+
+module _ (l : Rules) (xs : List Rule) (st : Stands l xs) where
+  pub stands-count : l .count ≡ length xs
+  stands-count = sym (standing-length l (st .rows)) ∙ ap length (st .are)
+
+  -- what was added stands after what stood before
+  pub followed-stands : (ys : List Rule) → length xs + length ys ≤ 200 → Stands (followed l ys) (xs ++ ys)
+  followed-stands ys room =
+      let places = st .rows .places200 in
+      let fits : l .count + length ys ≤ 200 = omega (arith, stands-count) in
+      let before : length (standing l ++ ys) ≡ l .count + length ys =
+      length-append (standing l) ys ∙ ap (λ (n : ℕ). n + length ys) (standing-length l (st .rows)) in
+      record {
+        rows = record { few = fits; places200 = length-sets (l .rules) (l .count) ys ∙ places };
+        are = ap (take (l .count + length ys)) (sets-eq ys (l .rules) (l .count) (omega (arith, places)))
+            ∙ take-at (standing l ++ ys) (drop (l .count + length ys) (l .rules)) (l .count + length ys) before
+            ∙ ap (λ (zs : List Rule). zs ++ ys) (st .are);
+      }
+
+  -- what was changed stands in the place of what it was
+  pub changed-stands : (t : Rule → Rule) → Stands (changed t l) (map t xs)
+  changed-stands t =
+      let places = st .rows .places200 in
+      let all : length (map t (standing l)) ≡ l .count = length-map (standing l) t ∙ standing-length l (st .rows) in
+      record {
+        rows = record { few = st .rows .few; places200 = length-sets (l .rules) 0 (map t (standing l)) ∙ places };
+        are = ap (take (l .count)) (sets-eq (map t (standing l)) (l .rules) 0 (omega (arith, st .rows .few, places)))
+            ∙ take-at (map t (standing l)) (drop (0 + length (map t (standing l))) (l .rules)) (l .count) all
+            ∙ ap (map t) (st .are);
+      }
+
+-- Changed rules have their row, and are as many.
+module _ (l : Rules) (rows : Rows l) (t : Rule → Rule) where
+  pub changed-rows : Rows (changed t l)
+  changed-rows = changed-stands l (standing l) (record { rows = rows; are = refl }) t .rows
+
+  pub changed-count : length (standing (changed t l)) ≡ l .count
+  changed-count = standing-length (changed t l) changed-rows
+
+-- Raised rules have the raised head as often as they had the head.
+pub headed-raised : (k : Rules) → Rows k → (by s : ℕ) (numbers : List ℕ) → headed (by + s) (standing (changed (raisedBy by numbers) k)) ≡ headed s (standing k)
+unfolding raisedBy
+headed-raised k rows by s numbers =
+    ap (headed (by + s)) (changed-stands k (standing k) (record { rows = rows; are = refl }) (raisedBy by numbers) .are)
+    ∙ sym (copies-length 0 (by + s) (map (raisedBy by numbers) (standing k)))
+    ∙ ap length (copies-raised 0 by s (λ c. getD numbers c 0) (standing k))
+    ∙ length-map (copies 0 s (standing k)) _
+    ∙ copies-length 0 s (standing k)

@@ -1,0 +1,109 @@
+-- Contents are drafted where they are within the limits. One book repeated or changed has its own colours and, with the copies and the joining rule, or changed
+-- one by one, its own rules.
+use Prim.Native.Nat.{ℕ, _+_, _≤_, _<_}
+use mathlib.Core.Path.{_≡_, refl, sym, _∙_, ap}
+use mathlib.Core.Bool.{true, false, true≢false}
+use mathlib.Core.List.{List, [], _∷_, _++_, map, append-assoc, append-nil, List·Memᴰ, List·Memᴰ·head, List·Memᴰ·tail}
+use native.Mathlib.Omega.{arith}
+use lib.ListN.{length, getD, length-append, length-map}
+use Rattle.names.specs.Name.{Name, place}
+use Rattle.names.specs.Colours.{namesIn, noColours}
+use Rattle.names.specs.declared.colours.Colours.{Colours}
+use Rattle.names.proofs.ReadingColours.{names-count, name-at}
+use Rattle.books.specs.Contents.{Contents}
+use Rattle.books.specs.Held.{contentsIn}
+use Rattle.books.specs.Keeps.{BodyFits, RuleFits, Keeps}
+use Rattle.books.specs.Picture.{Dir, joins}
+use Rattle.books.specs.declared.family.Family.{Family}
+use Rattle.books.specs.declared.rule.Rule.{Rule}
+use Rattle.books.specs.declared.rule.Body.{Body}
+use Rattle.books.specs.declared.rule.Body.the-variants.{Colour, Across, Down}
+use Rattle.families.specs.Merged.{merged}
+use Rattle.families.specs.Merges.{Merges}
+use Rattle.families.specs.Combine.{moved, renumbered, raised, copies, joined, either-of, repeated, rebodied}
+use Rattle.families.specs.Counts.{headed}
+use Rattle.families.specs.Gathered.{standing, followed, raisedBy, changed, Rows}
+use Rattle.families.specs.Lent.{rulesOf, Sized, Lent}
+use Rattle.families.specs.Within.{few?, within?}
+use Rattle.families.specs.Combined.{repeatedRules}
+use Rattle.families.specs.Made.{draftedAs, tooMuch, Makes}
+use Rattle.families.specs.declared.gathering.Rules.{Rules}
+use Rattle.families.specs.declared.merge.Merged.{Merged}
+use Rattle.families.proofs.Fitting.{RulesFit, fit-more}
+use Rattle.families.proofs.Copying.{copies-raised}
+use Rattle.families.proofs.Counting.{copies-length, joined-length, either-of-length, repeated-length, rebodied-length}
+use Rattle.families.proofs.Testing.{within-limits, within-counts}
+use Rattle.families.proofs.AddingRules.{Stands, stands-count, followed-stands, changed-stands}
+
+-- Contents that are within the limits are drafted, and others are told.
+pub drafted-makes : (s t : List ℕ) (f : Family) (more : Colours) (l : Rules) (c : Contents) → Sized f → more .count ≤ 64 → Rows l
+    → namesIn s (f .colours) ++ namesIn t more ≡ c .colours → standing l ≡ c .rules → within? c ≡ true
+    → Makes s t c (draftedAs f more (c .motifs) (c .start) l)
+drafted-makes s t f more l c sized few rows colours rules small =
+    record {
+      tested = sym small;
+      drafted = λ _ i. record { colours = colours i; motifs = c .motifs; start = c .start; rules = rules i };
+      ready = record { colours-few = sized .colours-few; more-few = few; rules-few = rows .few; rules-all = rows .places200 };
+    }
+
+pub exceeding-makes : (s t : List ℕ) (f : Family) (c : Contents) → Sized f → within? c ≡ false → Makes s t c (tooMuch f)
+exceeding-makes s t f c sized much =
+    record {
+      tested = sym much;
+      drafted = λ e. absurd (true≢false (sym e));
+      ready = record { colours-few = sized .colours-few; more-few = omega arith; rules-few = sized .rows .few; rules-all = sized .rows .places200 };
+    }
+
+
+module _ (s t : List ℕ) (f : Family) (sized : Sized f) where
+  abbrev book : Contents
+  book = contentsIn s f
+
+  own-stand : Stands (rulesOf f) (book .rules)
+  own-stand = record { rows = sized .rows; are = refl }
+
+  own-count : length (book .rules) ≡ f .count
+  own-count = sym (stands-count (rulesOf f) (book .rules) own-stand)
+
+  -- Run and stack.
+  module _ (d : Dir) where
+    abbrev newRule : Rule
+    newRule = record { head = f .motifs; body = joins d (f .start) (f .motifs) }
+
+    abbrev ownCopies : List Rule
+    ownCopies = copies (f .motifs) (f .start) (book .rules)
+
+    pub repeated-test : within? (repeated d book) ≡ few? (f .colours .count) (f .motifs + 1) (f .count + headed (f .start) (book .rules) + 1)
+    unfolding repeated
+    repeated-test =
+        let rules : length (repeated d book .rules) ≡ f .count + headed (f .start) (book .rules) + 1 = repeated-length d book ∙ omega (arith, own-count) in
+        within-counts (repeated d book) _ _ _ (names-count s (f .colours)) refl rules
+
+    pub repeated-makes : f .count + headed (f .start) (book .rules) + 1 ≤ 200 → within? (repeated d book) ≡ true
+        → Makes s t (repeated d book) (draftedAs f noColours (f .motifs + 1) (f .motifs) (repeatedRules d f))
+    unfolding repeated repeatedRules
+    repeated-makes room small =
+        let copied = copies-length (f .motifs) (f .start) (book .rules) in
+        let longer = followed-stands (rulesOf f) (book .rules) own-stand ownCopies (omega (arith, own-count)) in
+        let last : length (book .rules ++ ownCopies) + 1 ≤ 200 = omega (arith, length-append (book .rules) ownCopies, own-count) in
+        let st = followed-stands (followed (rulesOf f) ownCopies) (book .rules ++ ownCopies) longer (newRule ∷ []) last in
+        drafted-makes s t f noColours _ (repeated d book) sized (omega arith) (st .rows)
+        (append-nil (book .colours))
+        (st .are ∙ append-assoc (book .rules) ownCopies (newRule ∷ []))
+        small
+
+  -- Mirrored, flipped, transposed.
+  module _ (x : Body → Body) where
+    rebodied-within : within? (rebodied x book) ≡ true
+    rebodied-within =
+        within-limits (rebodied x book) .1
+        (record {
+          colours-few = omega (arith, names-count s (f .colours), sized .colours-few);
+          motifs-few = sized .motifs-few;
+          rules-few = omega (arith, rebodied-length x book, own-count, sized .rows .few);
+        })
+
+    pub rebodied-makes : Makes s t (rebodied x book) (draftedAs f noColours (f .motifs) (f .start) (changed (λ (r : Rule). record { head = r .head; body = x (r .body) }) (rulesOf f)))
+    rebodied-makes =
+        let st = changed-stands (rulesOf f) (book .rules) own-stand (λ (r : Rule). record { head = r .head; body = x (r .body) }) in
+        drafted-makes s t f noColours _ (rebodied x book) sized (omega arith) (st .rows) (append-nil (book .colours)) (st .are) rebodied-within

@@ -1,0 +1,152 @@
+-- The rules gathered from two lent books are those of the combination: the second book's rules stand raised after the first's, their colours under their
+-- numbers in the merged list, and the new ones follow.
+use Prim.Native.Nat.{ℕ, _+_, _≤_, _<_}
+use mathlib.Core.Path.{_≡_, refl, sym, _∙_, ap}
+use mathlib.Core.Bool.{true, false, true≢false}
+use mathlib.Core.List.{List, [], _∷_, _++_, map, append-assoc, append-nil, List·Memᴰ, List·Memᴰ·head, List·Memᴰ·tail}
+use native.Mathlib.Omega.{arith}
+use lib.ListN.{length, getD, length-append, length-map}
+use Rattle.names.specs.Name.{Name, place}
+use Rattle.names.specs.Colours.{namesIn, noColours}
+use Rattle.names.specs.declared.colours.Colours.{Colours}
+use Rattle.names.proofs.ReadingColours.{names-count, name-at}
+use Rattle.books.specs.Contents.{Contents}
+use Rattle.books.specs.Held.{contentsIn}
+use Rattle.books.specs.Keeps.{BodyFits, RuleFits, Keeps}
+use Rattle.books.specs.Picture.{Dir, joins}
+use Rattle.books.specs.declared.family.Family.{Family}
+use Rattle.books.specs.declared.rule.Rule.{Rule}
+use Rattle.books.specs.declared.rule.Body.{Body}
+use Rattle.books.specs.declared.rule.Body.the-variants.{Colour, Across, Down}
+use Rattle.families.specs.Merged.{merged}
+use Rattle.families.specs.Merges.{Merges}
+use Rattle.families.specs.Combine.{moved, renumbered, raised, copies, joined, either-of, repeated, rebodied}
+use Rattle.families.specs.Counts.{headed}
+use Rattle.families.specs.Gathered.{standing, followed, raisedBy, changed, Rows}
+use Rattle.families.specs.Lent.{rulesOf, Sized, Lent}
+use Rattle.families.specs.Within.{few?, within?}
+use Rattle.families.specs.Combined.{raisedRules, bothRules, joinedRules, eitherRules}
+use Rattle.families.specs.Made.{draftedAs, tooMuch, Makes}
+use Rattle.families.specs.declared.gathering.Rules.{Rules}
+use Rattle.families.specs.declared.merge.Merged.{Merged}
+use Rattle.families.proofs.Fitting.{RulesFit, fit-more}
+use Rattle.families.proofs.Counting.{copies-length, joined-length, either-of-length, repeated-length, rebodied-length}
+use Rattle.families.proofs.Testing.{within-limits, within-counts}
+use Rattle.families.proofs.Drafts.{drafted-makes, exceeding-makes}
+use Rattle.families.proofs.AddingRules.{Stands, stands-count, followed-stands, changed-stands, changed-count, headed-raised}
+
+map-agrees : (h k : Rule → Rule) (rs : List Rule) → ((r : Rule) → List·Memᴰ r rs → h r ≡ k r) → map h rs ≡ map k rs
+map-agrees h k [] e = refl
+map-agrees h k (r ∷ rs) e = λ i. e r (List·Memᴰ·head refl) i ∷ map-agrees h k rs (λ q m. e q (List·Memᴰ·tail m)) i
+
+module _ (s t : List ℕ) (f g : Family) (m : Merged) (lf : Lent s f) (lg : Lent t g) (mm : Merges s (f .colours) t (g .colours) m) where
+  abbrev first : Contents
+  first = contentsIn s f
+
+  abbrev second : Contents
+  second = contentsIn t g
+
+  -- a colour's number in the merged list is that of its name
+  renumbered-same : (c : ℕ) → c < length (second .colours) → getD (m .numbers) c 0 ≡ renumbered first second c
+  renumbered-same c h =
+      let less : c < g .colours .count = omega (arith, names-count t (g .colours)) in
+      mm .numbered c less ∙ ap (place (merged (first .colours) (second .colours))) (sym (name-at t (g .colours) c less))
+
+  body-same : (x : Body) → BodyFits (g .motifs) (length (second .colours)) x
+      → moved (λ a. f .motifs + a) (λ c. getD (m .numbers) c 0) x ≡ moved (λ a. f .motifs + a) (renumbered first second) x
+  body-same (Colour c) h = ap Colour (renumbered-same c h)
+  body-same (Across l r) h = refl
+  body-same (Down u v) h = refl
+
+  first-stands : Stands (rulesOf f) (first .rules)
+  first-stands = record { rows = lf .fitted .sized .rows; are = refl }
+
+  second-stands : Stands (rulesOf g) (second .rules)
+  second-stands = record { rows = lg .fitted .sized .rows; are = refl }
+
+  -- the second book's rules, raised
+  abbrev risen : List Rule
+  risen = standing (raisedRules f g (m .numbers))
+
+  risen-stand : Stands (raisedRules f g (m .numbers)) (map (raisedBy (f .motifs) (m .numbers)) (second .rules))
+  risen-stand = changed-stands (rulesOf g) (second .rules) second-stands (raisedBy (f .motifs) (m .numbers))
+
+  risen-are : risen ≡ raised first second
+  unfolding raisedBy
+  risen-are =
+      risen-stand .are
+      ∙ map-agrees _ _ (second .rules)
+      (λ r h i. record { head = f .motifs + r .head; body = body-same (r .body) (lg .keeps .sound .rules-fit r h .body-fits) i })
+
+  -- how many there are
+  first-count : length (first .rules) ≡ f .count
+  first-count = sym (stands-count (rulesOf f) (first .rules) first-stands)
+
+  second-count : length (second .rules) ≡ g .count
+  second-count = sym (stands-count (rulesOf g) (second .rules) second-stands)
+
+  risen-count : length risen ≡ g .count
+  risen-count = changed-count (rulesOf g) (lg .fitted .sized .rows) (raisedBy (f .motifs) (m .numbers))
+
+  both-stand : f .count + g .count ≤ 200 → Stands (bothRules f g (m .numbers)) (first .rules ++ risen)
+  both-stand room = followed-stands (rulesOf f) (first .rules) first-stands risen (omega (arith, first-count, risen-count))
+
+  merged-count : length (merged (first .colours) (second .colours)) ≡ f .colours .count + m .more .count
+  merged-count =
+      sym (ap length (mm .names))
+      ∙ length-append (first .colours) (namesIn t (m .more))
+      ∙ omega (arith, names-count s (f .colours), names-count t (m .more))
+
+  more-few : m .more .count ≤ 64
+  more-few = omega (arith, mm .few, lg .fitted .sized .colours-few)
+
+  -- Beside and above.
+  module _ (d : Dir) where
+    abbrev newRule : Rule
+    newRule = record { head = f .motifs + g .motifs; body = joins d (f .start) (f .motifs + g .start) }
+
+    pub joined-test : within? (joined d first second) ≡ few? (f .colours .count + m .more .count) (f .motifs + g .motifs + 1) (f .count + g .count + 1)
+    unfolding joined
+    joined-test =
+        let rules : length (joined d first second .rules) ≡ f .count + g .count + 1 = joined-length d first second ∙ omega (arith, first-count, second-count) in
+        within-counts (joined d first second) _ _ _ merged-count refl rules
+
+    pub joined-makes : f .count + g .count + 1 ≤ 200 → within? (joined d first second) ≡ true
+        → Makes s t (joined d first second) (draftedAs f (m .more) (f .motifs + g .motifs + 1) (f .motifs + g .motifs) (joinedRules d f g (m .numbers)))
+    unfolding joined joinedRules
+    joined-makes room small =
+        let both : List Rule = first .rules ++ risen in
+        let last : length both + 1 ≤ 200 = omega (arith, length-append (first .rules) risen, first-count, risen-count) in
+        let st = followed-stands (bothRules f g (m .numbers)) both (both-stand (omega arith)) (newRule ∷ []) last in
+        drafted-makes s t f (m .more) (joinedRules d f g (m .numbers)) (joined d first second) (lf .fitted .sized) more-few (st .rows)
+        (mm .names)
+        (st .are ∙ simp (risen-are, append-assoc))
+        small
+
+  -- Either-of.
+  pub either-of-test : within? (either-of first second)
+      ≡ few? (f .colours .count + m .more .count) (f .motifs + g .motifs + 1) (f .count + g .count + headed (f .start) (first .rules) + headed (g .start) (second .rules))
+  unfolding either-of
+  either-of-test =
+      let rules : length (either-of first second .rules) ≡ f .count + g .count + headed (f .start) (first .rules) + headed (g .start) (second .rules) =
+      either-of-length first second ∙ omega (arith, first-count, second-count) in
+      within-counts (either-of first second) _ _ _ merged-count refl rules
+
+  pub either-of-makes : f .count + g .count + headed (f .start) (first .rules) + headed (g .start) (second .rules) ≤ 200 → within? (either-of first second) ≡ true
+      → Makes s t (either-of first second) (draftedAs f (m .more) (f .motifs + g .motifs + 1) (f .motifs + g .motifs) (eitherRules f g (m .numbers)))
+  unfolding either-of eitherRules
+  either-of-makes room small =
+      let new : ℕ = f .motifs + g .motifs in
+      let both : List Rule = first .rules ++ risen in
+      let own : List Rule = copies new (f .start) (first .rules) in
+      let other : List Rule = copies new (f .motifs + g .start) risen in
+      let both-count : length both ≡ f .count + g .count = omega (arith, length-append (first .rules) risen, first-count, risen-count) in
+      let own-count = copies-length new (f .start) (first .rules) in
+      let other-count = copies-length new (f .motifs + g .start) risen ∙ headed-raised (rulesOf g) (lg .fitted .sized .rows) (f .motifs) (g .start) (m .numbers) in
+      let longer = followed-stands (bothRules f g (m .numbers)) both (both-stand (omega arith)) own (omega arith) in
+      let last : length (both ++ own) + length other ≤ 200 = omega (arith, length-append both own) in
+      let st = followed-stands (followed (bothRules f g (m .numbers)) own) (both ++ own) longer other last in
+      drafted-makes s t f (m .more) (eitherRules f g (m .numbers)) (either-of first second) (lf .fitted .sized) more-few (st .rows)
+      (mm .names)
+      (st .are ∙ simp (risen-are, append-assoc))
+      small

@@ -1,0 +1,71 @@
+-- What a call does with a book that it read: the family of an accepted book is lent, and the fault of a refused one is blamed. The laws of reading say so.
+use Prim.Native.Nat.{ℕ, _<_, _^_}
+use mathlib.Core.Path.{_≡_, refl, sym, ap, subst}
+use mathlib.Core.Bool.{Bool}
+use mathlib.Core.List.{List}
+use borrow.Author.Tests.{eq-eqb, ne-eqb}
+use Rattle.names.proofs.SpellingNumbers.{Bytes}
+use Rattle.names.specs.Pick.{pick}
+use Rattle.books.specs.Contents.{Contents}
+use Rattle.books.specs.Held.{contentsIn}
+use Rattle.books.specs.Answer.{blaming, packed, Packs}
+use Rattle.books.specs.declared.answer.Answer.{Answer}
+use Rattle.books.specs.declared.book.BookRead.{BookRead}
+use Rattle.books.proofs.Packing.{book-placed}
+use Rattle.books.specs.Book.{bookOf}
+use Rattle.books.specs.declared.family.Family.{Family}
+use Rattle.books.proofs.ReadingBooks.{book-lies, book-accepted}
+use Rattle.families.specs.Lent.{rulesOf, Lent}
+use Rattle.families.specs.Outcome.{Outcome, refused, lent, Leaves}
+use Rattle.families.specs.Gathered.{standing}
+use Rattle.families.proofs.Fitting.{fit-more}
+
+book-lent : (s : List ℕ) → Bytes s → bookOf s .fault .number ≡ 0 → Lent s (bookOf s .family)
+book-lent s bytes z =
+    let f : Family = bookOf s .family in
+    let lies = book-lies s z in
+    let keeps = book-accepted s bytes z .keeps in
+    let places = lies .places in
+    record {
+      fitted = record {
+        sized = record {
+          colours-few = places .few;
+          motifs-few = lies .motifs-few;
+          start-fits = lies .start-fits;
+          rows = record { few = lies .rules-few; places200 = lies .rules-size };
+        };
+        fits = fit-more _ _ 32 64 (standing (rulesOf f)) (keeps .motifs-few) (keeps .colours-ok .few) (keeps .sound .rules-fit);
+      };
+      keeps = keeps;
+      lists = record {
+        few = places .few;
+        starts64 = places .starts64;
+        lens64 = places .lens64;
+        inside = places .inside;
+        distinct = keeps .colours-ok .distinct;
+      };
+    }
+
+-- The same of what the reader gave.
+module _ (s : List ℕ) (b : BookRead) (read : b ≡ bookOf s) where
+  pub read-lent : Bytes s → b .fault .number ≡ 0 → Lent s (b .family)
+  read-lent bytes z = rw read (book-lent s bytes (rw read at z))
+
+  -- an accepted book goes on, ...
+  pub read-accepted : (input : ℕ) (out : List ℕ) (go : Contents → Outcome) → b .fault .number ≡ 0
+      → lent input s out go ≡ go (contentsIn s (b .family))
+  unfolding lent
+  read-accepted input out go z = rw read (simp (eq-eqb _ _ (rw read at z)))
+
+  -- ... and a refused one is blamed
+  module _ (input : ℕ) (a : Answer) (blamed : a ≡ blaming input (b .fault)) where
+    pub blamed-packs : input < 2 ^ 4 → Packs a 0
+    blamed-packs few = rw (blamed, read) (book-placed s input few .packs)
+
+    pub blamed-leaves : (out : List ℕ) (go : Contents → Outcome) (r : ℕ) → (b .fault .number ≡ 0 → ⊥) → r ≡ packed a 0 → Leaves (lent input s out go) r out
+    unfolding lent
+    blamed-leaves out go r z e =
+        let o : Outcome = refused (blaming input (bookOf s .fault)) out in
+        let test = ne-eqb (bookOf s .fault .number) 0 (rw read at z) in
+        subst (λ (p : Outcome). Leaves p r out) (sym (ap (λ (t : Bool). pick t (go (contentsIn s (bookOf s .family))) o) test))
+        (record { answers = simp (blamed, read) at e; leaves = refl })

@@ -1,0 +1,83 @@
+use Prim.Native.Nat.{_+_, _-_, _≤_}
+use mathlib.Core.Path.{_≡_, refl, sym, _∙_, ap}
+use mathlib.Core.Logic.{⊎-elim}
+use native.Mathlib.Omega.{arith}
+use borrow.Author.Needs.{needs}
+use lib.ListN.{drop}
+use Rattle.families.specs.Counts.{headed}
+use Rattle.families.specs.Gathered.{standing}
+use Rattle.families.proofs.AddingRules.{left-none, headed-here, headed-elsewhere}
+use Rattle.families.proofs.gathering.count_headed.Statement.{statement}
+use Rattle.families.proofs.gathering.count_headed.Tie as tie
+use Rattle.families.proofs.gathering.count_headed.Reads as reads
+use Rattle.families.proofs.gathering.count_headed.Lts as lts
+
+abbrev Inv-loop : tie.InvT-loop
+Inv-loop head k count n₀ i₀ n i = (i ≤ count) × (n ≤ i) × (n + headed head (drop i (standing k)) ≡ headed head (standing k))
+
+abbrev μ-loop : tie.MeasureT-loop
+μ-loop head k count n₀ i₀ n i = count - i
+
+-- src/gathering.rt:56:5
+loop-holds : tie.Need-loop-holds Inv-loop μ-loop
+loop-holds c = omega arith
+
+-- src/gathering.rt:57:20
+mul-rule : tie.Need-mul-rule Inv-loop μ-loop
+mul-rule c = omega arith
+
+-- src/gathering.rt:57:20
+element-copy-out-rule : tie.Need-element-copy-out-rule Inv-loop μ-loop
+element-copy-out-rule c = omega arith
+
+-- src/gathering.rt:58:12
+cast-if1 : tie.Need-cast-if1 Inv-loop μ-loop
+cast-if1 c = search needs
+
+-- src/gathering.rt:59:13
+add-n : tie.Need-add-n Inv-loop μ-loop
+add-n c = omega arith
+
+-- src/gathering.rt:56:9
+add-i : tie.Need-add-i Inv-loop μ-loop
+add-i c = omega arith
+
+-- src/gathering.rt:56:5
+loop-less : tie.Need-loop-less Inv-loop μ-loop
+loop-less c = omega arith
+
+-- src/gathering.rt:56:5
+loop-again : tie.Need-loop-again Inv-loop μ-loop
+loop-again c =
+    let a = c .before .before .before .before .before .args in
+    let rows = c .before .before .before .before .before .pre in
+    let i = c .before .before .before .before .loop .i in
+    let less = c .before .before .before .loop-test .taken in
+    ⊎-elim
+    (λ w. omega (arith, headed-here (a .t1) rows (a .head) i less (w .0 .taken)))
+    (λ w. omega (arith, headed-elsewhere (a .t1) rows (a .head) i less (w .0 .left)))
+    (c .if1 .came)
+
+-- src/gathering.rt:50:1
+returns : tie.Need-returns Inv-loop μ-loop
+unfolding headed
+returns c =
+    let a = c .before .before .args in
+    let none = ap (headed (a .head)) (left-none (a .t1) (c .before .before .pre) _ (c .loop-test .left)) in
+    omega (arith, none)
+
+pub count-headed-spec : {M : Type 1} → statement M
+count-headed-spec =
+    tie.close
+    (tie.spec
+    Inv-loop
+    μ-loop
+    loop-holds
+    mul-rule
+    element-copy-out-rule
+    cast-if1
+    add-n
+    add-i
+    loop-less
+    loop-again
+    returns)

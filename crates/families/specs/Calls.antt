@@ -1,0 +1,39 @@
+-- Which combination a call asks for, and how a draft is finished.
+use Prim.Native.Nat.{ℕ, _^_, _<_}
+use mathlib.Core.Path.{_≡_}
+use mathlib.Core.List.{List}
+use mathlib.Core.Bool.{true}
+use lib.ListN.{length}
+use Rattle.names.specs.Pick.{pick}
+use Rattle.books.specs.Contents.{Contents}
+use Rattle.books.specs.Draft.{draftIn, Ready}
+use Rattle.books.specs.SpellBook.{spellBook}
+use Rattle.books.specs.Answer.{plain}
+use Rattle.families.specs.Combine.{either-of, beside, above, run, stack, mirrored, flipped, transposed}
+use Rattle.families.specs.Outcome.{Outcome, refused, written}
+use Rattle.families.specs.declared.making.Made.{Made}
+use Rattle.families.specs.declared.calls.Pairing.{Pairing}
+use Rattle.families.specs.declared.calls.Pairing.the-variants.{EitherOf, Beside, Above}
+use Rattle.families.specs.declared.calls.Single.{Single}
+use Rattle.families.specs.declared.calls.Single.the-variants.{Run, Stack, Mirrored, Flipped, Transposed}
+
+abbrev pub paired : Pairing → Contents → Contents → Contents
+paired EitherOf = either-of
+paired Beside = beside
+paired Above = above
+
+abbrev pub alone : Single → Contents → Contents
+alone Run = run
+alone Stack = stack
+alone Mirrored = mirrored
+alone Flipped = flipped
+alone Transposed = transposed
+
+-- what exceeds the limits is refused, and any other draft is written
+abbrev pub finished : List ℕ → List ℕ → Made → List ℕ → Outcome
+finished s t m out = pick (m .within) (written (draftIn s t (m .draft)) out) (refused (plain 12) out)
+
+-- a draft that can be written, whose length can be answered
+pub record Finishes (s t : List ℕ) (m : Made) : Type 0 where
+  pub ready : Ready (m .draft)
+  pub count-fits : m .within ≡ true → length (spellBook (draftIn s t (m .draft))) < 2 ^ 32

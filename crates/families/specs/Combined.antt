@@ -1,0 +1,32 @@
+-- The rules of a combination, as they are gathered from families that were read. A colour of a second family gets its number from a list.
+use Prim.Native.Nat.{ℕ, _+_}
+use mathlib.Core.List.{List, [], _∷_}
+use Rattle.books.specs.Picture.{Dir, joins}
+use Rattle.books.specs.declared.family.Family.{Family}
+use Rattle.families.specs.Combine.{copies}
+use Rattle.families.specs.Gathered.{standing, followed, raisedBy, changed}
+use Rattle.families.specs.Lent.{rulesOf}
+use Rattle.families.specs.declared.gathering.Rules.{Rules}
+
+-- the second family's rules, raised
+abbrev pub raisedRules : Family → Family → List ℕ → Rules
+raisedRules f g numbers = changed (raisedBy (f .motifs) numbers) (rulesOf g)
+
+-- the first family's rules, and the second's after them
+abbrev pub bothRules : Family → Family → List ℕ → Rules
+bothRules f g numbers = followed (rulesOf f) (standing (raisedRules f g numbers))
+
+unfoldable pub joinedRules : Dir → Family → Family → List ℕ → Rules
+joinedRules d f g numbers =
+    followed (bothRules f g numbers) (record { head = f .motifs + g .motifs; body = joins d (f .start) (f .motifs + g .start) } ∷ [])
+
+unfoldable pub eitherRules : Family → Family → List ℕ → Rules
+eitherRules f g numbers =
+    followed
+    (followed (bothRules f g numbers) (copies (f .motifs + g .motifs) (f .start) (standing (rulesOf f))))
+    (copies (f .motifs + g .motifs) (f .motifs + g .start) (standing (raisedRules f g numbers)))
+
+unfoldable pub repeatedRules : Dir → Family → Rules
+repeatedRules d f =
+    followed (followed (rulesOf f) (copies (f .motifs) (f .start) (standing (rulesOf f))))
+    (record { head = f .motifs; body = joins d (f .start) (f .motifs) } ∷ [])

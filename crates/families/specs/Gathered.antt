@@ -1,0 +1,30 @@
+-- Rules as they are gathered for a new book, and what adding to them or changing them makes.
+use Prim.Native.Nat.{ℕ, _+_, _≤_}
+use mathlib.Core.Path.{_≡_}
+use mathlib.Core.List.{List, map}
+use lib.ListN.{length, getD, take}
+use lib.Seq.{sets}
+use Rattle.books.specs.declared.rule.Rule.{Rule}
+use Rattle.families.specs.Combine.{movedRule}
+use Rattle.families.specs.declared.gathering.Rules.{Rules}
+
+-- the rules that stand
+abbrev pub standing : Rules → List Rule
+standing l = take (l .count) (l .rules)
+
+-- with these rules after them
+abbrev pub followed : Rules → List Rule → Rules
+followed l xs = record { count = l .count + length xs; rules = sets (l .rules) (l .count) xs }
+
+-- a rule whose motifs are raised by so many, and whose colour has its number in this list
+unfoldable pub raisedBy : ℕ → List ℕ → Rule → Rule
+raisedBy by numbers = movedRule (λ a. by + a) (λ c. getD numbers c 0)
+
+-- with each of them changed
+abbrev pub changed : (Rule → Rule) → Rules → Rules
+changed t l = record { count = l .count; rules = sets (l .rules) 0 (map t (standing l)) }
+
+-- a row of 200 places, of which no more are taken
+pub record Rows (l : Rules) : Type 0 where
+  pub few : l .count ≤ 200
+  pub places200 : length (l .rules) ≡ 200

@@ -1,0 +1,31 @@
+-- A family as it was read from a lent book.
+use mathlib.Core.List.{List, List·Memᴰ}
+use Prim.Native.Nat.{ℕ, _≤_, _<_}
+use Rattle.books.specs.Held.{contentsIn}
+use Rattle.books.specs.Keeps.{RuleFits, Keeps}
+use Rattle.books.specs.declared.family.Family.{Family}
+use Rattle.books.specs.declared.rule.Rule.{Rule}
+use Rattle.families.specs.Merges.{Lists}
+use Rattle.families.specs.Gathered.{standing, Rows}
+use Rattle.families.specs.declared.gathering.Rules.{Rules}
+
+abbrev pub rulesOf : Family → Rules
+rulesOf f = record { count = f .count; rules = f .rules }
+
+-- its counts and its start keep their ranges
+pub record Sized (f : Family) : Type 0 where
+  pub colours-few : f .colours .count ≤ 64
+  pub motifs-few : f .motifs ≤ 32
+  pub start-fits : f .start < f .motifs
+  pub rows : Rows (rulesOf f)
+
+-- ... its rules fit the greatest counts
+pub record Fitted (f : Family) : Type 0 where
+  pub sized : Sized f
+  pub fits : (r : Rule) → List·Memᴰ r (standing (rulesOf f)) → RuleFits 32 64 r
+
+-- ... its contents keep the rules of a book, and its colours are parts of the lent one
+pub record Lent (s : List ℕ) (f : Family) : Type 0 where
+  pub fitted : Fitted f
+  pub keeps : Keeps (contentsIn s f)
+  pub lists : Lists s (f .colours)

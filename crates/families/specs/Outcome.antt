@@ -1,0 +1,56 @@
+-- What a call of a combination answers and leaves, from the bytes of the lent books and of the output slice.
+use Prim.Native.Nat.{ℕ}
+use mathlib.Core.Path.{_≡_}
+use mathlib.Core.List.{List}
+use lib.Dec.{eqb, leb}
+use lib.ListN.{length}
+use Rattle.names.specs.Pick.{pick}
+use Rattle.names.specs.Put.{put}
+use Rattle.books.specs.Contents.{Contents}
+use Rattle.books.specs.Held.{contentsIn}
+use Rattle.books.specs.Book.{bookOf}
+use Rattle.books.specs.SpellBook.{spellBook}
+use Rattle.books.specs.Answer.{plain, blaming, packed}
+use Rattle.books.specs.declared.answer.Answer.{Answer}
+use Rattle.families.specs.Within.{within?}
+
+-- the answer, the bytes written, and the output slice
+pub record Outcome : Type 0 where
+  pub answer : Answer
+  pub count : ℕ
+  pub out : List ℕ
+
+-- a refusal writes nothing
+abbrev pub refused : Answer → List ℕ → Outcome
+refused a out = record { answer = a; count = 0; out = out }
+
+-- the book of these contents, or 13 where the slice is shorter than its spelling
+unfoldable pub written : Contents → List ℕ → Outcome
+written c out =
+    pick (leb (length (spellBook c)) (length out))
+    (record { answer = plain 0; count = length (spellBook c); out = put out 0 (spellBook c) })
+    (refused (plain 13) out)
+
+-- 12 where they exceed the limits
+unfoldable pub made : Contents → List ℕ → Outcome
+made c out = pick (within? c) (written c out) (refused (plain 12) out)
+
+-- a lent book: where it is refused its fault is blamed on it, and else its contents go on
+unfoldable pub lent : ℕ → List ℕ → List ℕ → (Contents → Outcome) → Outcome
+lent input s out go = pick (eqb (bookOf s .fault .number) 0) (go (contentsIn s (bookOf s .family))) (refused (blaming input (bookOf s .fault)) out)
+
+-- a combination of one book
+abbrev pub onOne : (Contents → Contents) → List ℕ → List ℕ → Outcome
+onOne op book out = lent 1 book out (λ f. made (op f) out)
+
+-- a combination of two: the first book is read, then the second
+abbrev pub onSecond : (Contents → Contents) → List ℕ → List ℕ → Outcome
+onSecond op second out = lent 2 second out (λ g. made (op g) out)
+
+abbrev pub onTwo : (Contents → Contents → Contents) → List ℕ → List ℕ → List ℕ → Outcome
+onTwo op first second out = lent 1 first out (λ f. onSecond (op f) second out)
+
+-- a call's number, and the slice as it leaves it, are those of an outcome
+pub record Leaves (o : Outcome) (r : ℕ) (out : List ℕ) : Type 0 where
+  pub answers : r ≡ packed (o .answer) (o .count)
+  pub leaves : out ≡ o .out

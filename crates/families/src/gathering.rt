@@ -1,0 +1,123 @@
+// Gathering the rules of a new book from those of one or two others.
+use books::rule::Body;
+use books::rule::Rule;
+ghost use mathlib.Core.Path.{_≡_};
+ghost use mathlib.Core.List.{[], _∷_, List·Memᴰ};
+ghost use Prim.Native.Nat.{_+_, _≤_, _<_};
+ghost use Rattle.books.specs.declared.rule.Rule.{Rule};
+ghost use Rattle.books.specs.Keeps.{RuleFits};
+ghost use Rattle.families.specs.Combine.{copies};
+ghost use Rattle.families.specs.Counts.{headed};
+ghost use Rattle.families.specs.Gathered.{standing, followed, raisedBy, changed, Rows};
+
+// The first `count` rules stand.
+pub(crate) struct Rules {
+    pub(crate) count: usize,
+    pub(crate) rules: [Rule; 200],
+}
+
+// One rule more.
+pub(crate) fn add_rule(l: Rules, rule: Rule) -> Rules
+    requires { ⌜ l .count < 200 ⌝ }
+    ensures { λ r. ⌜ r ≡ followed l (rule ∷ []) ⌝ }
+{
+    let mut rules = l.rules;
+    let count = l.count;
+    rules[count] = rule;
+    Rules {
+        count: count + 1,
+        rules,
+    }
+}
+
+// All rules of another list after these.
+pub(crate) fn add_rules(l: Rules, k: Rules) -> Rules
+    requires { ⌜ (l .count + k .count ≤ 200) × Rows k ⌝ }
+    ensures { λ r. ⌜ r ≡ followed l (standing k) ⌝ }
+{
+    let mut rules = l.rules;
+    let from = l.count;
+    let count = k.count;
+    for i in 0..count {
+        rules[from + i] = k.rules[i];
+    }
+    Rules {
+        count: from + count,
+        rules,
+    }
+}
+
+// How many rules have a head.
+pub(crate) fn count_headed(k: Rules, head: usize) -> usize
+    requires { ⌜ Rows k ⌝ }
+    ensures { λ r. ⌜ r ≡ headed head (standing k) ⌝ }
+{
+    let count = k.count;
+    let mut n = 0;
+    for i in 0..count {
+        let rule = k.rules[i];
+        if rule.head as usize == head {
+            n += 1;
+        }
+    }
+    n
+}
+
+// Copies of another list's rules with one head, under a new head, after these.
+pub(crate) fn add_copies(l: Rules, k: Rules, head: usize, new: usize) -> Rules
+    requires { ⌜ (l .count + headed head (standing k) ≤ 200) × Rows k × (new < 256) ⌝ }
+    ensures { λ r. ⌜ r ≡ followed l (copies new head (standing k)) ⌝ }
+{
+    let mut rules = l.rules;
+    let mut at = l.count;
+    let count = k.count;
+    for i in 0..count {
+        let rule = k.rules[i];
+        if rule.head as usize == head {
+            let body = rule.body;
+            rules[at] = Rule {
+                head: new as u8,
+                body,
+            };
+            at += 1;
+        }
+    }
+    Rules { count: at, rules }
+}
+
+// A rule of a second book as it stands after a first: its motifs raised, its colour under its number in the merged list.
+fn raised_rule(rule: Rule, by: usize, numbers: [u8; 64]) -> Rule
+    requires { ⌜ (by ≤ 32) × RuleFits 32 64 rule ⌝ }
+    ensures { λ r. ⌜ r ≡ raisedBy by numbers rule ⌝ }
+{
+    let up = by as u8;
+    let head = up + rule.head;
+    let body = rule.body;
+    match body {
+        Body::Colour(c) => Rule {
+            head,
+            body: Body::Colour(numbers[c as usize]),
+        },
+        Body::Across(left, right) => Rule {
+            head,
+            body: Body::Across(up + left, up + right),
+        },
+        Body::Down(upper, lower) => Rule {
+            head,
+            body: Body::Down(up + upper, up + lower),
+        },
+    }
+}
+
+// All rules of a second book, raised.
+pub(crate) fn raise_rules(k: Rules, by: usize, numbers: [u8; 64]) -> Rules
+    requires { ⌜ (by ≤ 32) × Rows k × ((r : Rule) → List·Memᴰ r (standing k) → RuleFits 32 64 r) ⌝ }
+    ensures { λ r. ⌜ r ≡ changed (raisedBy by numbers) k ⌝ }
+{
+    let mut rules = k.rules;
+    let count = k.count;
+    for i in 0..count {
+        rules[i] = raised_rule(k.rules[i], by, numbers);
+    }
+    Rules { count, rules }
+}

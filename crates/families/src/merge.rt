@@ -1,0 +1,43 @@
+// The colours of two lent books in one list: those of the first, then those of the second that the first lacks by name, in their order.
+use names::colours;
+use names::colours::Colours;
+use names::name;
+ghost use mathlib.Core.Path.{_≡_};
+ghost use Rattle.names.specs.Colours.{withColour};
+ghost use Rattle.families.specs.Merges.{Lists, Merges};
+
+// The colours that follow those of the first book, as parts of the second, and the number of each of the second's colours in the whole list.
+pub(crate) struct Merged {
+    pub(crate) more: Colours,
+    pub(crate) numbers: [u8; 64],
+}
+
+pub(crate) fn merge(first: &[u8], f: Colours, second: &[u8], g: Colours) -> Merged
+    requires { ⌜ Lists (now first) f × Lists (now second) g ⌝ }
+    ensures { λ r. ⌜ Merges (now (first .entry)) f (now (second .entry)) g r ⌝ }
+{
+    let mut more = colours::no_colours();
+    let mut numbers = [0u8; 64];
+    let own = f.count;
+    let count = g.count;
+    for i in 0..count {
+        let start = g.starts[i];
+        let len = g.lens[i];
+        let found = colours::find_name(
+            first,
+            f,
+            name::tail(second, start as usize),
+            len as usize,
+        );
+        if found < own {
+            numbers[i] = found as u8;
+        } else {
+            let last = more.count;
+            numbers[i] = (own + last) as u8;
+            more.starts[last] = start;
+            more.lens[last] = len;
+            more.count = last + 1;
+        }
+    }
+    Merged { more, numbers }
+}
