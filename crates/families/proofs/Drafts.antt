@@ -54,7 +54,6 @@ exceeding-makes s t f c sized much =
       ready = record { colours-few = sized .colours-few; more-few = omega arith; rules-few = sized .rows .few; rules-all = sized .rows .places200 };
     }
 
-
 module _ (s t : List ℕ) (f : Family) (sized : Sized f) where
   abbrev book : Contents
   book = contentsIn s f

@@ -32,10 +32,10 @@ use Rattle.families.specs.Made.{Makes}
 use Rattle.families.specs.Outcome.{Outcome, refused, written, made, lent, Leaves}
 use Rattle.families.specs.Calls.{paired, alone, finished, Finishes}
 use Rattle.families.specs.declared.making.Made.{Made}
-use Rattle.families.specs.declared.calls.Pairing.{Pairing}
-use Rattle.families.specs.declared.calls.Pairing.the-variants.{EitherOf, Beside, Above}
-use Rattle.families.specs.declared.calls.Single.{Single}
-use Rattle.families.specs.declared.calls.Single.the-variants.{Run, Stack, Mirrored, Flipped, Transposed}
+use Rattle.families.specs.declared.answering.Pairing.{Pairing}
+use Rattle.families.specs.declared.answering.Pairing.the-variants.{EitherOf, Beside, Above}
+use Rattle.families.specs.declared.answering.Single.{Single}
+use Rattle.families.specs.declared.answering.Single.the-variants.{Run, Stack, Mirrored, Flipped, Transposed}
 use Rattle.families.proofs.Testing.{within-limits}
 use Rattle.families.proofs.Keeping.{joined-keeps, either-of-keeps, repeated-keeps, transposed-keeps, swapping-keeps}
 use Rattle.books.specs.Picture.{across, down}

@@ -21,3 +21,7 @@ pub mod Drafts
 pub mod DraftsOfTwo
 pub mod Reading
 pub mod Finishing
+pub mod Outcomes
+pub mod CallTheorems
+pub mod Refusing
+pub mod Settled

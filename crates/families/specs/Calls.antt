@@ -12,10 +12,10 @@ use Rattle.books.specs.Answer.{plain}
 use Rattle.families.specs.Combine.{either-of, beside, above, run, stack, mirrored, flipped, transposed}
 use Rattle.families.specs.Outcome.{Outcome, refused, written}
 use Rattle.families.specs.declared.making.Made.{Made}
-use Rattle.families.specs.declared.calls.Pairing.{Pairing}
-use Rattle.families.specs.declared.calls.Pairing.the-variants.{EitherOf, Beside, Above}
-use Rattle.families.specs.declared.calls.Single.{Single}
-use Rattle.families.specs.declared.calls.Single.the-variants.{Run, Stack, Mirrored, Flipped, Transposed}
+use Rattle.families.specs.declared.answering.Pairing.{Pairing}
+use Rattle.families.specs.declared.answering.Pairing.the-variants.{EitherOf, Beside, Above}
+use Rattle.families.specs.declared.answering.Single.{Single}
+use Rattle.families.specs.declared.answering.Single.the-variants.{Run, Stack, Mirrored, Flipped, Transposed}
 
 abbrev pub paired : Pairing → Contents → Contents → Contents
 paired EitherOf = either-of

@@ -13,3 +13,4 @@ pub mod Within
 pub mod Made
 pub mod Outcome
 pub mod Calls
+pub mod NewBook

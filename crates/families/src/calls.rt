@@ -1,119 +1,16 @@
 // The eight combinations as calls for the C host. Each takes the lent books and an output slice, and answers one number.
-use crate::changing::Change;
-use crate::making;
-use crate::making::Made;
-use crate::way::Way;
-use books::answer;
-use books::book;
-use books::family::Family;
-use books::writing;
-ghost use mathlib.Core.List.{List};
-ghost use Prim.Native.Nat.{ℕ};
-ghost use Rattle.books.specs.Held.{contentsIn};
+use crate::answering;
+use crate::answering::Pairing;
+use crate::answering::Single;
 ghost use Rattle.families.specs.Combine.{either-of, beside, above, run, stack, mirrored, flipped, transposed};
-ghost use Rattle.families.specs.Lent.{Sized, Lent};
-ghost use Rattle.families.specs.Made.{Makes};
-ghost use Rattle.families.specs.Outcome.{onOne, onSecond, onTwo, Leaves};
-ghost use Rattle.families.specs.Calls.{paired, alone, finished, Finishes};
-
-// The combinations of two books, ...
-enum Pairing {
-    EitherOf,
-    Beside,
-    Above,
-}
-
-// ... and of one.
-enum Single {
-    Run,
-    Stack,
-    Mirrored,
-    Flipped,
-    Transposed,
-}
-
-fn make_pair(pairing: Pairing, first: &[u8], f: Family, second: &[u8], g: Family) -> Made
-    requires { ⌜ Lent (now first) f × Lent (now second) g ⌝ }
-    ensures { λ r. ⌜ Makes (now (first .entry)) (now (second .entry)) (paired pairing (contentsIn (now (first .entry)) f) (contentsIn (now (second .entry)) g)) r ⌝ }
-{
-    match pairing {
-        Pairing::EitherOf => making::make_either_of(first, f, second, g),
-        Pairing::Beside => making::make_joined(Way::Across, first, f, second, g),
-        Pairing::Above => making::make_joined(Way::Down, first, f, second, g),
-    }
-}
-
-fn make_single(single: Single, f: Family) -> Made
-    requires { ⌜ Sized f ⌝ }
-    ensures { λ r. ⌜ ((s t : List ℕ) → Makes s t (alone single (contentsIn s f)) r) ⌝ }
-{
-    match single {
-        Single::Run => making::make_repeated(Way::Across, f),
-        Single::Stack => making::make_repeated(Way::Down, f),
-        Single::Mirrored => making::make_changed(Change::Mirrored, f),
-        Single::Flipped => making::make_changed(Change::Flipped, f),
-        Single::Transposed => making::make_changed(Change::Transposed, f),
-    }
-}
-
-// Writes what was made, and answers 0, 12 or 13.
-fn finish(first: &[u8], second: &[u8], m: Made, out: &mut [u8]) -> u64
-    requires { ⌜ Finishes (now first) (now second) m ⌝ }
-    ensures { λ r. ⌜ Leaves (finished (now (first .entry)) (now (second .entry)) m (now (out .entry))) r (now (out .exit)) ⌝ }
-{
-    if m.within {
-        let d = m.draft;
-        let w = writing::write_book(first, second, d, out);
-        answer::pack(answer::unblamed(w.number), w.count)
-    } else {
-        answer::pack(answer::unblamed(12), 0)
-    }
-}
-
-// The second book of two.
-fn on_second(pairing: Pairing, first: &[u8], f: Family, second: &[u8], out: &mut [u8]) -> u64
-    requires { ⌜ Lent (now first) f ⌝ }
-    ensures { λ r. ⌜ Leaves (onSecond (paired pairing (contentsIn (now (first .entry)) f)) (now (second .entry)) (now (out .entry))) r (now (out .exit)) ⌝ }
-{
-    let b = book::read_book(second);
-    let fault = b.fault;
-    if fault.number != 0 {
-        return answer::pack(answer::blame(2, fault), 0);
-    }
-    let g = b.family;
-    finish(first, second, make_pair(pairing, first, f, second, g), out)
-}
-
-fn on_two(pairing: Pairing, first: &[u8], second: &[u8], out: &mut [u8]) -> u64
-    ensures { λ r. ⌜ Leaves (onTwo (paired pairing) (now (first .entry)) (now (second .entry)) (now (out .entry))) r (now (out .exit)) ⌝ }
-{
-    let b = book::read_book(first);
-    let fault = b.fault;
-    if fault.number != 0 {
-        return answer::pack(answer::blame(1, fault), 0);
-    }
-    let f = b.family;
-    on_second(pairing, first, f, second, out)
-}
-
-fn on_one(single: Single, book: &[u8], out: &mut [u8]) -> u64
-    ensures { λ r. ⌜ Leaves (onOne (alone single) (now (book .entry)) (now (out .entry))) r (now (out .exit)) ⌝ }
-{
-    let b = book::read_book(book);
-    let fault = b.fault;
-    if fault.number != 0 {
-        return answer::pack(answer::blame(1, fault), 0);
-    }
-    let f = b.family;
-    finish(book, book, make_single(single, f), out)
-}
+ghost use Rattle.families.specs.Outcome.{onOne, onTwo, Leaves};
 
 // What the first or the second book holds.
 #[no_mangle]
 pub extern "C" fn dv_either_of(first: &[u8], second: &[u8], out: &mut [u8]) -> u64
     ensures { λ r. ⌜ Leaves (onTwo either-of (now (first .entry)) (now (second .entry)) (now (out .entry))) r (now (out .exit)) ⌝ }
 {
-    on_two(Pairing::EitherOf, first, second, out)
+    answering::on_two(Pairing::EitherOf, first, second, out)
 }
 
 // The first book's sheets with the second's to their right.
@@ -121,7 +18,7 @@ pub extern "C" fn dv_either_of(first: &[u8], second: &[u8], out: &mut [u8]) -> u
 pub extern "C" fn dv_beside(first: &[u8], second: &[u8], out: &mut [u8]) -> u64
     ensures { λ r. ⌜ Leaves (onTwo beside (now (first .entry)) (now (second .entry)) (now (out .entry))) r (now (out .exit)) ⌝ }
 {
-    on_two(Pairing::Beside, first, second, out)
+    answering::on_two(Pairing::Beside, first, second, out)
 }
 
 // The first book's sheets with the second's below them.
@@ -129,7 +26,7 @@ pub extern "C" fn dv_beside(first: &[u8], second: &[u8], out: &mut [u8]) -> u64
 pub extern "C" fn dv_above(first: &[u8], second: &[u8], out: &mut [u8]) -> u64
     ensures { λ r. ⌜ Leaves (onTwo above (now (first .entry)) (now (second .entry)) (now (out .entry))) r (now (out .exit)) ⌝ }
 {
-    on_two(Pairing::Above, first, second, out)
+    answering::on_two(Pairing::Above, first, second, out)
 }
 
 // One or more of the book's sheets side by side.
@@ -137,7 +34,7 @@ pub extern "C" fn dv_above(first: &[u8], second: &[u8], out: &mut [u8]) -> u64
 pub extern "C" fn dv_run(book: &[u8], out: &mut [u8]) -> u64
     ensures { λ r. ⌜ Leaves (onOne run (now (book .entry)) (now (out .entry))) r (now (out .exit)) ⌝ }
 {
-    on_one(Single::Run, book, out)
+    answering::on_one(Single::Run, book, out)
 }
 
 // One or more of the book's sheets on top of each other.
@@ -145,7 +42,7 @@ pub extern "C" fn dv_run(book: &[u8], out: &mut [u8]) -> u64
 pub extern "C" fn dv_stack(book: &[u8], out: &mut [u8]) -> u64
     ensures { λ r. ⌜ Leaves (onOne stack (now (book .entry)) (now (out .entry))) r (now (out .exit)) ⌝ }
 {
-    on_one(Single::Stack, book, out)
+    answering::on_one(Single::Stack, book, out)
 }
 
 // The book's sheets with left and right exchanged.
@@ -153,7 +50,7 @@ pub extern "C" fn dv_stack(book: &[u8], out: &mut [u8]) -> u64
 pub extern "C" fn dv_mirrored(book: &[u8], out: &mut [u8]) -> u64
     ensures { λ r. ⌜ Leaves (onOne mirrored (now (book .entry)) (now (out .entry))) r (now (out .exit)) ⌝ }
 {
-    on_one(Single::Mirrored, book, out)
+    answering::on_one(Single::Mirrored, book, out)
 }
 
 // The book's sheets with top and bottom exchanged.
@@ -161,7 +58,7 @@ pub extern "C" fn dv_mirrored(book: &[u8], out: &mut [u8]) -> u64
 pub extern "C" fn dv_flipped(book: &[u8], out: &mut [u8]) -> u64
     ensures { λ r. ⌜ Leaves (onOne flipped (now (book .entry)) (now (out .entry))) r (now (out .exit)) ⌝ }
 {
-    on_one(Single::Flipped, book, out)
+    answering::on_one(Single::Flipped, book, out)
 }
 
 // The book's sheets with rows and columns exchanged.
@@ -169,5 +66,5 @@ pub extern "C" fn dv_flipped(book: &[u8], out: &mut [u8]) -> u64
 pub extern "C" fn dv_transposed(book: &[u8], out: &mut [u8]) -> u64
     ensures { λ r. ⌜ Leaves (onOne transposed (now (book .entry)) (now (out .entry))) r (now (out .exit)) ⌝ }
 {
-    on_one(Single::Transposed, book, out)
+    answering::on_one(Single::Transposed, book, out)
 }

@@ -1,8 +1,9 @@
 // The eight combinations, and what each holds.
-mod merge;
-mod gathering;
-mod changing;
-mod way;
-mod combining;
-mod making;
+mod answering;
 pub mod calls;
+mod changing;
+mod combining;
+mod gathering;
+mod making;
+mod merge;
+mod way;

@@ -23,12 +23,7 @@ pub(crate) fn merge(first: &[u8], f: Colours, second: &[u8], g: Colours) -> Merg
     for i in 0..count {
         let start = g.starts[i];
         let len = g.lens[i];
-        let found = colours::find_name(
-            first,
-            f,
-            name::tail(second, start as usize),
-            len as usize,
-        );
+        let found = colours::find_name(first, f, name::tail(second, start as usize), len as usize);
         if found < own {
             numbers[i] = found as u8;
         } else {

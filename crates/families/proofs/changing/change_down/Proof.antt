@@ -1,30 +1,23 @@
+-- Each change, at a down rule, is a line of the definition.
 use borrow.Author.Needs.{needs}
 use Rattle.families.proofs.changing.change_down.Statement.{statement}
 use Rattle.families.proofs.changing.change_down.Tie as tie
-use Rattle.families.proofs.changing.change_down.Reads as reads
-use Rattle.families.proofs.changing.change_down.Lts as lts
 
--- src/changing.rt:30:29
 enum-told : tie.Need-enum-told
 enum-told c = search needs
 
--- src/changing.rt:31:28
 enum-told-2 : tie.Need-enum-told-2
 enum-told-2 c = search needs
 
--- src/changing.rt:32:31
 enum-told-3 : tie.Need-enum-told-3
 enum-told-3 c = search needs
 
--- src/changing.rt:26:1
 returns : tie.Need-returns
 returns c = simp (c .enum-told .given .1)
 
--- src/changing.rt:26:1
 returns-2 : tie.Need-returns-2
 returns-2 c = simp (c .enum-told2 .given .1)
 
--- src/changing.rt:26:1
 returns-3 : tie.Need-returns-3
 returns-3 c = simp (c .enum-told3 .given .1)
 

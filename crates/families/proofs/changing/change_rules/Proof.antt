@@ -1,3 +1,4 @@
+-- What is left to be changed from the loop's place on, changed there, makes the whole.
 use Prim.Native.Nat.{_+_, _-_, _≤_}
 use mathlib.Core.Path.{_≡_, refl, _∙_}
 use mathlib.Core.List.{map}
@@ -9,9 +10,6 @@ use Rattle.families.specs.Changed.{changedRule}
 use Rattle.families.proofs.AddingRules.{one-written, left-next, left-none}
 use Rattle.families.proofs.changing.change_rules.Statement.{statement}
 use Rattle.families.proofs.changing.change_rules.Tie as tie
-use Rattle.families.proofs.changing.change_rules.Reads as reads
-use Rattle.families.proofs.changing.change_rules.Lts as lts
-use Rattle.families.proofs.changing.change_rule.Reads as change-rule-reads
 
 abbrev Inv-loop : tie.InvT-loop
 Inv-loop change k rules₀ count i₀ rules i = (i ≤ count) × (sets rules i (map (changedRule change) (drop i (standing k))) ≡ sets rules₀ 0 (map (changedRule change) (standing k)))
@@ -19,39 +17,30 @@ Inv-loop change k rules₀ count i₀ rules i = (i ≤ count) × (sets rules i (
 abbrev μ-loop : tie.MeasureT-loop
 μ-loop change k rules₀ count i₀ rules i = count - i
 
--- src/changing.rt:64:5
 loop-holds : tie.Need-loop-holds Inv-loop μ-loop
 loop-holds c = (omega arith, refl)
 
--- src/changing.rt:65:40
 mul-change-rule : tie.Need-mul-change-rule Inv-loop μ-loop
 mul-change-rule c = omega arith
 
--- src/changing.rt:65:40
 element-copy-out-change-rule : tie.Need-element-copy-out-change-rule Inv-loop μ-loop
 element-copy-out-change-rule c = omega arith
 
--- src/changing.rt:65:20
 change-rule-requires : tie.Need-change-rule-requires Inv-loop μ-loop
 change-rule-requires c κs = tt
 
--- src/changing.rt:65:9
 mul-rules : tie.Need-mul-rules Inv-loop μ-loop
 mul-rules c = omega arith
 
--- src/changing.rt:65:9
 array-set-from-rules : tie.Need-array-set-from-rules Inv-loop μ-loop
 array-set-from-rules c = omega arith
 
--- src/changing.rt:64:9
 add-i : tie.Need-add-i Inv-loop μ-loop
 add-i c = omega arith
 
--- src/changing.rt:64:5
 loop-less : tie.Need-loop-less Inv-loop μ-loop
 loop-less c = omega arith
 
--- src/changing.rt:64:5
 loop-again : tie.Need-loop-again Inv-loop μ-loop
 loop-again c =
     let a = c .before .before .before .before .before .args in
@@ -59,7 +48,6 @@ loop-again c =
     let left = left-next (a .t2) (c .before .before .before .before .before .pre) (l .i) (c .before .before .loop-test .taken) in
     (omega arith, one-written (l .rules) (l .i) (c .change-rule .result) (map (changedRule (a .change)) (drop (l .i + 1) (standing (a .t2)))) ∙ simp (c .change-rule .ensures) (simp left at (l .inv .1)))
 
--- src/changing.rt:58:1
 returns : tie.Need-returns Inv-loop μ-loop
 returns c =
     let a = c .before .before .before .args in

@@ -1,3 +1,4 @@
+-- The raised rules stand after the first family's, then the copies from the first, then those from the second: there is room for all.
 use Prim.Native.Nat.{_+_}
 use mathlib.Core.Path.{_≡_}
 use native.Mathlib.Omega.{arith}
@@ -10,22 +11,13 @@ use Rattle.families.proofs.AddingRules.{changed-rows, changed-count, he
 use borrow.Author.Needs.{needs}
 use Rattle.families.proofs.combining.either_rules.Statement.{statement}
 use Rattle.families.proofs.combining.either_rules.Tie as tie
-use Rattle.families.proofs.combining.either_rules.Reads as reads
-use Rattle.families.proofs.combining.either_rules.Lts as lts
-use Rattle.families.proofs.combining.rules_of.Reads as rules-of-reads
-use Rattle.families.proofs.gathering.add_copies.Reads as add-copies-reads
-use Rattle.families.proofs.gathering.add_rules.Reads as add-rules-reads
-use Rattle.families.proofs.gathering.raise_rules.Reads as raise-rules-reads
 
--- src/combining.rt:30:9
 rules-of-requires : tie.Need-rules-of-requires
 rules-of-requires c κs = search needs
 
--- src/combining.rt:31:41
 rules-of-requires-2 : tie.Need-rules-of-requires-2
 rules-of-requires-2 c κs = search needs
 
--- src/combining.rt:31:9
 raise-rules-requires : tie.Need-raise-rules-requires
 raise-rules-requires c κs = let p = c .before .before .pre in rw (c .rules-of2 .ensures) (p .0 .motifs-few, p .1 .sized .rows, p .1 .fits)
 
@@ -42,18 +34,15 @@ longer : (c : tie.After-add-copies) → let a = c .before .before .before .befor
     c .add-copies .result ≡ followed (bothRules (a .f) (a .g) (a .numbers)) (copies (a .f .motifs + a .g .motifs) (a .f .start) (standing (rulesOf (a .f))))
 longer c = simp (both (c .before), c .before .before .before .before .before .before .rules-of .ensures) at (c .add-copies .ensures)
 
--- src/combining.rt:32:17
 add-start : tie.Need-add-start
 add-start c = search needs
 
--- src/combining.rt:33:9
 add-rules-requires : tie.Need-add-rules-requires
 add-rules-requires c κs =
     let p = c .before .before .before .before .before .pre in
     simp (c .before .before .before .before .rules-of .ensures, risen (c .before .before))
     (omega (arith, p .2), changed-rows _ (p .1 .sized .rows) _)
 
--- src/combining.rt:34:9
 add-copies-requires : tie.Need-add-copies-requires
 add-copies-requires c κs =
     let p = c .before .before .before .before .before .before .pre in
@@ -62,13 +51,11 @@ add-copies-requires c κs =
     simp (both c, c .before .before .before .before .before .rules-of .ensures)
     (omega (arith, p .2), p .0 .rows, omega (arith, p .0 .motifs-few, p .1 .sized .motifs-few))
 
--- src/combining.rt:35:43
 add-add-copies : tie.Need-add-add-copies
 add-add-copies c =
     let p = c .before .before .before .before .before .before .before .before .before .pre in
     omega (arith, p .0 .motifs-few, p .1 .sized .motifs-few, p .1 .sized .start-fits)
 
--- src/combining.rt:35:5
 add-copies-requires-2 : tie.Need-add-copies-requires-2
 add-copies-requires-2 c κs =
     let p = c .before .before .before .before .before .before .before .before .before .pre in
@@ -79,7 +66,6 @@ add-copies-requires-2 c κs =
     simp (longer (c .before .before), risen (c .before .before .before .before .before .before))
     (omega (arith, p .2), changed-rows _ (p .1 .sized .rows) _, omega (arith, p .0 .motifs-few, p .1 .sized .motifs-few))
 
--- src/combining.rt:26:1
 returns : tie.Need-returns
 unfolding eitherRules
 returns c =

@@ -1,3 +1,4 @@
+-- The copies stand after the family's rules, and the joining rule after them: there is room for all.
 use mathlib.Core.Path.{_≡_}
 use native.Mathlib.Omega.{arith}
 use Rattle.families.specs.Combine.{copies}
@@ -8,18 +9,10 @@ use Rattle.families.proofs.Counting.{copies-length}
 use borrow.Author.Needs.{needs}
 use Rattle.families.proofs.combining.repeated_rules.Statement.{statement}
 use Rattle.families.proofs.combining.repeated_rules.Tie as tie
-use Rattle.families.proofs.combining.repeated_rules.Reads as reads
-use Rattle.families.proofs.combining.repeated_rules.Lts as lts
-use Rattle.families.proofs.combining.rules_of.Reads as rules-of-reads
-use Rattle.families.proofs.gathering.add_copies.Reads as add-copies-reads
-use Rattle.families.proofs.gathering.add_rule.Reads as add-rule-reads
-use Rattle.families.proofs.way.join_rule.Reads as join-rule-reads
 
--- src/combining.rt:55:9
 rules-of-requires : tie.Need-rules-of-requires
 rules-of-requires c κs = search needs
 
--- src/combining.rt:56:9
 add-copies-requires : tie.Need-add-copies-requires
 add-copies-requires c κs = let p = c .before .pre in simp (c .rules-of .ensures) (omega (arith, p .1), p .0 .rows, omega (arith, p .0 .motifs-few))
 
@@ -28,18 +21,15 @@ gathered : (c : tie.After-add-copies) → let f = c .before .before .args .f in
     c .add-copies .result ≡ followed (rulesOf f) (copies (f .motifs) (f .start) (standing (rulesOf f)))
 gathered c = simp (c .before .rules-of .ensures) at (c .add-copies .ensures)
 
--- src/combining.rt:57:9
 join-rule-requires : tie.Need-join-rule-requires
 join-rule-requires c κs = search needs
 
--- src/combining.rt:58:5
 add-rule-requires : tie.Need-add-rule-requires
 add-rule-requires c κs =
     let f = c .before .before .before .args .f in
     let count = copies-length (f .motifs) (f .start) (standing (rulesOf f)) in
     simp (gathered (c .before)) (omega (arith, c .before .before .before .pre .1))
 
--- src/combining.rt:51:1
 returns : tie.Need-returns
 unfolding repeatedRules
 returns c = simp (gathered (c .before .before), c .before .join-rule .ensures) at (c .add-rule .ensures)

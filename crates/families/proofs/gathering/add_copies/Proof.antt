@@ -1,19 +1,17 @@
+-- What is left to be copied from the loop's place on, added there, makes the whole; each copy has a place.
 use Prim.Native.Nat.{_+_, _-_, _≤_, _<_}
-use mathlib.Core.Path.{_≡_, refl, sym, _∙_, ap}
+use mathlib.Core.Path.{_≡_, refl, ap}
 use mathlib.Core.Logic.{⊎-elim}
 use native.Mathlib.Omega.{arith}
 use borrow.Author.Needs.{needs}
 use lib.ListN.{length, drop}
 use lib.Seq.{sets}
 use Rattle.families.specs.Combine.{copies}
-use Rattle.families.specs.Counts.{headed}
 use Rattle.families.specs.Gathered.{standing}
 use Rattle.families.proofs.Counting.{copies-length}
 use Rattle.families.proofs.AddingRules.{one-written, left-none, copies-here, copies-elsewhere}
 use Rattle.families.proofs.gathering.add_copies.Statement.{statement}
 use Rattle.families.proofs.gathering.add_copies.Tie as tie
-use Rattle.families.proofs.gathering.add_copies.Reads as reads
-use Rattle.families.proofs.gathering.add_copies.Lts as lts
 
 abbrev Inv-loop : tie.InvT-loop
 Inv-loop head new k rules₀ at₀ count i₀ rules at i = (i ≤ count) × (at + length (copies new head (drop i (standing k))) ≡ at₀ + length (copies new head (standing k))) × (sets rules at (copies new head (drop i (standing k))) ≡ sets rules₀ at₀ (copies new head (standing k)))
@@ -21,23 +19,18 @@ Inv-loop head new k rules₀ at₀ count i₀ rules at i = (i ≤ count) × (at 
 abbrev μ-loop : tie.MeasureT-loop
 μ-loop head new k rules₀ at₀ count i₀ rules at i = count - i
 
--- src/gathering.rt:75:5
 loop-holds : tie.Need-loop-holds Inv-loop μ-loop
 loop-holds c = (omega arith, refl, refl)
 
--- src/gathering.rt:76:20
 mul-rule : tie.Need-mul-rule Inv-loop μ-loop
 mul-rule c = omega arith
 
--- src/gathering.rt:76:20
 element-copy-out-rule : tie.Need-element-copy-out-rule Inv-loop μ-loop
 element-copy-out-rule c = omega arith
 
--- src/gathering.rt:77:12
 cast-if1 : tie.Need-cast-if1 Inv-loop μ-loop
 cast-if1 c = search needs
 
--- src/gathering.rt:80:23
 cast-t17 : tie.Need-cast-t17 Inv-loop μ-loop
 cast-t17 c = omega arith
 
@@ -50,27 +43,21 @@ placed c =
     let here = ap length (copies-here (a .t2) (p .1) (a .head) (l .i) (c .before .before .before .loop-test .taken) (a .new) (c .if1 .taken)) in
     omega (arith, p .0, l .inv .1, here, copies-length (a .new) (a .head) (standing (a .t2)))
 
--- src/gathering.rt:79:13
 mul-rules : tie.Need-mul-rules Inv-loop μ-loop
 mul-rules c = omega (arith, placed c)
 
--- src/gathering.rt:79:13
 array-set-from-rules : tie.Need-array-set-from-rules Inv-loop μ-loop
 array-set-from-rules c = omega (arith, placed c)
 
--- src/gathering.rt:83:13
 add-at : tie.Need-add-at Inv-loop μ-loop
 add-at c = omega (arith, placed c)
 
--- src/gathering.rt:75:9
 add-i : tie.Need-add-i Inv-loop μ-loop
 add-i c = omega arith
 
--- src/gathering.rt:75:5
 loop-less : tie.Need-loop-less Inv-loop μ-loop
 loop-less c = omega arith
 
--- src/gathering.rt:75:5
 loop-again : tie.Need-loop-again Inv-loop μ-loop
 loop-again c =
     let a = c .before .before .before .before .before .before .args in
@@ -86,7 +73,6 @@ loop-again c =
     simp (w .1, w .2) (omega arith, simp (copies-elsewhere (a .t2) rows (a .head) (l .i) less (a .new) (w .0 .left)) at (l .inv .1), simp (copies-elsewhere (a .t2) rows (a .head) (l .i) less (a .new) (w .0 .left)) at (l .inv .2)))
     (c .if1 .came)
 
--- src/gathering.rt:68:1
 returns : tie.Need-returns Inv-loop μ-loop
 unfolding copies
 returns c =

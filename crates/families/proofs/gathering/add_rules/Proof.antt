@@ -1,5 +1,6 @@
+-- What is left to be added from the loop's place on, added there, makes the whole.
 use Prim.Native.Nat.{_+_, _-_, _≤_}
-use mathlib.Core.Path.{_≡_, refl, sym, _∙_, ap}
+use mathlib.Core.Path.{_≡_}
 use native.Mathlib.Omega.{arith}
 use native.Mathlib.Nat.{add-zero}
 use lib.ListN.{drop}
@@ -8,8 +9,6 @@ use Rattle.families.specs.Gathered.{standing}
 use Rattle.families.proofs.AddingRules.{next-place, one-written, standing-length, left-next, left-none}
 use Rattle.families.proofs.gathering.add_rules.Statement.{statement}
 use Rattle.families.proofs.gathering.add_rules.Tie as tie
-use Rattle.families.proofs.gathering.add_rules.Reads as reads
-use Rattle.families.proofs.gathering.add_rules.Lts as lts
 
 abbrev Inv-loop : tie.InvT-loop
 Inv-loop k rules₀ from count i₀ rules i = (i ≤ count) × (sets rules (from + i) (drop i (standing k)) ≡ sets rules₀ from (standing k))
@@ -17,39 +16,30 @@ Inv-loop k rules₀ from count i₀ rules i = (i ≤ count) × (sets rules (from
 abbrev μ-loop : tie.MeasureT-loop
 μ-loop k rules₀ from count i₀ rules i = count - i
 
--- src/gathering.rt:40:5
 loop-holds : tie.Need-loop-holds Inv-loop μ-loop
 loop-holds c = (omega arith, rw (add-zero (c .before .args .l .count)))
 
--- src/gathering.rt:41:27
 mul-rules : tie.Need-mul-rules Inv-loop μ-loop
 mul-rules c = omega arith
 
--- src/gathering.rt:41:27
 element-copy-out-rules : tie.Need-element-copy-out-rules Inv-loop μ-loop
 element-copy-out-rules c = omega arith
 
--- src/gathering.rt:41:15
 add-rules : tie.Need-add-rules Inv-loop μ-loop
 add-rules c = omega arith
 
--- src/gathering.rt:41:9
 mul-rules-2 : tie.Need-mul-rules-2 Inv-loop μ-loop
 mul-rules-2 c = omega arith
 
--- src/gathering.rt:41:9
 array-set-from-rules : tie.Need-array-set-from-rules Inv-loop μ-loop
 array-set-from-rules c = omega arith
 
--- src/gathering.rt:40:9
 add-i : tie.Need-add-i Inv-loop μ-loop
 add-i c = omega arith
 
--- src/gathering.rt:40:5
 loop-less : tie.Need-loop-less Inv-loop μ-loop
 loop-less c = omega arith
 
--- src/gathering.rt:40:5
 loop-again : tie.Need-loop-again Inv-loop μ-loop
 loop-again c =
     let less = c .before .loop-test .taken in
@@ -57,11 +47,9 @@ loop-again c =
     let a = c .before .before .before .before .args in
     (omega arith, simp (next-place, one-written) (simp (left-next (a .t2) (c .before .before .before .before .pre .1) (l .i) less) at (l .inv .1)))
 
--- src/gathering.rt:44:16
 add-t17 : tie.Need-add-t17 Inv-loop μ-loop
 add-t17 c = omega arith
 
--- src/gathering.rt:33:1
 returns : tie.Need-returns Inv-loop μ-loop
 returns c =
     let a = c .before .before .before .args in

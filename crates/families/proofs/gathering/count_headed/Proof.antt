@@ -1,5 +1,6 @@
+-- What was counted, with what is left to count, is the whole.
 use Prim.Native.Nat.{_+_, _-_, _≤_}
-use mathlib.Core.Path.{_≡_, refl, sym, _∙_, ap}
+use mathlib.Core.Path.{_≡_, ap}
 use mathlib.Core.Logic.{⊎-elim}
 use native.Mathlib.Omega.{arith}
 use borrow.Author.Needs.{needs}
@@ -9,8 +10,6 @@ use Rattle.families.specs.Gathered.{standing}
 use Rattle.families.proofs.AddingRules.{left-none, headed-here, headed-elsewhere}
 use Rattle.families.proofs.gathering.count_headed.Statement.{statement}
 use Rattle.families.proofs.gathering.count_headed.Tie as tie
-use Rattle.families.proofs.gathering.count_headed.Reads as reads
-use Rattle.families.proofs.gathering.count_headed.Lts as lts
 
 abbrev Inv-loop : tie.InvT-loop
 Inv-loop head k count n₀ i₀ n i = (i ≤ count) × (n ≤ i) × (n + headed head (drop i (standing k)) ≡ headed head (standing k))
@@ -18,35 +17,27 @@ Inv-loop head k count n₀ i₀ n i = (i ≤ count) × (n ≤ i) × (n + headed 
 abbrev μ-loop : tie.MeasureT-loop
 μ-loop head k count n₀ i₀ n i = count - i
 
--- src/gathering.rt:56:5
 loop-holds : tie.Need-loop-holds Inv-loop μ-loop
 loop-holds c = omega arith
 
--- src/gathering.rt:57:20
 mul-rule : tie.Need-mul-rule Inv-loop μ-loop
 mul-rule c = omega arith
 
--- src/gathering.rt:57:20
 element-copy-out-rule : tie.Need-element-copy-out-rule Inv-loop μ-loop
 element-copy-out-rule c = omega arith
 
--- src/gathering.rt:58:12
 cast-if1 : tie.Need-cast-if1 Inv-loop μ-loop
 cast-if1 c = search needs
 
--- src/gathering.rt:59:13
 add-n : tie.Need-add-n Inv-loop μ-loop
 add-n c = omega arith
 
--- src/gathering.rt:56:9
 add-i : tie.Need-add-i Inv-loop μ-loop
 add-i c = omega arith
 
--- src/gathering.rt:56:5
 loop-less : tie.Need-loop-less Inv-loop μ-loop
 loop-less c = omega arith
 
--- src/gathering.rt:56:5
 loop-again : tie.Need-loop-again Inv-loop μ-loop
 loop-again c =
     let a = c .before .before .before .before .before .args in
@@ -58,7 +49,6 @@ loop-again c =
     (λ w. omega (arith, headed-elsewhere (a .t1) rows (a .head) i less (w .0 .left)))
     (c .if1 .came)
 
--- src/gathering.rt:50:1
 returns : tie.Need-returns Inv-loop μ-loop
 unfolding headed
 returns c =

@@ -1,18 +1,14 @@
+-- What is left to be raised from the loop's place on, raised there, makes the whole.
 use Prim.Native.Nat.{_+_, _-_, _≤_}
-use mathlib.Core.Path.{_≡_, refl, sym, _∙_, ap}
+use mathlib.Core.Path.{_≡_, refl, _∙_, ap}
 use mathlib.Core.List.{map}
 use native.Mathlib.Omega.{arith}
-use native.Mathlib.Numerals.{add-one}
-use borrow.Author.Needs.{needs}
 use lib.ListN.{drop}
 use lib.Seq.{sets}
 use Rattle.families.specs.Gathered.{standing, raisedBy}
 use Rattle.families.proofs.AddingRules.{one-written, left-next, left-none, rule-stands}
 use Rattle.families.proofs.gathering.raise_rules.Statement.{statement}
 use Rattle.families.proofs.gathering.raise_rules.Tie as tie
-use Rattle.families.proofs.gathering.raise_rules.Reads as reads
-use Rattle.families.proofs.gathering.raise_rules.Lts as lts
-use Rattle.families.proofs.gathering.raised_rule.Reads as raised-rule-reads
 
 abbrev Inv-loop : tie.InvT-loop
 Inv-loop by numbers k rules₀ count i₀ rules i = (i ≤ count) × (sets rules i (map (raisedBy by numbers) (drop i (standing k))) ≡ sets rules₀ 0 (map (raisedBy by numbers) (standing k)))
@@ -20,42 +16,33 @@ Inv-loop by numbers k rules₀ count i₀ rules i = (i ≤ count) × (sets rules
 abbrev μ-loop : tie.MeasureT-loop
 μ-loop by numbers k rules₀ count i₀ rules i = count - i
 
--- src/gathering.rt:120:5
 loop-holds : tie.Need-loop-holds Inv-loop μ-loop
 loop-holds c = (omega arith, refl)
 
--- src/gathering.rt:121:32
 mul-raised-rule : tie.Need-mul-raised-rule Inv-loop μ-loop
 mul-raised-rule c = omega arith
 
--- src/gathering.rt:121:32
 element-copy-out-raised-rule : tie.Need-element-copy-out-raised-rule Inv-loop μ-loop
 element-copy-out-raised-rule c = omega arith
 
--- src/gathering.rt:121:20
 raised-rule-requires : tie.Need-raised-rule-requires Inv-loop μ-loop
 raised-rule-requires c κs =
     let a = c .before .before .before .before .args in
     let p = c .before .before .before .before .pre in
     (p .0, p .2 _ (rule-stands (a .t1) (p .1) (c .before .before .loop .i) (c .before .loop-test .taken)))
 
--- src/gathering.rt:121:9
 mul-rules : tie.Need-mul-rules Inv-loop μ-loop
 mul-rules c = omega arith
 
--- src/gathering.rt:121:9
 array-set-from-rules : tie.Need-array-set-from-rules Inv-loop μ-loop
 array-set-from-rules c = omega arith
 
--- src/gathering.rt:120:9
 add-i : tie.Need-add-i Inv-loop μ-loop
 add-i c = omega arith
 
--- src/gathering.rt:120:5
 loop-less : tie.Need-loop-less Inv-loop μ-loop
 loop-less c = omega arith
 
--- src/gathering.rt:120:5
 loop-again : tie.Need-loop-again Inv-loop μ-loop
 loop-again c =
     let a = c .before .before .before .before .before .args in
@@ -63,7 +50,6 @@ loop-again c =
     let l = c .before .before .before .loop in
     (omega arith, one-written (l .rules) (l .i) (c .raised-rule .result) (map (raisedBy (a .by) (a .numbers)) (drop (l .i + 1) (standing (a .t1)))) ∙ simp (c .raised-rule .ensures) (simp (left-next (a .t1) (p .1) (l .i) (c .before .before .loop-test .taken)) at (l .inv .1)))
 
--- src/gathering.rt:114:1
 returns : tie.Need-returns Inv-loop μ-loop
 returns c =
     let a = c .before .before .before .args in

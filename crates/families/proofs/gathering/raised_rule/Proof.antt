@@ -1,66 +1,51 @@
+-- Raised motifs and a colour's number fit a byte, since the rule fits the greatest counts.
 use native.Mathlib.Omega.{arith}
 use Rattle.families.specs.Gathered.{raisedBy}
 use borrow.Author.Needs.{needs}
 use Rattle.families.proofs.gathering.raised_rule.Statement.{statement}
 use Rattle.families.proofs.gathering.raised_rule.Tie as tie
-use Rattle.families.proofs.gathering.raised_rule.Reads as reads
-use Rattle.families.proofs.gathering.raised_rule.Lts as lts
 
--- src/gathering.rt:94:14
 cast-up : tie.Need-cast-up
 cast-up c = search needs
 
--- src/gathering.rt:95:16
 add-head : tie.Need-add-head
 add-head c = search needs
 
--- src/gathering.rt:98:22
 enum-known-body : tie.Need-enum-known-body
 enum-known-body c = search needs
 
--- src/gathering.rt:100:40
 cast-t14 : tie.Need-cast-t14
 cast-t14 c = search needs
 
--- src/gathering.rt:100:32
 array-read-t17 : tie.Need-array-read-t17
 array-read-t17 c = simp (c .before .body .given .1) at (c .before .before .before .before .pre .1 .body-fits)
 
--- src/gathering.rt:102:22
 enum-known-body-2 : tie.Need-enum-known-body-2
 enum-known-body-2 c = search needs
 
--- src/gathering.rt:104:32
 add-t19 : tie.Need-add-t19
 add-t19 c = let fits = simp (c .before .body2 .given .1) at (c .before .before .before .before .pre .1 .body-fits) in omega (arith, fits, c .before .before .before .before .pre .0)
 
--- src/gathering.rt:104:43
 add-t20 : tie.Need-add-t20
 add-t20 c = let fits = simp (c .before .body2 .given .1) at (c .before .before .before .before .pre .1 .body-fits) in omega (arith, fits, c .before .before .before .before .pre .0)
 
--- src/gathering.rt:106:20
 enum-known-body-3 : tie.Need-enum-known-body-3
 enum-known-body-3 c = search needs
 
--- src/gathering.rt:108:30
 add-t22 : tie.Need-add-t22
 add-t22 c = let fits = simp (c .before .body3 .given .1) at (c .before .before .before .before .pre .1 .body-fits) in omega (arith, fits, c .before .before .before .before .pre .0)
 
--- src/gathering.rt:108:42
 add-t23 : tie.Need-add-t23
 add-t23 c = let fits = simp (c .before .body3 .given .1) at (c .before .before .before .before .pre .1 .body-fits) in omega (arith, fits, c .before .before .before .before .pre .0)
 
--- src/gathering.rt:90:1
 returns : tie.Need-returns
 unfolding raisedBy
 returns c = simp (c .before .body .given .1)
 
--- src/gathering.rt:90:1
 returns-2 : tie.Need-returns-2
 unfolding raisedBy
 returns-2 c = simp (c .before .body2 .given .1)
 
--- src/gathering.rt:90:1
 returns-3 : tie.Need-returns-3
 unfolding raisedBy
 returns-3 c = simp (c .before .body3 .given .1)

@@ -1,3 +1,4 @@
+-- The counts, with the copies, are tested before the rules are gathered, and the draft of what is gathered is one of the combination.
 use Prim.Native.Nat.{_+_, _≤_}
 use mathlib.Core.Path.{_≡_, sym, _∙_}
 use native.Mathlib.Omega.{arith}
@@ -16,36 +17,22 @@ use Rattle.families.proofs.DraftsOfTwo.{either-of-test, either-of-makes
 use borrow.Author.Needs.{needs}
 use Rattle.families.proofs.making.make_either_of.Statement.{statement}
 use Rattle.families.proofs.making.make_either_of.Tie as tie
-use Rattle.families.proofs.making.make_either_of.Reads as reads
-use Rattle.families.proofs.making.make_either_of.Lts as lts
-use Rattle.families.proofs.combining.either_rules.Reads as either-rules-reads
-use Rattle.families.proofs.combining.start_rules.Reads as start-rules-reads
-use Rattle.families.proofs.making.drafting.Reads as drafting-reads
-use Rattle.families.proofs.making.exceeding.Reads as exceeding-reads
-use Rattle.families.proofs.making.within.Reads as within-reads
-use Rattle.families.proofs.merge.merge.Reads as merge-reads
 
--- src/making.rt:76:9
 merge-requires : tie.Need-merge-requires
 merge-requires c κs = search needs
 
--- src/making.rt:78:17
 add-start : tie.Need-add-start
 add-start c = search needs
 
--- src/making.rt:79:9
 start-rules-requires : tie.Need-start-rules-requires
 start-rules-requires c κs = search needs
 
--- src/making.rt:80:9
 start-rules-requires-2 : tie.Need-start-rules-requires-2
 start-rules-requires-2 c κs = search needs
 
--- src/making.rt:82:9
 add-within : tie.Need-add-within
 add-within c = search needs
 
--- src/making.rt:83:9
 add-within-2 : tie.Need-add-within-2
 add-within-2 c = search needs
 
@@ -65,19 +52,15 @@ counted c =
       omega (arith, other .few, standing-length (rulesOf (a .g)) other, c .before .before .before .before .start-rules2 .ensures),
     )
 
--- src/making.rt:84:9
 add-within-3 : tie.Need-add-within-3
 add-within-3 c = omega (arith, counted c)
 
--- src/making.rt:84:9
 add-within-4 : tie.Need-add-within-4
 add-within-4 c = omega (arith, counted c)
 
--- src/making.rt:84:9
 add-within-5 : tie.Need-add-within-5
 add-within-5 c = omega (arith, counted c)
 
--- src/making.rt:81:8
 within-requires : tie.Need-within-requires
 within-requires c κs = search needs
 
@@ -85,7 +68,7 @@ within-requires c κs = search needs
 counts : (c : tie.After-within) → let a = c .before .before .before .before .before .before .before .before .before .before .before .before .before .args in
     c .within .result
     ≡ few? (a .f .colours .count + c .before .before .before .before .before .before .before .before .before .before .merge .result .more .count) (a .f .motifs + a .g .motifs + 1)
-      (a .f .count + a .g .count + headed (a .f .start) (standing (rulesOf (a .f))) + headed (a .g .start) (standing (rulesOf (a .g))))
+    (a .f .count + a .g .count + headed (a .f .start) (standing (rulesOf (a .f))) + headed (a .g .start) (standing (rulesOf (a .g))))
 counts c = simp (c .before .before .before .before .before .before .start-rules .ensures, c .before .before .before .before .before .start-rules2 .ensures) at (c .within .ensures)
 
 tested : (c : tie.After-within) → let a = c .before .before .before .before .before .before .before .before .before .before .before .before .before .args in
@@ -99,23 +82,18 @@ room : (c : tie.Then1) → let a = c .before .before .before .before .before .be
     a .f .count + a .g .count + headed (a .f .start) (standing (rulesOf (a .f))) + headed (a .g .start) (standing (rulesOf (a .g))) ≤ 200
 room c = few-true _ _ _ (sym (counts (c .before)) ∙ c .if1 .taken) .2
 
--- src/making.rt:87:13
 either-rules-requires : tie.Need-either-rules-requires
 either-rules-requires c κs = let p = c .before .before .before .before .before .before .before .before .before .before .before .before .before .before .before .pre in (p .0 .fitted .sized, p .1 .fitted, room (c .before))
 
--- src/making.rt:88:27
 add-drafting : tie.Need-add-drafting
 add-drafting c = let p = c .before .before .before .before .before .before .before .before .before .before .before .before .before .before .before .before .pre in omega (arith, p .0 .fitted .sized .motifs-few, p .1 .fitted .sized .motifs-few)
 
--- src/making.rt:88:9
 drafting-requires : tie.Need-drafting-requires
 drafting-requires c κs = search needs
 
--- src/making.rt:90:9
 exceeding-requires : tie.Need-exceeding-requires
 exceeding-requires c κs = search needs
 
--- src/making.rt:72:1
 returns : tie.Need-returns
 returns c =
     let a = c .before .before .before .before .before .before .before .before .before .before .before .before .before .before .before .before .before .args in
@@ -124,7 +102,6 @@ returns c =
     simp (c .drafting .ensures, c .before .either-rules .ensures)
     (either-of-makes (now (a .first)) (now (a .second)) (a .f) (a .g) _ (p .0) (p .1) (c .before .before .before .before .before .before .before .before .before .before .before .before .before .before .merge .ensures) (room then) (sym (tested (then .before)) ∙ then .if1 .taken))
 
--- src/making.rt:72:1
 returns-2 : tie.Need-returns-2
 returns-2 c =
     rw (c .exceeding .ensures) (exceeding-makes _ _ _ _ (c .before .before .before .before .before .before .before .before .before .before .before .before .before .before .before .pre .0 .fitted .sized) (sym (tested (c .before .before)) ∙ c .before .if1 .left))

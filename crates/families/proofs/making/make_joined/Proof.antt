@@ -1,3 +1,4 @@
+-- The counts are tested before the rules are gathered, and the draft of what is gathered is one of the combination.
 use Prim.Native.Nat.{_+_, _≤_}
 use mathlib.Core.Path.{_≡_, sym, _∙_}
 use native.Mathlib.Omega.{arith}
@@ -12,39 +13,25 @@ use Rattle.families.proofs.DraftsOfTwo.{joined-test, joined-makes}
 use borrow.Author.Needs.{needs}
 use Rattle.families.proofs.making.make_joined.Statement.{statement}
 use Rattle.families.proofs.making.make_joined.Tie as tie
-use Rattle.families.proofs.making.make_joined.Reads as reads
-use Rattle.families.proofs.making.make_joined.Lts as lts
-use Rattle.families.proofs.combining.joined_rules.Reads as joined-rules-reads
-use Rattle.families.proofs.making.drafting.Reads as drafting-reads
-use Rattle.families.proofs.making.exceeding.Reads as exceeding-reads
-use Rattle.families.proofs.making.within.Reads as within-reads
-use Rattle.families.proofs.merge.merge.Reads as merge-reads
 
--- src/making.rt:100:9
 merge-requires : tie.Need-merge-requires
 merge-requires c κs = search needs
 
--- src/making.rt:102:17
 add-start : tie.Need-add-start
 add-start c = search needs
 
--- src/making.rt:104:9
 add-within : tie.Need-add-within
 add-within c = search needs
 
--- src/making.rt:105:9
 add-within-2 : tie.Need-add-within-2
 add-within-2 c = search needs
 
--- src/making.rt:106:9
 add-within-3 : tie.Need-add-within-3
 add-within-3 c = let p = c .before .before .before .before .before .before .before .before .before .before .pre in omega (arith, p .0 .fitted .sized .rows .few, p .1 .fitted .sized .rows .few)
 
--- src/making.rt:106:9
 add-within-4 : tie.Need-add-within-4
 add-within-4 c = let p = c .before .before .before .before .before .before .before .before .before .before .pre in omega (arith, p .0 .fitted .sized .rows .few, p .1 .fitted .sized .rows .few)
 
--- src/making.rt:103:8
 within-requires : tie.Need-within-requires
 within-requires c κs = search needs
 
@@ -59,23 +46,18 @@ tested c =
 room : (c : tie.Then1) → let a = c .before .before .before .before .before .before .before .before .before .before .before .before .args in a .f .count + a .g .count + 1 ≤ 200
 room c = few-true _ _ _ (sym (c .before .within .ensures) ∙ c .if1 .taken) .2
 
--- src/making.rt:109:13
 joined-rules-requires : tie.Need-joined-rules-requires
 joined-rules-requires c κs = let p = c .before .before .before .before .before .before .before .before .before .before .before .before .before .pre in (p .0 .fitted .sized, p .1 .fitted, room (c .before))
 
--- src/making.rt:110:27
 add-drafting : tie.Need-add-drafting
 add-drafting c = let p = c .before .before .before .before .before .before .before .before .before .before .before .before .before .before .pre in omega (arith, p .0 .fitted .sized .motifs-few, p .1 .fitted .sized .motifs-few)
 
--- src/making.rt:110:9
 drafting-requires : tie.Need-drafting-requires
 drafting-requires c κs = search needs
 
--- src/making.rt:112:9
 exceeding-requires : tie.Need-exceeding-requires
 exceeding-requires c κs = search needs
 
--- src/making.rt:96:1
 returns : tie.Need-returns
 returns c =
     let a = c .before .before .before .before .before .before .before .before .before .before .before .before .before .before .before .args in
@@ -84,7 +66,6 @@ returns c =
     simp (c .drafting .ensures, c .before .joined-rules .ensures)
     (joined-makes (now (a .first)) (now (a .second)) (a .f) (a .g) _ (p .0) (p .1) (c .before .before .before .before .before .before .before .before .before .before .before .before .merge .ensures) (direction (a .way)) (room then) (sym (tested (then .before)) ∙ then .if1 .taken))
 
--- src/making.rt:96:1
 returns-2 : tie.Need-returns-2
 returns-2 c =
     rw (c .exceeding .ensures) (exceeding-makes _ _ _ _ (c .before .before .before .before .before .before .before .before .before .before .before .before .before .pre .0 .fitted .sized) (sym (tested (c .before .before)) ∙ c .before .if1 .left))

@@ -1,3 +1,4 @@
+-- The counts are tested before the rules are gathered, and the draft of what is gathered is one of the combination.
 use Prim.Native.Nat.{ℕ, _+_, _≤_}
 use mathlib.Core.Path.{_≡_, sym, _∙_}
 use mathlib.Core.List.{List}
@@ -16,20 +17,10 @@ use Rattle.families.proofs.Drafts.{exceeding-makes, repeated-test, repe
 use borrow.Author.Needs.{needs}
 use Rattle.families.proofs.making.make_repeated.Statement.{statement}
 use Rattle.families.proofs.making.make_repeated.Tie as tie
-use Rattle.families.proofs.making.make_repeated.Reads as reads
-use Rattle.families.proofs.making.make_repeated.Lts as lts
-use Rattle.families.proofs.combining.repeated_rules.Reads as repeated-rules-reads
-use Rattle.families.proofs.combining.start_rules.Reads as start-rules-reads
-use Rattle.families.proofs.making.drafting.Reads as drafting-reads
-use Rattle.families.proofs.making.exceeding.Reads as exceeding-reads
-use Rattle.families.proofs.making.within.Reads as within-reads
-use Rattle.names.proofs.colours.no_colours.Reads as no-colours-reads
 
--- src/making.rt:120:9
 start-rules-requires : tie.Need-start-rules-requires
 start-rules-requires c κs = search needs
 
--- src/making.rt:121:32
 add-within : tie.Need-add-within
 add-within c = search needs
 
@@ -41,15 +32,12 @@ counted c =
     let few = headed-few (f .start) (standing (rulesOf f)) in
     (rows .few, omega (arith, rows .few, standing-length (rulesOf f) rows, c .before .before .start-rules .ensures))
 
--- src/making.rt:121:46
 add-within-2 : tie.Need-add-within-2
 add-within-2 c = omega (arith, counted c)
 
--- src/making.rt:121:46
 add-within-3 : tie.Need-add-within-3
 add-within-3 c = omega (arith, counted c)
 
--- src/making.rt:121:8
 within-requires : tie.Need-within-requires
 within-requires c κs = search needs
 
@@ -62,27 +50,21 @@ tested c s =
 room : (c : tie.Then1) → let f = c .before .before .before .before .before .args .f in f .count + headed (f .start) (standing (rulesOf f)) + 1 ≤ 200
 room c = few-true _ _ _ (sym (rw (c .before .before .before .before .start-rules .ensures) at (c .before .within .ensures)) ∙ c .if1 .taken) .2
 
--- src/making.rt:122:13
 repeated-rules-requires : tie.Need-repeated-rules-requires
 repeated-rules-requires c κs = (c .before .before .before .before .before .pre, room c)
 
--- src/making.rt:123:13
 no-colours-requires : tie.Need-no-colours-requires
 no-colours-requires c κs = search needs
 
--- src/making.rt:124:27
 add-drafting : tie.Need-add-drafting
 add-drafting c = search needs
 
--- src/making.rt:124:9
 drafting-requires : tie.Need-drafting-requires
 drafting-requires c κs = search needs
 
--- src/making.rt:126:9
 exceeding-requires : tie.Need-exceeding-requires
 exceeding-requires c κs = search needs
 
--- src/making.rt:116:1
 returns : tie.Need-returns
 returns c s t =
     let a = c .before .before .before .before .before .before .before .before .before .args in
@@ -90,7 +72,6 @@ returns c s t =
     simp (c .drafting .ensures, c .before .before .no-colours .ensures, c .before .before .before .repeated-rules .ensures)
     (repeated-makes s t (a .f) (c .before .before .before .before .before .before .before .before .before .pre) (direction (a .way)) (room then) (sym (tested (then .before) s) ∙ then .if1 .taken))
 
--- src/making.rt:116:1
 returns-2 : tie.Need-returns-2
 returns-2 c s t =
     rw (c .exceeding .ensures) (exceeding-makes s t _ _ (c .before .before .before .before .before .before .pre) (sym (tested (c .before .before) s) ∙ c .before .if1 .left))

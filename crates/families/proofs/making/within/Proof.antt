@@ -1,21 +1,17 @@
+-- The three tests are those of the definition.
 use Rattle.families.specs.Within.{few?}
-use borrow.Author.Tests.{le-leb, le-ltb, lt-leb, lt-ltb}
+use borrow.Author.Tests.{le-leb, lt-leb}
 use Rattle.families.proofs.making.within.Statement.{statement}
 use Rattle.families.proofs.making.within.Tie as tie
-use Rattle.families.proofs.making.within.Reads as reads
-use Rattle.families.proofs.making.within.Lts as lts
 
--- src/making.rt:30:1
 returns : tie.Need-returns
 unfolding few?
 returns c = simp (le-leb _ _ (c .before .if1 .taken), le-leb _ _ (c .if2 .taken))
 
--- src/making.rt:30:1
 returns-2 : tie.Need-returns-2
 unfolding few?
 returns-2 c = simp (le-leb _ _ (c .before .if1 .taken), lt-leb _ _ (c .if2 .left))
 
--- src/making.rt:30:1
 returns-3 : tie.Need-returns-3
 unfolding few?
 returns-3 c = simp (lt-leb _ _ (c .if1 .left))

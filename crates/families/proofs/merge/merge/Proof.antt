@@ -1,3 +1,4 @@
+-- Each colour of the second list is looked for in the first: held, it has its number there, and lacked, it is listed after all before it.
 use Prim.Native.Nat.{_-_}
 use mathlib.Core.Path.{_≡_, refl}
 use mathlib.Core.Logic.{⊎-elim}
@@ -8,11 +9,6 @@ use borrow.Author.Needs.{needs}
 use Rattle.families.proofs.MergingLists.{SoFar, so-far-none, so-far-held, so-far-new, so-far-all}
 use Rattle.families.proofs.merge.merge.Statement.{statement}
 use Rattle.families.proofs.merge.merge.Tie as tie
-use Rattle.families.proofs.merge.merge.Reads as reads
-use Rattle.families.proofs.merge.merge.Lts as lts
-use Rattle.names.proofs.colours.find_name.Reads as find-name-reads
-use Rattle.names.proofs.colours.no_colours.Reads as no-colours-reads
-use Rattle.names.proofs.name.tail.Reads as tail-reads
 
 abbrev Inv-loop : tie.InvT-loop
 Inv-loop first f second g more₀ numbers₀ own count i₀ more numbers i = SoFar first f second g i more numbers
@@ -20,87 +16,66 @@ Inv-loop first f second g more₀ numbers₀ own count i₀ more numbers i = SoF
 abbrev μ-loop : tie.MeasureT-loop
 μ-loop first f second g more₀ numbers₀ own count i₀ more numbers i = count - i
 
--- src/merge.rt:19:20
 no-colours-requires : tie.Need-no-colours-requires Inv-loop μ-loop
 no-colours-requires c κs = tt
 
--- src/merge.rt:23:5
 loop-holds : tie.Need-loop-holds Inv-loop μ-loop
 loop-holds c = rw (c .no-colours .ensures) (so-far-none _ _ _ _ (c .before .before .before .pre .0) (c .before .before .before .pre .1) _ refl)
 
--- src/merge.rt:24:21
 mul-start : tie.Need-mul-start Inv-loop μ-loop
 mul-start c = omega arith
 
--- src/merge.rt:24:21
 element-copy-out-start : tie.Need-element-copy-out-start Inv-loop μ-loop
 element-copy-out-start c = omega arith
 
--- src/merge.rt:25:19
 element-copy-out-len : tie.Need-element-copy-out-len Inv-loop μ-loop
 element-copy-out-len c = omega arith
 
--- src/merge.rt:29:32
 cast-tail : tie.Need-cast-tail Inv-loop μ-loop
 cast-tail c = search needs
 
--- src/merge.rt:29:13
 tail-requires : tie.Need-tail-requires Inv-loop μ-loop
 tail-requires c κs = tt
 
--- src/merge.rt:30:13
 cast-find-name : tie.Need-cast-find-name Inv-loop μ-loop
 cast-find-name c = search needs
 
--- src/merge.rt:26:13
 find-name-requires : tie.Need-find-name-requires Inv-loop μ-loop
 find-name-requires c κs = tt
 
--- src/merge.rt:33:26
 cast-numbers : tie.Need-cast-numbers Inv-loop μ-loop
 cast-numbers c = omega arith
 
--- src/merge.rt:33:13
 array-write-numbers : tie.Need-array-write-numbers Inv-loop μ-loop
 array-write-numbers c = omega arith
 
--- src/merge.rt:36:27
 add-numbers : tie.Need-add-numbers Inv-loop μ-loop
 add-numbers c = omega arith
 
--- src/merge.rt:36:26
 cast-numbers-2 : tie.Need-cast-numbers-2 Inv-loop μ-loop
 cast-numbers-2 c = omega arith
 
--- src/merge.rt:36:13
 array-write-numbers-2 : tie.Need-array-write-numbers-2 Inv-loop μ-loop
 array-write-numbers-2 c = omega arith
 
--- src/merge.rt:37:13
 mul-more : tie.Need-mul-more Inv-loop μ-loop
 mul-more c = omega arith
 
--- src/merge.rt:37:13
 element-write-more : tie.Need-element-write-more Inv-loop μ-loop
 element-write-more c = omega arith
 
--- src/merge.rt:38:13
 element-write-more-2 : tie.Need-element-write-more-2 Inv-loop μ-loop
 element-write-more-2 c = omega arith
 
--- src/merge.rt:39:26
 add-more : tie.Need-add-more Inv-loop μ-loop
 add-more c = omega arith
 
--- src/merge.rt:23:9
 add-i : tie.Need-add-i Inv-loop μ-loop
 add-i c = omega arith
 
--- src/merge.rt:23:5
 loop-less : tie.Need-loop-less Inv-loop μ-loop
 loop-less c = omega arith
 
--- src/merge.rt:23:5
 loop-again : tie.Need-loop-again Inv-loop μ-loop
 loop-again c =
     let a = c .before .before .before .before .before .before .before .before .before .before .args in
@@ -114,7 +89,6 @@ loop-again c =
     (λ w. rw (w .1, w .2) (so-far-new _ (a .f) _ (a .t4) (p .0) (p .1) (l .i) _ _ less (l .inv) (rw found at (w .0 .left))))
     (c .if1 .came)
 
--- src/merge.rt:15:1
 returns : tie.Need-returns Inv-loop μ-loop
 returns c =
     let a = c .before .before .before .before .before .args in

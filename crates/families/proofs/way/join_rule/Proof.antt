@@ -1,46 +1,35 @@
+-- Each way is a line of the definition.
 use borrow.Author.Needs.{needs}
 use Rattle.families.proofs.way.join_rule.Statement.{statement}
 use Rattle.families.proofs.way.join_rule.Tie as tie
-use Rattle.families.proofs.way.join_rule.Reads as reads
-use Rattle.families.proofs.way.join_rule.Lts as lts
 
--- src/way.rt:20:19
 enum-told : tie.Need-enum-told
 enum-told c = search needs
 
--- src/way.rt:20:19
 cast-t6 : tie.Need-cast-t6
 cast-t6 c = search needs
 
--- src/way.rt:21:32
 cast-t7 : tie.Need-cast-t7
 cast-t7 c = search needs
 
--- src/way.rt:21:45
 cast-t8 : tie.Need-cast-t8
 cast-t8 c = search needs
 
--- src/way.rt:24:19
 enum-told-2 : tie.Need-enum-told-2
 enum-told-2 c = search needs
 
--- src/way.rt:24:19
 cast-t10 : tie.Need-cast-t10
 cast-t10 c = search needs
 
--- src/way.rt:25:30
 cast-t11 : tie.Need-cast-t11
 cast-t11 c = search needs
 
--- src/way.rt:25:43
 cast-t12 : tie.Need-cast-t12
 cast-t12 c = search needs
 
--- src/way.rt:14:1
 returns : tie.Need-returns
 returns c = simp (c .enum-told .given .1)
 
--- src/way.rt:14:1
 returns-2 : tie.Need-returns-2
 returns-2 c = simp (c .enum-told2 .given .1)
 

@@ -1,3 +1,4 @@
+-- A refused book is blamed; of an accepted one the combination is made, which keeps the rules, so that its length can be answered, and finished.
 use Prim.Native.Nat.{ℕ}
 use mathlib.Core.List.{List}
 use native.Mathlib.Omega.{arith}
@@ -9,29 +10,18 @@ use Rattle.families.specs.Calls.{alone}
 use Rattle.families.proofs.Reading.{read-lent, read-accepted, blamed-packs, blamed-leaves}
 use Rattle.families.proofs.Finishing.{alone-keeps, finishes, finished-leaves}
 use borrow.Author.Needs.{needs}
-use Rattle.families.proofs.calls.on_one.Statement.{statement}
-use Rattle.families.proofs.calls.on_one.Tie as tie
-use Rattle.families.proofs.calls.on_one.Reads as reads
-use Rattle.families.proofs.calls.on_one.Lts as lts
-use Rattle.books.proofs.answer.blame.Reads as blame-reads
-use Rattle.books.proofs.answer.pack.Reads as pack-reads
-use Rattle.books.proofs.book.read_book.Reads as read-book-reads
-use Rattle.families.proofs.calls.finish.Reads as finish-reads
-use Rattle.families.proofs.calls.make_single.Reads as make-single-reads
+use Rattle.families.proofs.answering.on_one.Statement.{statement}
+use Rattle.families.proofs.answering.on_one.Tie as tie
 
--- src/calls.rt:102:9
 read-book-requires : tie.Need-read-book-requires
 read-book-requires c κs = search needs
 
--- src/calls.rt:105:29
 blame-requires : tie.Need-blame-requires
 blame-requires c κs = search needs
 
--- src/calls.rt:105:9
 pack-requires : tie.Need-pack-requires
 pack-requires c κs = blamed-packs (now (c .before .before .before .before .before .before .before .args .book)) _ (c .before .before .before .before .read-book .ensures) 1 _ (c .blame .ensures) (omega arith)
 
--- src/calls.rt:105:9
 returns : tie.Need-returns
 returns c = blamed-leaves (now (c .before .before .before .before .before .before .before .before .args .book)) _ (c .before .before .before .before .before .read-book .ensures) 1 _ (c .before .blame .ensures) _ _ _ (c .before .before .if1 .taken) (c .pack .ensures)
 
@@ -39,11 +29,9 @@ returns c = blamed-leaves (now (c .before .before .before .before .before .befor
 book-lent : (c : tie.After-f) → Lent (now (c .before .before .before .before .before .before .before .args .book)) (c .before .before .before .before .read-book .result .family)
 book-lent c = read-lent (now (c .before .before .before .before .before .before .before .args .book)) _ (c .before .before .before .before .read-book .ensures) (λ i. c .before .before .before .before .before .before .shared-slice-known .given i .fits) (c .before .if1 .left)
 
--- src/calls.rt:108:24
 make-single-requires : tie.Need-make-single-requires
 make-single-requires c κs = book-lent c .fitted .sized
 
--- src/calls.rt:108:5
 finish-requires : tie.Need-finish-requires
 finish-requires c κs =
     let a = c .before .before .before .before .before .before .before .before .before .args in
@@ -52,11 +40,9 @@ finish-requires c κs =
     finishes s s (alone (a .single) book) (c .before .make-single .result) (c .before .make-single .ensures s s)
     (alone-keeps (a .single) book (book-lent (c .before .before) .keeps))
 
--- src/calls.rt:99:1
 same-length : tie.Need-same-length
 same-length c = search needs
 
--- src/calls.rt:99:1
 returns-2 : tie.Need-returns-2
 returns-2 c =
     let a = c .before .before .before .before .before .before .before .before .before .before .before .before .args in

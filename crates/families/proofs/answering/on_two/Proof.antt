@@ -1,43 +1,31 @@
+-- A refused first book is blamed, and an accepted one is lent to what follows.
 use native.Mathlib.Omega.{arith}
 use denote.Ref.{now}
 use Rattle.families.specs.Outcome.{onSecond}
 use Rattle.families.specs.Calls.{paired}
 use Rattle.families.proofs.Reading.{read-lent, read-accepted, blamed-packs, blamed-leaves}
 use borrow.Author.Needs.{needs}
-use Rattle.families.proofs.calls.on_two.Statement.{statement}
-use Rattle.families.proofs.calls.on_two.Tie as tie
-use Rattle.families.proofs.calls.on_two.Reads as reads
-use Rattle.families.proofs.calls.on_two.Lts as lts
-use Rattle.books.proofs.answer.blame.Reads as blame-reads
-use Rattle.books.proofs.answer.pack.Reads as pack-reads
-use Rattle.books.proofs.book.read_book.Reads as read-book-reads
-use Rattle.families.proofs.calls.on_second.Reads as on-second-reads
+use Rattle.families.proofs.answering.on_two.Statement.{statement}
+use Rattle.families.proofs.answering.on_two.Tie as tie
 
--- src/calls.rt:90:9
 read-book-requires : tie.Need-read-book-requires
 read-book-requires c κs = search needs
 
--- src/calls.rt:93:29
 blame-requires : tie.Need-blame-requires
 blame-requires c κs = search needs
 
--- src/calls.rt:93:9
 pack-requires : tie.Need-pack-requires
 pack-requires c κs = blamed-packs (now (c .before .before .before .before .before .before .before .before .args .first)) _ (c .before .before .before .before .read-book .ensures) 1 _ (c .blame .ensures) (omega arith)
 
--- src/calls.rt:93:9
 returns : tie.Need-returns
 returns c = blamed-leaves (now (c .before .before .before .before .before .before .before .before .before .args .first)) _ (c .before .before .before .before .before .read-book .ensures) 1 _ (c .before .blame .ensures) _ _ _ (c .before .before .if1 .taken) (c .pack .ensures)
 
--- src/calls.rt:96:5
 on-second-requires : tie.Need-on-second-requires
 on-second-requires c κs = read-lent (now (c .before .before .before .before .before .before .before .before .before .args .first)) _ (c .before .before .before .before .before .read-book .ensures) (λ i. c .before .before .before .before .before .before .before .before .shared-slice-known .given i .fits) (c .before .before .if1 .left)
 
--- src/calls.rt:87:1
 same-length : tie.Need-same-length
 same-length c = search needs
 
--- src/calls.rt:87:1
 returns-2 : tie.Need-returns-2
 returns-2 c =
     let a = c .before .before .before .before .before .before .before .before .before .before .before .before .args in

@@ -1,3 +1,4 @@
+-- A draft within the limits is written, and the writer's answer packs; what exceeds the limits is answered 12 and written nowhere.
 use mathlib.Core.Path.{refl}
 use native.Mathlib.Omega.{arith}
 use denote.Ref.{now}
@@ -5,49 +6,36 @@ use Rattle.books.specs.Draft.{draftIn}
 use Rattle.books.proofs.Packing.{plain-packs}
 use Rattle.families.proofs.Finishing.{written-by, written-packs}
 use borrow.Author.Needs.{needs}
-use Rattle.families.proofs.calls.finish.Statement.{statement}
-use Rattle.families.proofs.calls.finish.Tie as tie
-use Rattle.families.proofs.calls.finish.Reads as reads
-use Rattle.families.proofs.calls.finish.Lts as lts
-use Rattle.books.proofs.answer.pack.Reads as pack-reads
-use Rattle.books.proofs.answer.unblamed.Reads as unblamed-reads
-use Rattle.books.proofs.writing.write_book.Reads as write-book-reads
+use Rattle.families.proofs.answering.finish.Statement.{statement}
+use Rattle.families.proofs.answering.finish.Tie as tie
 
--- src/calls.rt:66:13
 write-book-requires : tie.Need-write-book-requires
 write-book-requires c κs = search needs
 
--- src/calls.rt:67:22
 unblamed-requires : tie.Need-unblamed-requires
 unblamed-requires c κs = search needs
 
--- src/calls.rt:67:9
 pack-requires : tie.Need-pack-requires
 pack-requires c κs =
     let a = c .before .before .before .before .before .before .before .before .before .before .args in
     rw (c .unblamed .ensures, c .before .before .before .write-book .ensures .0)
     (written-packs (draftIn (now (a .first)) (now (a .second)) (a .m .draft)) (now (a .out)) (c .before .before .before .before .before .before .before .before .before .before .pre .count-fits (c .before .before .before .before .before .before .if1 .taken)))
 
--- src/calls.rt:69:22
 unblamed-requires-2 : tie.Need-unblamed-requires-2
 unblamed-requires-2 c κs = search needs
 
--- src/calls.rt:69:9
 pack-requires-2 : tie.Need-pack-requires-2
 pack-requires-2 c κs = rw (c .unblamed2 .ensures) (plain-packs 12 0 (omega arith) (omega arith))
 
--- src/calls.rt:60:1
 same-length : tie.Need-same-length
 same-length c = search needs
 
--- src/calls.rt:60:1
 returns : tie.Need-returns
-returns c = 
+returns c =
     let a = c .before .before .before .before .before .before .before .before .before .before .before .args in
     let w = c .before .before .before .before .write-book .ensures in
     simp (c .before .before .before .before .before .before .before .if1 .taken, written-by) (record { answers = simp (c .before .unblamed .ensures, w .0) at (c .pack .ensures); leaves = w .1 })
 
--- src/calls.rt:60:1
 returns-2 : tie.Need-returns-2
 returns-2 c = simp (c .before .before .if1 .left) (record { answers = simp (c .before .unblamed2 .ensures) at (c .pack2 .ensures); leaves = refl })
 

@@ -1,3 +1,4 @@
+-- A refused second book is blamed; of two accepted ones the combination is made, which keeps the rules, so that its length can be answered, and finished.
 use native.Mathlib.Omega.{arith}
 use denote.Ref.{now}
 use Rattle.books.specs.Contents.{Contents}
@@ -7,29 +8,18 @@ use Rattle.families.specs.Calls.{paired}
 use Rattle.families.proofs.Reading.{read-lent, read-accepted, blamed-packs, blamed-leaves}
 use Rattle.families.proofs.Finishing.{paired-keeps, finishes, finished-leaves}
 use borrow.Author.Needs.{needs}
-use Rattle.families.proofs.calls.on_second.Statement.{statement}
-use Rattle.families.proofs.calls.on_second.Tie as tie
-use Rattle.families.proofs.calls.on_second.Reads as reads
-use Rattle.families.proofs.calls.on_second.Lts as lts
-use Rattle.books.proofs.answer.blame.Reads as blame-reads
-use Rattle.books.proofs.answer.pack.Reads as pack-reads
-use Rattle.books.proofs.book.read_book.Reads as read-book-reads
-use Rattle.families.proofs.calls.finish.Reads as finish-reads
-use Rattle.families.proofs.calls.make_pair.Reads as make-pair-reads
+use Rattle.families.proofs.answering.on_second.Statement.{statement}
+use Rattle.families.proofs.answering.on_second.Tie as tie
 
--- src/calls.rt:78:9
 read-book-requires : tie.Need-read-book-requires
 read-book-requires c κs = search needs
 
--- src/calls.rt:81:29
 blame-requires : tie.Need-blame-requires
 blame-requires c κs = search needs
 
--- src/calls.rt:81:9
 pack-requires : tie.Need-pack-requires
 pack-requires c κs = blamed-packs (now (c .before .before .before .before .before .before .before .before .args .second)) _ (c .before .before .before .before .read-book .ensures) 2 _ (c .blame .ensures) (omega arith)
 
--- src/calls.rt:81:9
 returns : tie.Need-returns
 returns c = blamed-leaves (now (c .before .before .before .before .before .before .before .before .before .args .second)) _ (c .before .before .before .before .before .read-book .ensures) 2 _ (c .before .blame .ensures) _ _ _ (c .before .before .if1 .taken) (c .pack .ensures)
 
@@ -37,11 +27,9 @@ returns c = blamed-leaves (now (c .before .before .before .before .before .befor
 second-lent : (c : tie.After-g) → Lent (now (c .before .before .before .before .before .before .before .before .args .second)) (c .before .before .before .before .read-book .result .family)
 second-lent c = read-lent (now (c .before .before .before .before .before .before .before .before .args .second)) _ (c .before .before .before .before .read-book .ensures) (λ i. c .before .before .before .before .before .before .shared-slice-known2 .given i .fits) (c .before .if1 .left)
 
--- src/calls.rt:84:27
 make-pair-requires : tie.Need-make-pair-requires
 make-pair-requires c κs = (c .before .before .before .before .before .before .before .before .pre, second-lent c)
 
--- src/calls.rt:84:5
 finish-requires : tie.Need-finish-requires
 finish-requires c κs =
     let a = c .before .before .before .before .before .before .before .before .before .before .args in
@@ -50,11 +38,9 @@ finish-requires c κs =
     finishes (now (a .first)) (now (a .second)) (paired (a .pairing) first second) (c .before .make-pair .result) (c .before .make-pair .ensures)
     (paired-keeps (a .pairing) first second (c .before .before .before .before .before .before .before .before .before .before .pre .keeps) (second-lent (c .before .before) .keeps))
 
--- src/calls.rt:74:1
 same-length : tie.Need-same-length
 same-length c = search needs
 
--- src/calls.rt:74:1
 returns-2 : tie.Need-returns-2
 returns-2 c =
     let a = c .before .before .before .before .before .before .before .before .before .before .before .before .before .args in

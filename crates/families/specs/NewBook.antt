@@ -1,0 +1,28 @@
+-- What a call that answers 0 has written: a new book at the front of the output slice, and nothing beyond it.
+use Prim.Native.Nat.{ℕ, _≤_}
+use mathlib.Core.Path.{_≡_}
+use mathlib.Core.List.{List}
+use mathlib.Core.Logic.{_↔_}
+use lib.ListN.{length, take, drop}
+use Rattle.names.specs.Pick.{fault}
+use Rattle.books.specs.Contents.{Contents}
+use Rattle.books.specs.Held.{contentsIn}
+use Rattle.books.specs.Book.{bookOf}
+use Rattle.books.specs.Derives.{Family}
+use Rattle.books.specs.Keeps.{Keeps}
+use Rattle.books.specs.Picture.{Picture}
+
+-- the contents of the book that these bytes are, and the pictures that it holds
+abbrev pub bookIn : List ℕ → Contents
+bookIn s = contentsIn s (bookOf s .family)
+
+abbrev pub Held : List ℕ → Picture → Type 0
+Held s = Family (bookIn s)
+
+-- the first count bytes of left are a book that keeps the rules and holds exactly the pictures of X; beyond them left is as out was
+pub record NewBook (out left : List ℕ) (count : ℕ) (X : Picture → Type 0) : Type 0 where
+  pub accepted : bookOf (take count left) .fault ≡ fault 0 0
+  pub keeps : Keeps (bookIn (take count left))
+  pub holds : (p : Picture) → Held (take count left) p ↔ X p
+  pub beyond : drop count left ≡ drop count out
+  pub as-long : length left ≡ length out
