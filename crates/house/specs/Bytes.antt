@@ -1,0 +1,84 @@
+-- The house book, its sheets and its combinations, byte by byte as document 01 shows or describes them.
+use Prim.Native.Nat.{ℕ}
+use mathlib.Core.List.{List, [], _∷_, _++_}
+use Rattle.names.specs.Name.{Name}
+use Rattle.books.specs.Contents.{Contents}
+use Rattle.books.specs.declared.rule.Body.the-variants.{Colour, Across, Down}
+
+-- "Slate", "Slate C" and "Slate U"
+abbrev pub slate : Name
+slate = 83 ∷ 108 ∷ 97 ∷ 116 ∷ 101 ∷ []
+
+abbrev pub slateC : Name
+slateC = slate ++ (32 ∷ 67 ∷ [])
+
+abbrev pub slateU : Name
+slateU = slate ++ (32 ∷ 85 ∷ [])
+
+-- the colour list of the house book, which most of its sheets have too
+abbrev pub twoColours : List ℕ
+twoColours = 2 ∷ 7 ∷ slateC ++ (7 ∷ slateU)
+
+-- the four rules of the house book, and the same with the motifs raised by three
+abbrev pub houseRules : List ℕ
+houseRules = 0 ∷ 1 ∷ 0 ∷ 0 ∷ 0 ∷ 2 ∷ 1 ∷ 2 ∷ 1 ∷ 0 ∷ 0 ∷ 2 ∷ 0 ∷ 1 ∷ []
+
+abbrev pub raisedRules : List ℕ
+raisedRules = 3 ∷ 1 ∷ 3 ∷ 3 ∷ 3 ∷ 2 ∷ 4 ∷ 5 ∷ 4 ∷ 0 ∷ 0 ∷ 5 ∷ 0 ∷ 1 ∷ []
+
+-- 34 bytes: the colours; three motifs, the start motif 0 and four rules; the rules
+abbrev pub houseBook : List ℕ
+houseBook = twoColours ++ (3 ∷ 0 ∷ 4 ∷ houseRules)
+
+-- what the house book says
+abbrev pub houseContents : Contents
+houseContents =
+    record {
+      colours = slateC ∷ slateU ∷ [];
+      motifs = 3;
+      start = 0;
+      rules = record { head = 0; body = Across 0 0 } ∷ record { head = 0; body = Down 1 2 } ∷ record { head = 1; body = Colour 0 } ∷ record { head = 2; body = Colour 1 } ∷ [];
+    }
+
+-- two rows of three columns, Slate C over Slate U
+abbrev pub sheetA : List ℕ
+sheetA = twoColours ++ (2 ∷ 3 ∷ 0 ∷ 0 ∷ 0 ∷ 1 ∷ 1 ∷ 1 ∷ [])
+
+-- sheet A with its two colours listed in the other order, and the cells renumbered
+abbrev pub sheetAReordered : List ℕ
+sheetAReordered = 2 ∷ 7 ∷ slateU ++ (7 ∷ slateC ++ (2 ∷ 3 ∷ 1 ∷ 1 ∷ 1 ∷ 0 ∷ 0 ∷ 0 ∷ []))
+
+-- sheet A with "Slate" for "Slate C"
+abbrev pub sheetASlate : List ℕ
+sheetASlate = 2 ∷ 5 ∷ slate ++ (7 ∷ slateU ++ (2 ∷ 3 ∷ 0 ∷ 0 ∷ 0 ∷ 1 ∷ 1 ∷ 1 ∷ []))
+
+-- one cell of Slate C
+abbrev pub oneCell : List ℕ
+oneCell = twoColours ++ (1 ∷ 1 ∷ 0 ∷ [])
+
+-- 2 by 1, Slate C over Slate U
+abbrev pub oneColumn : List ℕ
+oneColumn = twoColours ++ (2 ∷ 1 ∷ 0 ∷ 1 ∷ [])
+
+-- 1 by 2, Slate C then Slate U
+abbrev pub oneRow : List ℕ
+oneRow = twoColours ++ (1 ∷ 2 ∷ 0 ∷ 1 ∷ [])
+
+-- the house book transposed: kinds 1 and 2 exchanged
+abbrev pub transposedBook : List ℕ
+transposedBook = twoColours ++ (3 ∷ 0 ∷ 4 ∷ 0 ∷ 2 ∷ 0 ∷ 0 ∷ 0 ∷ 1 ∷ 1 ∷ 2 ∷ 1 ∷ 0 ∷ 0 ∷ 2 ∷ 0 ∷ 1 ∷ [])
+
+-- the house book beside itself: one rule more, for the new start motif 6
+abbrev pub besideBook : List ℕ
+besideBook = twoColours ++ (7 ∷ 6 ∷ 9 ∷ houseRules ++ (raisedRules ++ (6 ∷ 1 ∷ 0 ∷ 3 ∷ [])))
+
+-- a run of the house book: the two rules of the start motif copied for the new start motif 3, and its join
+abbrev pub runBook : List ℕ
+runBook = twoColours ++ (4 ∷ 3 ∷ 7 ∷ houseRules ++ (3 ∷ 1 ∷ 0 ∷ 0 ∷ 3 ∷ 2 ∷ 1 ∷ 2 ∷ 3 ∷ 1 ∷ 0 ∷ 3 ∷ []))
+
+-- either of the house book and itself: the rules of both start motifs copied for the new start motif 6
+abbrev pub eitherOfBook : List ℕ
+eitherOfBook =
+    twoColours
+    ++ (7 ∷ 6 ∷ 12 ∷ houseRules
+    ++ (raisedRules ++ (6 ∷ 1 ∷ 0 ∷ 0 ∷ 6 ∷ 2 ∷ 1 ∷ 2 ∷ 6 ∷ 1 ∷ 3 ∷ 3 ∷ 6 ∷ 2 ∷ 4 ∷ 5 ∷ [])))

@@ -1,0 +1,30 @@
+// The house example and the edge cases of document 01, run through the calls that a host makes. Each line says what was asked and what came of
+// it, so that it can be held against document 01; the file stdout has all of them.
+mod asking;
+mod combining;
+mod limits;
+mod palindromes;
+mod printing;
+mod refusals;
+mod slices;
+
+fn main() {
+    printing::line(
+        b"Asked: number, blamed input, place; how much of the work and tree slices was written",
+    );
+    asking::house_sheets();
+    asking::house_colours();
+    slices::run();
+    refusals::in_the_colours_of_a_book();
+    refusals::in_the_figures_of_a_book();
+    refusals::in_the_rules_of_a_book();
+    refusals::in_a_sheet();
+    limits::of_sheets();
+    limits::of_books();
+    palindromes::run();
+    printing::line(
+        b"Combined: number, blamed input, place; bytes of the new book; how much of the output slice was written",
+    );
+    combining::house_combined();
+    combining::limits();
+}

@@ -1,0 +1,42 @@
+// The column palindromes of source document 001, example 1: every column reads the same from above and from below. Motifs S, V, A2, B2, A1
+// and B1 are numbered in this order, and the rules stand in the order of the example.
+use crate::asking;
+
+fn columns(asked: &[u8], sheet: &[u8]) {
+    asking::ask_with_room(
+        asked,
+        b"\x02\x01a\x01b\x06\x00\x0f\x00\x01\x01\x00\x00\x02\x04\x02\x00\x02\x05\x03\x00\x00\x00\x00\x00\x01\x01\x02\x04\x02\x01\x02\x05\x03\x01\x00\x00\x01\x00\x01\x02\x02\x01\x04\x02\x00\x00\x03\x02\x01\x05\x03\x00\x01\x04\x00\x00\x05\x00\x01",
+        sheet,
+    );
+}
+
+pub fn run() {
+    columns(b"columns a", b"\x02\x01a\x01b\x01\x01\x00");
+    columns(b"columns a, b, a", b"\x02\x01a\x01b\x01\x03\x00\x01\x00");
+    columns(b"columns aa, bb", b"\x02\x01a\x01b\x02\x02\x00\x01\x00\x01");
+    columns(b"columns ab, ab", b"\x02\x01a\x01b\x02\x02\x00\x00\x01\x01");
+    columns(
+        b"columns aba, bbb",
+        b"\x02\x01a\x01b\x03\x02\x00\x01\x01\x01\x00\x01",
+    );
+    columns(
+        b"columns aba, bba",
+        b"\x02\x01a\x01b\x03\x02\x00\x01\x01\x01\x00\x00",
+    );
+    columns(
+        b"columns abba, bbbb, baab",
+        b"\x02\x01a\x01b\x04\x03\x00\x01\x01\x01\x01\x00\x01\x01\x00\x00\x01\x01",
+    );
+    columns(
+        b"columns abba, babb, baab",
+        b"\x02\x01a\x01b\x04\x03\x00\x01\x01\x01\x00\x00\x01\x01\x00\x00\x01\x01",
+    );
+    columns(
+        b"columns abcba, c a colour that the book lacks",
+        b"\x03\x01a\x01b\x01c\x05\x01\x00\x01\x02\x01\x00",
+    );
+    columns(
+        b"columns ababa, babab, colours listed b, a",
+        b"\x02\x01b\x01a\x05\x02\x01\x00\x00\x01\x01\x00\x00\x01\x01\x00",
+    );
+}

@@ -1,0 +1,51 @@
+// Text and numbers on the standard output.
+use libc::STDOUT_FILENO;
+
+pub fn text(bytes: &[u8]) {
+    io::write_all(STDOUT_FILENO, bytes);
+}
+
+pub fn line(bytes: &[u8]) {
+    text(bytes);
+    text(b"\n");
+}
+
+// A number with some text before it.
+pub fn figure(before: &[u8], n: u64) {
+    text(before);
+    io::print_decimal(STDOUT_FILENO, n);
+}
+
+// What was asked, and a call's answer to it: number, blamed input and place.
+pub fn answer(asked: &[u8], packed: u64) {
+    text(asked);
+    figure(b": ", packed % 256);
+    figure(b" ", packed / 256 % 16);
+    figure(b" ", packed / 4096 % 1048576);
+}
+
+fn entry(n: u32) {
+    figure(b" ", n as u64);
+}
+
+fn tree_number(n: u16) {
+    figure(b" ", n as u64);
+}
+
+// The entries of a table, in order.
+pub fn entries(before: &[u8], work: &[u32]) {
+    text(before);
+    for i in 0..work.len() {
+        entry(work[i]);
+    }
+    text(b"\n");
+}
+
+// The numbers of a tree, in order.
+pub fn numbers(before: &[u8], tree: &[u16]) {
+    text(before);
+    for i in 0..tree.len() {
+        tree_number(tree[i]);
+    }
+    text(b"\n");
+}
