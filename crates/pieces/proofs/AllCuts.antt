@@ -1,17 +1,17 @@
 -- A course passes the slots of the two parts of every cut, so that what is gathered along it is what the cuts of the piece give.
 use mathlib.Core.Path.{_≡_, ap₂}
 use mathlib.Core.List.{List}
-use Prim.Native.Nat.{ℕ, _+_, _-_, _<_}
+use Prim.Native.Nat.{ℕ, _-_}
 use native.Mathlib.Nat.{le-of-eq}
 use native.Mathlib.Omega.{arith}
 use lib.ListN.{length, getD, take, drop, length-drop}
 use lib.Seq.{take-all}
 use Rattle.books.specs.Picture.{Dir}
-use Rattle.pieces.specs.Pieces.{Inside, slotOf}
-use Rattle.pieces.specs.Parts.{extent, firstPart, restPart}
-use Rattle.pieces.specs.Course.{step, after, courseOf}
-use Rattle.pieces.specs.Joined.{gathered, joined, atCut, along}
-use Rattle.pieces.specs.Settled.{Plan, at, cutsOf}
+use Rattle.pieces.specs.Pieces.{Inside}
+use Rattle.pieces.specs.Parts.{extent}
+use Rattle.pieces.specs.Course.{courseOf}
+use Rattle.pieces.specs.Joined.{joined, atCut, along}
+use Rattle.pieces.specs.Settled.{Plan, cutsOf}
 use Rattle.pieces.specs.declared.piece.Piece.{Piece}
 use Rattle.pieces.proofs.Courses.{course-at, course-on}
 use Rattle.pieces.proofs.Gathered.{gathered-same}

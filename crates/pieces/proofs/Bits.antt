@@ -1,9 +1,8 @@
 -- The bits of a number: of | and of powers of two, and that numbers below 2 ^ k with the same bits are equal.
 use mathlib.Core.Path.{_≡_, refl, sym, ap, _∙_, subst}
-use mathlib.Core.Logic.{_⊎_, inl, inr, ⊎-elim, _↔_}
-use mathlib.Core.Bool.{Bool, true, false, false≢true}
+use mathlib.Core.Logic.{_⊎_, inl, inr, ⊎-elim}
 use Prim.Native.Nat.{ℕ, zero, suc, _+_, _-_, _*_, _/_, _%_, _^_, _≤_, _<_}
-use native.Mathlib.Nat.{mod-lt, one-mul, mul-mod-left, pow-suc, div-eq-of-lt, zero-div, zero-mul, mul-comm, lt-of-lt-of-le}
+use native.Mathlib.Nat.{mod-lt, one-mul, mul-mod-left, pow-suc, div-eq-of-lt, zero-div, zero-mul, lt-of-lt-of-le}
 use native.Mathlib.Decide.{decLt, ℕ-discrete}
 use native.Mathlib.Omega.{arith}
 use lib.Bits.{bitAnd, bitOr, or-shr, or-mod, and-high}

@@ -1,13 +1,11 @@
 -- The mask of a cell's colour is the entry of the cell: one cell is derived by a colour rule alone, and since no name stands twice in a book,
 -- the colour rules with the cell's name are those with the number that the name is found at.
 use mathlib.Core.Path.{_≡_, refl, sym, ap, _∙_, subst}
-use mathlib.Core.Bool.{Bool, true, false}
-use mathlib.Core.List.{List, [], _∷_, List·Memᴰ}
-use Prim.Native.Nat.{ℕ, zero, suc, _+_, _*_, _^_, _≤_, _<_}
+use mathlib.Core.List.{List, List·Memᴰ}
+use Prim.Native.Nat.{ℕ, _^_, _≤_, _<_}
 use native.Mathlib.Omega.{arith}
 use native.Mathlib.Decide.{ℕ-discrete}
-use lib.Dec.{eqb}
-use lib.ListN.{length, getD, take}
+use lib.ListN.{length, getD}
 use lib.Pow.{pow-pos, pow-lt}
 use lib.Seq.{getD-take, length-take-le}
 use borrow.Author.Tests.{eq-eqb, ne-eqb}
@@ -19,13 +17,12 @@ use Rattle.names.proofs.ReadingColours.{names-count}
 use Rattle.books.specs.Contents.{Contents, Has, name}
 use Rattle.books.specs.Derives.{Derives, paint, join}
 use Rattle.books.specs.Held.{contentsIn}
-use Rattle.books.specs.Keeps.{Keeps, Sound}
-use Rattle.books.specs.Picture.{Picture, Dir, across, down}
+use Rattle.books.specs.Keeps.{Keeps}
+use Rattle.books.specs.Picture.{Picture, across, down}
 use Rattle.books.specs.declared.family.Family.{Family}
 use Rattle.books.specs.declared.rule.Rule.{Rule}
 use Rattle.books.specs.declared.rule.Body.{Body}
 use Rattle.books.specs.declared.rule.Body.the-variants.{Colour, Across, Down}
-use Rattle.pieces.specs.Joined.{gathered}
 use Rattle.pieces.specs.Masks.{noRule}
 use Rattle.pieces.specs.Painted.{painterOf, painterAt, paintersOf}
 use Rattle.pieces.specs.Table.{bit, entry}

@@ -1,7 +1,7 @@
 -- What is taken at a piece: a colour rule only where the piece is one cell of that colour, a join only at a cut that works, each by the
 -- lowest rule and the smallest cut; and nothing only where no rule is taken.
-use Prim.Native.Nat.{ℕ, suc, _+_, _-_, _≤_, _<_}
-use mathlib.Core.Path.{_≡_, refl, sym, _∙_, ap}
+use Prim.Native.Nat.{ℕ, _-_, _≤_, _<_}
+use mathlib.Core.Path.{_≡_, refl, sym, _∙_}
 use mathlib.Core.Bool.{Bool, true, false, true≢false}
 use mathlib.Core.List.{List}
 use mathlib.Core.Logic.{⊎-elim}

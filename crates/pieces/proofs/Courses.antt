@@ -8,7 +8,7 @@ use native.Mathlib.Omega.{arith}
 use Rattle.books.specs.Picture.{Dir, across, down}
 use Rattle.pieces.specs.Pieces.{Room, Inside, total, stretches, place, slotOf}
 use Rattle.pieces.specs.Parts.{extent, firstPart, restPart}
-use Rattle.pieces.specs.Course.{step, after, cells, change, short, shorter, courseOf, Steps, Runs}
+use Rattle.pieces.specs.Course.{step, after, cells, change, short, shorter, courseOf, Runs}
 use Rattle.pieces.specs.declared.piece.Piece.{Piece}
 use Rattle.pieces.specs.declared.course.Course.{Course}
 use Rattle.pieces.proofs.PartsOfPieces.{first-inside, rest-inside, rest-whole}

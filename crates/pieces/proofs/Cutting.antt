@@ -1,5 +1,5 @@
 -- The parts of a piece: they lie where the piece lies, their areas make up its area, and cutting a picture's piece gives the pieces of the parts.
-use Prim.Native.Nat.{ℕ, suc, _+_, _-_, _*_, _≤_, _<_}
+use Prim.Native.Nat.{ℕ, _+_, _-_, _*_, _≤_, _<_}
 use mathlib.Core.Path.{_≡_, refl, sym, _∙_, ap}
 use native.Mathlib.Nat.{mul-add, add-mul, add-assoc, zero-add, mul-le-mul}
 use native.Mathlib.Omega.{arith}

@@ -1,14 +1,12 @@
 -- Demand 2, of the call: a sheet is accepted exactly when the rules derive it, the derivation given is the one that document 01 singles out, and the table lists
 -- exactly the motifs that derive each piece. Stated from the bytes of the lent book and sheet.
-use Prim.Native.Nat.{ℕ, _+_, _*_, _-_, _≤_, _<_}
+use Prim.Native.Nat.{ℕ, _+_, _-_, _≤_}
 use mathlib.Core.Path.{_≡_, refl, sym, ap, _∙_, subst}
-use mathlib.Core.Bool.{Bool, true, false, true≢false}
+use mathlib.Core.Bool.{true, false, true≢false}
 use mathlib.Core.List.{List, _++_}
 use mathlib.Core.Logic.{_↔_, ⊎-elim}
-use mathlib.Core.Option.{Option, some, none}
 use native.Mathlib.Omega.{arith}
 use borrow.Author.Tests.{le-ltb}
-use lib.Dec.{ltb}
 use lib.ListN.{length, getD, drop}
 use Rattle.names.proofs.Picking.{pick-ind}
 use Rattle.names.proofs.Tests.{true-or-false}
@@ -17,7 +15,6 @@ use Rattle.books.specs.Contents.{Contents}
 use Rattle.books.specs.Picture.{Picture}
 use Rattle.books.specs.Grid.{picture}
 use Rattle.books.specs.Held.{contentsIn, gridIn}
-use Rattle.books.specs.Keeps.{Sound}
 use Rattle.books.specs.Derives.{Derives, Family}
 use Rattle.books.specs.Decide.{derives?}
 use Rattle.books.specs.Book.{bookOf}
@@ -32,7 +29,7 @@ use Rattle.pieces.specs.Table.{bit, cut, table}
 use Rattle.pieces.specs.Tree.{tree}
 use Rattle.pieces.specs.Given.{Given}
 use Rattle.pieces.specs.Wrote.{outcome}
-use Rattle.pieces.specs.Derivation.{Derivation, leaving, entriesNeeded, numbersNeeded, filled, treeAnswer, judged, roomed, derivation}
+use Rattle.pieces.specs.Derivation.{Derivation, entriesNeeded, numbersNeeded, filled, judged, roomed, derivation}
 use Rattle.pieces.proofs.Entries.{entry-derives, derives-entry}
 use Rattle.pieces.proofs.ExactViews.{motif-below}
 use Rattle.pieces.proofs.Judging.{filled-holds, held-entry}

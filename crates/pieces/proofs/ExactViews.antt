@@ -1,7 +1,7 @@
 -- The views that are exact: that of the names with the motifs that derive each piece; and that of the code, where the work slice holds the
 -- table and each cell has its colour's number in the book, since an entry has the bits of those motifs and no name stands twice.
 use Prim.Native.Nat.{ℕ, _+_, _*_, _<_}
-use mathlib.Core.Path.{_≡_, refl, sym, _∙_, ap}
+use mathlib.Core.Path.{_≡_, sym, _∙_, ap}
 use mathlib.Core.Bool.{true}
 use mathlib.Core.List.{List, []}
 use mathlib.Core.Logic.{_↔_}

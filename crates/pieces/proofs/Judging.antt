@@ -2,16 +2,16 @@
 -- finds is the derivation given.
 use Prim.Native.Nat.{ℕ, _+_, _*_, _≤_, _<_}
 use mathlib.Core.Path.{_≡_, refl, sym, ap, _∙_, subst}
-use mathlib.Core.Bool.{Bool, true, false}
-use mathlib.Core.List.{List, _++_}
+use mathlib.Core.Bool.{true, false}
+use mathlib.Core.List.{List}
 use mathlib.Core.Logic.{⊎-elim}
 use mathlib.Core.Option.{Option, some, none}
 use native.Mathlib.Omega.{arith}
 use borrow.Author.Tests.{eqb-false}
 use lib.ListN.{length, getD, take, drop, length-append, length-drop, length-map}
-use lib.Seq.{take-at, take-all, length-take-le, getD-take}
+use lib.Seq.{take-at, take-all, getD-take}
 use Rattle.names.specs.Colours.{nameIn, namesIn, findName}
-use Rattle.names.specs.Name.{Name, place}
+use Rattle.names.specs.Name.{place}
 use Rattle.names.proofs.Picking.{pick-ind}
 use Rattle.names.proofs.Tests.{lt-or-le}
 use Rattle.names.proofs.Finding.{find-place}
@@ -34,7 +34,7 @@ use Rattle.books.proofs.ReadingSheets.{sheet-lies}
 use Rattle.books.proofs.SpellingSheets.{sheet-accepted}
 use Rattle.pieces.specs.declared.piece.Piece.{Piece}
 use Rattle.pieces.specs.Pieces.{piece, pieces, Inside, slotOf, total}
-use Rattle.pieces.specs.Area.{whole, treeSize}
+use Rattle.pieces.specs.Area.{whole}
 use Rattle.pieces.specs.Table.{bit, cut, entry, table}
 use Rattle.pieces.specs.View.{Exact, hasBit, seen}
 use Rattle.pieces.specs.Tree.{tree, treeOf}

@@ -1,18 +1,16 @@
 -- The joins of a direction are the rules with such a body, and masks that are laid out of them fire exactly for those rules.
-use mathlib.Core.Path.{_≡_, refl, sym, ap, ap₂, _∙_, subst}
-use mathlib.Core.Logic.{_⊎_, inl, inr, ⊎-elim}
-use mathlib.Core.List.{List, [], _∷_, _++_, List·Memᴰ, List·Memᴰ·head, List·Memᴰ·tail, List·Memᴰ·cases-cons, List·Memᴰ·not-nil, List·Memᴰ·append-cases, List·Memᴰ·eq-of-singleton, Memᴰ·append-left, Memᴰ·append-right}
-use Prim.Native.Nat.{ℕ, zero, suc, _+_, _^_, _≤_, _<_}
+use mathlib.Core.Path.{_≡_, refl, sym, ap, _∙_, subst}
+use mathlib.Core.Logic.{_⊎_, ⊎-elim}
+use mathlib.Core.List.{List, [], _∷_, List·Memᴰ, List·Memᴰ·head, List·Memᴰ·tail, List·Memᴰ·cases-cons, List·Memᴰ·not-nil, List·Memᴰ·append-cases, List·Memᴰ·eq-of-singleton, Memᴰ·append-left, Memᴰ·append-right}
+use Prim.Native.Nat.{ℕ, zero, suc, _+_, _^_, _<_}
 use native.Mathlib.Omega.{arith}
 use lib.ListN.{length, getD}
-use Rattle.books.specs.Contents.{Contents, Has}
-use Rattle.books.specs.Keeps.{Sound, RuleFits, BodyFits}
 use Rattle.books.specs.Picture.{Dir, across, down, joins}
 use Rattle.books.specs.declared.rule.Rule.{Rule}
 use Rattle.books.specs.declared.rule.Body.{Body}
 use Rattle.books.specs.declared.rule.Body.the-variants.{Colour, Across, Down}
 use Rattle.pieces.specs.Table.{bit}
-use Rattle.pieces.specs.Joined.{firing, gathered, joined}
+use Rattle.pieces.specs.Joined.{firing, joined}
 use Rattle.pieces.specs.Masks.{Join, join, joinOf, joinsIn, Laid}
 use Rattle.pieces.proofs.Gathered.{gathered-has, has-gathered, gathered-lt, firing-has, has-firing, firing-lt}
 

@@ -1,7 +1,7 @@
 -- The piece after p: one to the right; at the end of its row, at the start of the next row; after the last row, one column wider; and after the
 -- widest, one row taller. Each time one block of the list is full, so that the slot rises by one.
-use mathlib.Core.Path.{_≡_, refl, ap, _∙_}
-use Prim.Native.Nat.{ℕ, zero, suc, _+_, _-_, _*_, _≤_, _<_}
+use mathlib.Core.Path.{_≡_, ap, _∙_}
+use Prim.Native.Nat.{ℕ, _+_, _-_, _*_, _≤_, _<_}
 use native.Mathlib.Nat.{zero-mul, mul-zero, add-mul, one-mul, mul-add}
 use native.Mathlib.Omega.{arith}
 use native.Mathlib.Decide.{decLt}

@@ -1,22 +1,21 @@
 -- What the choice at a piece means for the node that is written there: its numbers are small, its parts are pieces with room of their own, and
 -- the tree is that node with their trees.
-use Prim.Native.Nat.{ℕ, _+_, _-_, _*_, _≤_, _<_}
-use mathlib.Core.Path.{_≡_, refl, sym, _∙_, ap}
-use mathlib.Core.List.{List, [], _∷_}
-use mathlib.Core.Option.{Option, some, none}
+use Prim.Native.Nat.{ℕ, _+_, _-_, _≤_, _<_}
+use mathlib.Core.Path.{_≡_, sym, _∙_, ap}
+use mathlib.Core.List.{List}
 use native.Mathlib.Omega.{arith}
 use lib.ListN.{length}
 use Rattle.pieces.specs.declared.piece.Piece.{Piece}
 use Rattle.pieces.specs.declared.part.Direction.{Direction}
 use Rattle.pieces.specs.declared.choice.Choice.{Choice}
-use Rattle.pieces.specs.declared.choice.Choice.the-variants.{NoRule, Leaf, Join}
+use Rattle.pieces.specs.declared.choice.Choice.the-variants.{Leaf, Join}
 use Rattle.pieces.specs.Pieces.{Inside}
-use Rattle.pieces.specs.Area.{area, treeSize}
+use Rattle.pieces.specs.Area.{treeSize}
 use Rattle.pieces.specs.Direction.{reach, front, back}
 use Rattle.pieces.specs.Row.{rulesIn}
-use Rattle.pieces.specs.View.{Ready, View, seen}
+use Rattle.pieces.specs.View.{Ready, seen}
 use Rattle.pieces.specs.Choice.{choose}
-use Rattle.pieces.specs.Tree.{both, nodeTree, treeOf}
+use Rattle.pieces.specs.Tree.{nodeTree, treeOf}
 use Rattle.pieces.proofs.Cutting.{reach-small, area-pos}
 use Rattle.pieces.proofs.Choosing.{Right, choose-right}
 use Rattle.pieces.proofs.Rows.{length-rules}

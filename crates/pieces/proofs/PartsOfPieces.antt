@@ -1,6 +1,6 @@
 -- The two parts of a cut are pieces of the sheet and have smaller slots, since they are narrower and as tall, or flatter.
 use mathlib.Core.Path.{_≡_}
-use Prim.Native.Nat.{ℕ, suc, _+_, _-_, _≤_, _<_}
+use Prim.Native.Nat.{ℕ, _+_, _-_, _≤_, _<_}
 use native.Mathlib.Omega.{arith}
 use Rattle.books.specs.Picture.{Dir, across, down}
 use Rattle.pieces.specs.Pieces.{piece, Inside, slotOf}

@@ -1,14 +1,14 @@
 -- A settled table whose cells are right is the table of the picture. A derivation of a piece of more than one cell ends in a join, whose parts
 -- are pieces with smaller slots; so entry for entry the joins that fire are those that derive.
-use mathlib.Core.Path.{_≡_, refl, sym, ap, ap₂, _∙_, subst}
-use mathlib.Core.Logic.{_⊎_, inl, inr, ⊎-elim, _↔_}
-use mathlib.Core.List.{List, [], _∷_, _++_, map, List·Memᴰ}
+use mathlib.Core.Path.{_≡_, refl, sym, ap, _∙_, subst}
+use mathlib.Core.Logic.{_⊎_, ⊎-elim}
+use mathlib.Core.List.{List, [], _∷_, map}
 use Prim.Native.Nat.{ℕ, zero, suc, _+_, _-_, _*_, _^_, _≤_, _<_}
 use native.Mathlib.Nat.{add-assoc}
 use native.Mathlib.Omega.{arith}
 use native.Mathlib.Decide.{decLt}
-use lib.Bits.{bitOr, or-lt}
-use lib.ListN.{length, getD, take, drop, length-map, List·getD-map}
+use lib.Bits.{or-lt}
+use lib.ListN.{length, getD, take, length-map}
 use lib.Seq.{ext-getD, getD-take, length-take-le}
 use Rattle.books.specs.Contents.{Contents, Has}
 use Rattle.books.specs.Keeps.{Sound}
@@ -18,9 +18,9 @@ use Rattle.books.proofs.SamePictures.{derives-same, same-sym}
 use Rattle.pieces.specs.Pieces.{piece, Inside, pieces, total, slotOf}
 use Rattle.pieces.specs.Parts.{extent, firstPart, restPart}
 use Rattle.pieces.specs.Table.{bit, cut, entry, table}
-use Rattle.pieces.specs.Joined.{gathered, joined}
+use Rattle.pieces.specs.Joined.{joined}
 use Rattle.pieces.specs.Settled.{Plan, at, cutsOf, Settled}
-use Rattle.pieces.specs.Masks.{Join, joinsIn, Serves}
+use Rattle.pieces.specs.Masks.{joinsIn, Serves}
 use Rattle.pieces.specs.declared.piece.Piece.{Piece}
 use Rattle.pieces.proofs.Bits.{or-split, or-left, or-right, same-bit, same-bits}
 use Rattle.pieces.proofs.Gathered.{gathered-has, has-gathered, gathered-lt}

@@ -1,15 +1,15 @@
 -- The table is settled slot by slot: an entry is made of earlier ones alone, so that writing the entry that is due disturbs none before it.
 use mathlib.Core.Path.{_≡_, refl, sym, ap, ap₂, _∙_, subst}
 use mathlib.Core.List.{List}
-use Prim.Native.Nat.{ℕ, zero, suc, _+_, _-_, _*_, _≤_, _<_}
+use Prim.Native.Nat.{ℕ, _+_, _-_, _*_, _≤_, _<_}
 use native.Mathlib.Omega.{arith}
 use native.Mathlib.Decide.{decLt}
 use lib.Bits.{bitOr}
 use lib.ListN.{length, getD, set, length-set}
 use lib.Seq.{getD-set-same, getD-set-other}
 use Rattle.books.specs.Picture.{Dir, across, down}
-use Rattle.pieces.specs.Pieces.{piece, Inside, Room, total, slotOf, NextTo}
-use Rattle.pieces.specs.Parts.{extent, firstPart, restPart}
+use Rattle.pieces.specs.Pieces.{piece, Inside, total, slotOf, NextTo}
+use Rattle.pieces.specs.Parts.{extent}
 use Rattle.pieces.specs.Joined.{joined}
 use Rattle.pieces.specs.Settled.{Plan, at, cutsOf, Settled, Filled}
 use Rattle.pieces.specs.declared.piece.Piece.{Piece}

@@ -1,7 +1,7 @@
 -- The stretches of a row of cells, counted: one length more, in closed form, and the bound that the code's numbers need.
 use mathlib.Core.Path.{_≡_, refl, sym, ap, _∙_}
-use Prim.Native.Nat.{ℕ, zero, suc, _+_, _-_, _*_, _/_, _≤_, _<_}
-use native.Mathlib.Nat.{suc-mul, zero-mul, mul-comm, mul-add, add-mul, le-trans, mul-le-mul}
+use Prim.Native.Nat.{ℕ, zero, suc, _+_, _-_, _*_, _/_, _≤_}
+use native.Mathlib.Nat.{suc-mul, zero-mul, mul-add, le-trans, mul-le-mul}
 use native.Mathlib.Numerals.{add-one}
 use native.Mathlib.Omega.{arith}
 use Rattle.pieces.specs.Pieces.{stretches, total}

@@ -1,20 +1,18 @@
 -- The tree of a derived picture: it is the derivation given, and that is one list of 2(2mn - 1) small numbers, which exists exactly where the
 -- picture is derived. Any two exact views give the same tree, so that the code's table gives this one, and at no node of it a rule is missing.
-use Prim.Native.Nat.{ℕ, _+_, _-_, _*_, _≤_, _<_}
-use mathlib.Core.Path.{_≡_, refl, sym, _∙_, ap}
-use mathlib.Core.Bool.{Bool, true}
+use Prim.Native.Nat.{ℕ, _-_, _*_, _≤_}
+use mathlib.Core.Path.{_≡_, sym, _∙_, ap}
+use mathlib.Core.Bool.{true}
 use mathlib.Core.List.{List}
 use mathlib.Core.Logic.{_↔_}
-use mathlib.Core.Option.{Option, some, none}
+use mathlib.Core.Option.{some}
 use native.Mathlib.Omega.{arith}
 use lib.ListN.{length}
 use Rattle.books.specs.Contents.{Contents}
 use Rattle.books.specs.Picture.{Picture}
 use Rattle.books.specs.Derives.{Derives}
 use Rattle.books.specs.Decide.{derives?}
-use Rattle.books.specs.declared.rule.Rule.{Rule}
 use Rattle.books.proofs.NothingEmpty.{derives-rows, derives-cols}
-use Rattle.pieces.specs.declared.piece.Piece.{Piece}
 use Rattle.pieces.specs.Pieces.{Inside}
 use Rattle.pieces.specs.Area.{whole, treeSize}
 use Rattle.pieces.specs.Table.{cut}

@@ -1,20 +1,18 @@
 -- Where a view is exact, the tree of a derived piece is the derivation given. A rule fits exactly where it can derive the piece, so that the
 -- lowest rule and the smallest cut are those of the tree, and each part of the cut is derived, and so has its tree.
 use Prim.Native.Nat.{ℕ, zero, suc, _+_, _-_, _≤_, _<_}
-use mathlib.Core.Path.{_≡_, refl, sym, _∙_, ap, ap₂, subst}
-use mathlib.Core.Bool.{Bool, true, false, true≢false}
+use mathlib.Core.Path.{_≡_, refl, sym, _∙_, ap₂}
+use mathlib.Core.Bool.{true, false, true≢false}
 use mathlib.Core.List.{List, [], _∷_, _++_}
 use mathlib.Core.Logic.{_↔_, ⊎-elim}
-use mathlib.Core.Option.{Option, some, none}
+use mathlib.Core.Option.{Option, some}
 use native.Mathlib.Nat.{add-zero}
 use native.Mathlib.Omega.{arith}
-use lib.ListN.{length, getD}
 use borrow.Author.Tests.{eq-eqb, ltb-true, lt-ltb}
 use Rattle.names.proofs.Tests.{lt-or-le}
 use Rattle.books.specs.Contents.{Contents, name}
-use Rattle.books.specs.Picture.{Picture, joins, size, first, rest}
+use Rattle.books.specs.Picture.{Picture, joins}
 use Rattle.books.specs.Derives.{Derives}
-use Rattle.books.specs.declared.rule.Rule.{Rule}
 use Rattle.books.specs.declared.rule.Body.{Body}
 use Rattle.books.specs.declared.rule.Body.the-variants.{Colour, Across as AcrossBody, Down as DownBody}
 use Rattle.books.proofs.Deciding.{and-both, and-make}
@@ -26,18 +24,16 @@ use Rattle.pieces.specs.declared.choice.Choice.the-variants.{NoRule, Lea
 use Rattle.pieces.specs.Pieces.{Inside}
 use Rattle.pieces.specs.Area.{area}
 use Rattle.pieces.specs.Direction.{dirOf, reach, front, back}
-use Rattle.pieces.specs.Masks.{noRule}
 use Rattle.pieces.specs.Table.{cut}
 use Rattle.pieces.specs.View.{View, Exact}
 use Rattle.pieces.specs.Given.{At, Works, Able, Lowest, Given, leaf, node}
-use Rattle.pieces.specs.Choice.{least, works, cutOf, fits, takes, taken, choose}
+use Rattle.pieces.specs.Choice.{works, cutOf, fits, takes, taken, choose}
 use Rattle.pieces.specs.Tree.{both, nodeTree, treeWithin, treeOf}
-use Rattle.pieces.proofs.Least.{Least, least-is}
 use Rattle.pieces.proofs.Cutting.{area-pos, front-inside, back-inside, cut-reach, cut-front, cut-back}
 use Rattle.pieces.proofs.Choosing.{Taken, Cut, Right, cut-is, cut-upto, cell-fits, choose-right}
 use Rattle.pieces.proofs.Fitting.{fits-cell}
 use Rattle.pieces.proofs.TreeSteps.{Parts, parts}
-use Rattle.pieces.proofs.Giving.{able-joins, at-has, derives-able}
+use Rattle.pieces.proofs.Giving.{at-has, derives-able}
 
 module _ (b : Contents) (p : Picture) (v : View) (exact : Exact b p v) (q : Piece) (inq : Inside (p .rows) (p .cols) q) where
   -- A cut works by the bits exactly where it works.

@@ -1,6 +1,6 @@
 -- What reading gives is what the table's parts ask, and the parts put together are the table.
-use mathlib.Core.Path.{_≡_, refl, sym, ap, ap₂, _∙_, subst}
-use mathlib.Core.List.{List, [], _∷_, _++_}
+use mathlib.Core.Path.{_≡_, refl, sym, ap, ap₂, _∙_}
+use mathlib.Core.List.{List, [], _++_}
 use Prim.Native.Nat.{ℕ, _+_, _*_, _≤_, _<_}
 use native.Mathlib.Nat.{le-trans}
 use native.Mathlib.Omega.{arith}
@@ -10,9 +10,9 @@ use Rattle.names.specs.Name.{Name}
 use Rattle.names.specs.Colours.{nameIn, namesIn, findName}
 use Rattle.names.proofs.ReadingColours.{names-count, name-at}
 use Rattle.books.specs.Contents.{Contents}
-use Rattle.books.specs.Grid.{Grid, GridKeeps, picture}
+use Rattle.books.specs.Grid.{picture}
 use Rattle.books.specs.Held.{contentsIn, gridIn}
-use Rattle.books.specs.Keeps.{Keeps, RuleFits, BodyFits}
+use Rattle.books.specs.Keeps.{BodyFits}
 use Rattle.books.specs.Picture.{Picture, across, down}
 use Rattle.books.specs.declared.family.Family.{Family}
 use Rattle.books.specs.declared.sheet.Sheet.{Sheet}
@@ -21,7 +21,7 @@ use Rattle.books.specs.declared.rule.Body.the-variants.{Colour, Across, Down}
 use Rattle.pieces.specs.Masks.{BodySmall, Small, Serves, noRule}
 use Rattle.pieces.specs.Painted.{AsRead, paintersOf, Painted, Begun, CellsOf}
 use Rattle.pieces.specs.Pieces.{piece, Room, total}
-use Rattle.pieces.specs.Settled.{Plan, Settled, Filled, masksOf, countOf, plan}
+use Rattle.pieces.specs.Settled.{Filled, masksOf, countOf, plan}
 use Rattle.pieces.specs.Table.{cut, entry, table}
 use Rattle.pieces.specs.declared.masks.Joins.{Joins}
 use Rattle.pieces.proofs.CellEntries.{rule-in, painters-entry}

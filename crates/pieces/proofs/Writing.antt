@@ -1,5 +1,5 @@
 -- What is written of a tree, step by step: a leaf, a node before its parts, and one part behind the other.
-use Prim.Native.Nat.{ℕ, suc, _+_, _≤_}
+use Prim.Native.Nat.{ℕ, _+_, _≤_}
 use mathlib.Core.Path.{_≡_, refl, sym, _∙_, ap}
 use mathlib.Core.Bool.{true, false}
 use mathlib.Core.List.{List, [], _∷_, _++_, append-assoc}
@@ -7,7 +7,7 @@ use mathlib.Core.Option.{Option, some, none}
 use native.Mathlib.Nat.{add-assoc, zero-add}
 use native.Mathlib.Numerals.{add-one}
 use native.Mathlib.Omega.{arith}
-use lib.ListN.{length, take, drop, set, replicate, length-append, length-set}
+use lib.ListN.{length, take, drop, set, replicate, length-append}
 use lib.Seq.{take-at, drop-append-add, drop-drop, length-take-le, sets-eq}
 use Rattle.pieces.specs.declared.tree.Written.{Written}
 use Rattle.pieces.specs.declared.tree.Written.the-variants.{Upto, NoRule}

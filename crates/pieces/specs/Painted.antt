@@ -14,7 +14,6 @@ use Rattle.books.specs.Keeps.{Keeps}
 use Rattle.books.specs.Picture.{Picture}
 use Rattle.books.specs.declared.family.Family.{Family}
 use Rattle.books.specs.declared.sheet.Sheet.{Sheet}
-use Rattle.books.specs.declared.rule.Rule.{Rule}
 use Rattle.books.specs.declared.rule.Body.{Body}
 use Rattle.books.specs.declared.rule.Body.the-variants.{Colour, Across, Down}
 use Rattle.pieces.specs.Joined.{gathered}

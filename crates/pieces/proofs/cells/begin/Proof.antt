@@ -4,32 +4,22 @@ use Rattle.pieces.proofs.WholeTable.{rules-small, sheet-colours, cells-
 use borrow.Author.Needs.{needs}
 use Rattle.pieces.proofs.cells.begin.Statement.{statement}
 use Rattle.pieces.proofs.cells.begin.Tie as tie
-use Rattle.pieces.proofs.cells.begin.Reads as reads
-use Rattle.pieces.proofs.cells.begin.Lts as lts
-use Rattle.pieces.proofs.cells.paint_cells.Reads as paint-cells-reads
-use Rattle.pieces.proofs.cells.paint_colours.Reads as paint-colours-reads
-use Rattle.pieces.proofs.piece.times.Reads as times-reads
 
--- src/cells.rt:88:46
 slice-aggregate-paint-colours : tie.Need-slice-aggregate-paint-colours
 slice-aggregate-paint-colours c = search needs
 
--- src/cells.rt:88:5
 paint-colours-requires : tie.Need-paint-colours-requires
 paint-colours-requires c κs =
     let s = c .before .before .before .before in
     let g = s .pre .0 in
     (g .rules-few, λ i h. rules-small g i h .head, sheet-colours g, refl)
 
--- src/cells.rt:89:9
 times-requires : tie.Need-times-requires
 times-requires c κs = search needs
 
--- src/cells.rt:90:20
 slice-aggregate-paint-cells : tie.Need-slice-aggregate-paint-cells
 slice-aggregate-paint-cells c = search needs
 
--- src/cells.rt:90:5
 paint-cells-requires : tie.Need-paint-cells-requires
 paint-cells-requires c κs =
     let s = c .before .before .before .before .before .before .before .before .before in
@@ -37,11 +27,9 @@ paint-cells-requires c κs =
     let e = c .before .before .times .ensures .0 in
     (c .before .before .before .before .paint-colours .kept .1 .1 .1 .1 .0, rw e (g .area-few), rw e (s .pre .1), rw e (cells-low g))
 
--- src/cells.rt:83:1
 same-length : tie.Need-same-length
 same-length c = search needs
 
--- src/cells.rt:83:1
 returns : tie.Need-returns
 returns c =
     let t = c .before .before .before .before .before .before .before in

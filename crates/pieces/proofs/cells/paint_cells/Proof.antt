@@ -8,8 +8,6 @@ use Rattle.pieces.proofs.Painting.{begun-start, begun-step}
 use borrow.Author.Needs.{needs}
 use Rattle.pieces.proofs.cells.paint_cells.Statement.{statement}
 use Rattle.pieces.proofs.cells.paint_cells.Tie as tie
-use Rattle.pieces.proofs.cells.paint_cells.Reads as reads
-use Rattle.pieces.proofs.cells.paint_cells.Lts as lts
 
 abbrev Inv-loop : tie.InvT-loop
 Inv-loop masks work₀ count g i₀ work i = (i ≤ count) × Begun g masks work₀ work i × (length work ≡ length work₀)
@@ -17,53 +15,41 @@ Inv-loop masks work₀ count g i₀ work i = (i ≤ count) × Begun g masks work
 abbrev μ-loop : tie.MeasureT-loop
 μ-loop masks work₀ count g i₀ work i = count - i
 
--- src/cells.rt:72:5
 loop-holds : tie.Need-loop-holds Inv-loop μ-loop
 loop-holds c = (omega arith, begun-start _ _ _, refl)
 
--- src/cells.rt:73:22
 element-copy-out-colour : tie.Need-element-copy-out-colour Inv-loop μ-loop
 element-copy-out-colour c = search needs
 
--- src/cells.rt:73:22
 cast-colour : tie.Need-cast-colour Inv-loop μ-loop
 cast-colour c = search needs
 
--- src/cells.rt:74:19
 mul-work : tie.Need-mul-work Inv-loop μ-loop
 mul-work c = let t = c .before .before in omega (arith, t .before .pre .3 (t .loop .i) (c .before .loop-test .taken))
 
--- src/cells.rt:74:19
 shared-slice-read-work : tie.Need-shared-slice-read-work Inv-loop μ-loop
 shared-slice-read-work c = let t = c .before .before .before in omega (arith, t .before .pre .3 (t .loop .i) (c .before .before .loop-test .taken))
 
--- src/cells.rt:74:9
 mul-work-2 : tie.Need-mul-work-2 Inv-loop μ-loop
 mul-work-2 c = search needs
 
--- src/cells.rt:74:9
 slice-write-work : tie.Need-slice-write-work Inv-loop μ-loop
 slice-write-work c = search needs
 
--- src/cells.rt:75:9
 add-i : tie.Need-add-i Inv-loop μ-loop
 add-i c = search needs
 
--- src/cells.rt:72:5
 loop-less : tie.Need-loop-less Inv-loop μ-loop
 loop-less c = search needs
 
--- src/cells.rt:72:5
 loop-again : tie.Need-loop-again Inv-loop μ-loop
 loop-again c =
     let t = c .before .before .before in
     (omega arith, begun-step _ _ _ _ _ (omega (arith, t .loop .inv .2, t .before .pre .2)) (t .loop .inv .1), simp length-set (t .loop .inv .2))
 
--- src/cells.rt:67:1
 same-length : tie.Need-same-length Inv-loop μ-loop
 same-length c = c .before .loop .inv .2
 
--- src/cells.rt:67:1
 returns : tie.Need-returns Inv-loop μ-loop
 returns c = let e : c .before .loop .i ≡ c .before .before .args .count = omega arith in rw (← e) (c .before .loop .inv .1)
 

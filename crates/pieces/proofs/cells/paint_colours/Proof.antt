@@ -10,11 +10,6 @@ use Rattle.pieces.proofs.Painting.{painted-step}
 use borrow.Author.Needs.{needs}
 use Rattle.pieces.proofs.cells.paint_colours.Statement.{statement}
 use Rattle.pieces.proofs.cells.paint_colours.Tie as tie
-use Rattle.pieces.proofs.cells.paint_colours.Reads as reads
-use Rattle.pieces.proofs.cells.paint_colours.Lts as lts
-use Rattle.names.proofs.colours.find_name.Reads as find-name-reads
-use Rattle.names.proofs.name.tail.Reads as tail-reads
-use Rattle.pieces.proofs.cells.painters.Reads as painters-reads
 
 abbrev Inv-loop : tie.InvT-loop
 Inv-loop book f bytes masks₀ c k₀ n masks k = (k ≤ n) × Painted book f bytes c k masks × (length masks ≡ length masks₀)
@@ -22,59 +17,45 @@ Inv-loop book f bytes masks₀ c k₀ n masks k = (k ≤ n) × Painted book f by
 abbrev μ-loop : tie.MeasureT-loop
 μ-loop book f bytes masks₀ c k₀ n masks k = n - k
 
--- src/cells.rt:57:5
 loop-holds : tie.Need-loop-holds Inv-loop μ-loop
 loop-holds c = (omega arith, λ i h. absurd (omega arith), refl)
 
--- src/cells.rt:58:21
 mul-start : tie.Need-mul-start Inv-loop μ-loop
 mul-start c = search needs
 
--- src/cells.rt:58:21
 element-copy-out-start : tie.Need-element-copy-out-start Inv-loop μ-loop
 element-copy-out-start c = search needs
 
--- src/cells.rt:58:21
 cast-start : tie.Need-cast-start Inv-loop μ-loop
 cast-start c = search needs
 
--- src/cells.rt:59:19
 element-copy-out-len : tie.Need-element-copy-out-len Inv-loop μ-loop
 element-copy-out-len c = search needs
 
--- src/cells.rt:59:19
 cast-len : tie.Need-cast-len Inv-loop μ-loop
 cast-len c = search needs
 
--- src/cells.rt:60:58
 tail-requires : tie.Need-tail-requires Inv-loop μ-loop
 tail-requires c κs = search needs
 
--- src/cells.rt:60:13
 find-name-requires : tie.Need-find-name-requires Inv-loop μ-loop
 find-name-requires c κs = search needs
 
--- src/cells.rt:61:20
 painters-requires : tie.Need-painters-requires Inv-loop μ-loop
 painters-requires c κs = let s = c .before .before .before .before .before .before .before .before .before in (s .pre .0, s .pre .1)
 
--- src/cells.rt:61:9
 mul-masks : tie.Need-mul-masks Inv-loop μ-loop
 mul-masks c = search needs
 
--- src/cells.rt:61:9
 slice-write-masks : tie.Need-slice-write-masks Inv-loop μ-loop
 slice-write-masks c = search needs
 
--- src/cells.rt:62:9
 add-k : tie.Need-add-k Inv-loop μ-loop
 add-k c = search needs
 
--- src/cells.rt:57:5
 loop-less : tie.Need-loop-less Inv-loop μ-loop
 loop-less c = search needs
 
--- src/cells.rt:57:5
 loop-again : tie.Need-loop-again Inv-loop μ-loop
 loop-again c =
     let t = c .before .before .before .before .before .before in
@@ -83,11 +64,9 @@ loop-again c =
     let named = c .before .find-name .ensures ∙ ap (λ (l : List ℕ). findName (a .book .now) (a .f .colours) (take size l)) (c .before .before .tail .ensures) in
     (omega arith, painted-step _ _ (a .bytes .now) (a .t4) (t .loop .masks) (t .loop .k) _ (omega arith) (t .loop .inv .1) (c .painters .ensures ∙ ap (paintersOf (a .f)) named), simp length-set (t .loop .inv .2))
 
--- src/cells.rt:51:1
 same-length : tie.Need-same-length Inv-loop μ-loop
 same-length c = c .before .loop .inv .2
 
--- src/cells.rt:51:1
 returns : tie.Need-returns Inv-loop μ-loop
 returns c = let e : c .before .loop .k ≡ c .before .before .before .before .before .args .t4 .count = omega arith in rw (← e) (c .before .loop .inv .1)
 

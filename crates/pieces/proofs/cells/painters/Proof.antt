@@ -9,9 +9,6 @@ use Rattle.pieces.proofs.Gathered.{gathered-next}
 use borrow.Author.Needs.{needs}
 use Rattle.pieces.proofs.cells.painters.Statement.{statement}
 use Rattle.pieces.proofs.cells.painters.Tie as tie
-use Rattle.pieces.proofs.cells.painters.Reads as reads
-use Rattle.pieces.proofs.cells.painters.Lts as lts
-use Rattle.pieces.proofs.cells.painter.Reads as painter-reads
 
 abbrev Inv-loop : tie.InvT-loop
 Inv-loop colour f acc₀ i₀ n acc i = (i ≤ n) × (acc ≡ gathered i (painterAt f colour))
@@ -19,38 +16,30 @@ Inv-loop colour f acc₀ i₀ n acc i = (i ≤ n) × (acc ≡ gathered i (painte
 abbrev μ-loop : tie.MeasureT-loop
 μ-loop colour f acc₀ i₀ n acc i = n - i
 
--- src/cells.rt:42:5
 loop-holds : tie.Need-loop-holds Inv-loop μ-loop
 unfolding gathered
 loop-holds c = search needs
 
--- src/cells.rt:43:17
 mul-r : tie.Need-mul-r Inv-loop μ-loop
 mul-r c = search needs
 
--- src/cells.rt:43:17
 element-copy-out-r : tie.Need-element-copy-out-r Inv-loop μ-loop
 element-copy-out-r c = search needs
 
--- src/cells.rt:44:16
 painter-requires : tie.Need-painter-requires Inv-loop μ-loop
 painter-requires c κs = let t = c .before .before in t .before .pre .1 (t .loop .i) (c .before .loop-test .taken)
 
--- src/cells.rt:45:9
 add-i : tie.Need-add-i Inv-loop μ-loop
 add-i c = search needs
 
--- src/cells.rt:42:5
 loop-less : tie.Need-loop-less Inv-loop μ-loop
 loop-less c = search needs
 
--- src/cells.rt:42:5
 loop-again : tie.Need-loop-again Inv-loop μ-loop
 loop-again c =
     let t = c .before .before .before in
     (omega arith, ap₂ bitOr (t .loop .inv .1) (c .painter .ensures) ∙ sym (gathered-next (t .loop .i) _))
 
--- src/cells.rt:35:1
 returns : tie.Need-returns Inv-loop μ-loop
 unfolding paintersOf
 returns c =

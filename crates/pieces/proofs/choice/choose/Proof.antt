@@ -2,7 +2,7 @@
 use Prim.Native.Nat.{_<_}
 use lib.ListN.{length}
 use Rattle.pieces.specs.Row.{rulesIn}
-use mathlib.Core.Path.{_≡_, sym, _∙_}
+use mathlib.Core.Path.{sym}
 use native.Mathlib.Omega.{arith}
 use Rattle.pieces.specs.Choice.{chosen}
 use Rattle.pieces.proofs.Fitting.{choose-rule, choose-none}
@@ -10,57 +10,40 @@ use Rattle.pieces.proofs.Rows.{length-rules}
 use borrow.Author.Needs.{needs}
 use Rattle.pieces.proofs.choice.choose.Statement.{statement}
 use Rattle.pieces.proofs.choice.choose.Tie as tie
-use Rattle.pieces.proofs.choice.choose.Reads as reads
-use Rattle.pieces.proofs.choice.choose.Lts as lts
-use Rattle.pieces.proofs.choice.lowest_rule.Reads as lowest-rule-reads
-use Rattle.pieces.proofs.choice.smallest_cut.Reads as smallest-cut-reads
-use Rattle.pieces.proofs.row.rule_at.Reads as rule-at-reads
 
--- src/choice.rt:178:9
 lowest-rule-requires : tie.Need-lowest-rule-requires
 lowest-rule-requires c κs = search needs
 
--- src/choice.rt:180:13
 rule-at-requires : tie.Need-rule-at-requires
 rule-at-requires c κs = search needs
 
--- src/choice.rt:183:32
 enum-told : tie.Need-enum-told
 enum-told c = search needs
 
--- src/choice.rt:184:26
 enum-known-body : tie.Need-enum-known-body
 enum-known-body c = search needs
 
--- src/choice.rt:185:28
 cast-left : tie.Need-cast-left
 cast-left c = search needs
 
--- src/choice.rt:186:29
 cast-right : tie.Need-cast-right
 cast-right c = search needs
 
--- src/choice.rt:187:21
 smallest-cut-requires : tie.Need-smallest-cut-requires
 smallest-cut-requires c κs = search needs
 
--- src/choice.rt:190:24
 enum-known-body-2 : tie.Need-enum-known-body-2
 enum-known-body-2 c = search needs
 
--- src/choice.rt:191:29
 cast-upper : tie.Need-cast-upper
 cast-upper c = search needs
 
--- src/choice.rt:192:29
 cast-lower : tie.Need-cast-lower
 cast-lower c = search needs
 
--- src/choice.rt:193:21
 smallest-cut-requires-2 : tie.Need-smallest-cut-requires-2
 smallest-cut-requires-2 c κs = search needs
 
--- src/choice.rt:166:1
 returns : tie.Need-returns
 unfolding chosen
 returns c =
@@ -69,7 +52,6 @@ returns c =
     let h : c .before .before .before .before .lowest-rule .result < length (rulesIn (s .args .row .now)) = omega (arith, length-rules (s .args .row .now)) in
     sym (choose-rule _ _ _ _ _ (c .before .before .before .before .lowest-rule .ensures) h (r .result) _ (r .ensures) (c .enum-told .given .1))
 
--- src/choice.rt:166:1
 returns-2 : tie.Need-returns-2
 unfolding chosen
 returns-2 c =
@@ -78,7 +60,6 @@ returns-2 c =
     let h : c .before .before .before .before .before .before .lowest-rule .result < length (rulesIn (s .args .row .now)) = omega (arith, length-rules (s .args .row .now)) in
     rw (c .smallest-cut .ensures) (sym (choose-rule _ _ _ _ _ (c .before .before .before .before .before .before .lowest-rule .ensures) h (r .result) _ (r .ensures) (c .before .before .body .given .1)))
 
--- src/choice.rt:166:1
 returns-3 : tie.Need-returns-3
 unfolding chosen
 returns-3 c =
@@ -87,7 +68,6 @@ returns-3 c =
     let h : c .before .before .before .before .before .before .lowest-rule .result < length (rulesIn (s .args .row .now)) = omega (arith, length-rules (s .args .row .now)) in
     rw (c .smallest-cut2 .ensures) (sym (choose-rule _ _ _ _ _ (c .before .before .before .before .before .before .lowest-rule .ensures) h (r .result) _ (r .ensures) (c .before .before .body2 .given .1)))
 
--- src/choice.rt:166:1
 returns-4 : tie.Need-returns-4
 returns-4 c =
     let s = c .before .before .before .before .before in

@@ -7,71 +7,52 @@ use Rattle.pieces.proofs.Fitting.{fits-cell, fits-high, fits-wide}
 use borrow.Author.Needs.{needs}
 use Rattle.pieces.proofs.choice.fits.Statement.{statement}
 use Rattle.pieces.proofs.choice.fits.Tie as tie
-use Rattle.pieces.proofs.choice.fits.Reads as reads
-use Rattle.pieces.proofs.choice.fits.Lts as lts
-use Rattle.pieces.proofs.choice.paints.Reads as paints-reads
-use Rattle.pieces.proofs.choice.smallest_cut.Reads as smallest-cut-reads
 
--- src/choice.rt:98:22
 enum-known-body : tie.Need-enum-known-body
 enum-known-body c = search needs
 
--- src/choice.rt:101:21
 paints-requires : tie.Need-paints-requires
 paints-requires c κs =
     let s = c .before .before .before .before .before .before .before .before .before in
     omega (arith, s .pre .0 .tabled, s .pre .1, s .pre .0, cell-inside _ _ _ (s .pre .1))
 
--- src/choice.rt:101:21
 returns : tie.Need-returns
 returns c = c .paints .ensures ∙ rw (c .before .before .before .before .before .before .body .given .1) (sym (fits-cell _ _ _ (c .before .before .before .if1 .taken) (c .before .if2 .taken)))
 
--- src/choice.rt:106:22
 enum-known-body-2 : tie.Need-enum-known-body-2
 enum-known-body-2 c = search needs
 
--- src/choice.rt:107:74
 cast-smallest-cut : tie.Need-cast-smallest-cut
 cast-smallest-cut c = search needs
 
--- src/choice.rt:107:86
 cast-smallest-cut-2 : tie.Need-cast-smallest-cut-2
 cast-smallest-cut-2 c = search needs
 
--- src/choice.rt:107:17
 smallest-cut-requires : tie.Need-smallest-cut-requires
 smallest-cut-requires c κs = search needs
 
--- src/choice.rt:110:20
 enum-known-body-3 : tie.Need-enum-known-body-3
 enum-known-body-3 c = search needs
 
--- src/choice.rt:111:72
 cast-smallest-cut-3 : tie.Need-cast-smallest-cut-3
 cast-smallest-cut-3 c = search needs
 
--- src/choice.rt:111:84
 cast-smallest-cut-4 : tie.Need-cast-smallest-cut-4
 cast-smallest-cut-4 c = search needs
 
--- src/choice.rt:111:17
 smallest-cut-requires-2 : tie.Need-smallest-cut-requires-2
 smallest-cut-requires-2 c κs = search needs
 
--- src/choice.rt:93:1
 returns-2 : tie.Need-returns-2
 returns-2 c = rw (c .before .before .before .before .before .body .given .1) (sym (fits-wide _ _ _ (c .before .before .if1 .taken) (c .if2 .left)))
 
--- src/choice.rt:93:1
 returns-3 : tie.Need-returns-3
 returns-3 c = rw (c .before .before .before .body .given .1) (sym (fits-high _ _ _ (c .if1 .left)))
 
--- src/choice.rt:93:1
 returns-4 : tie.Need-returns-4
 unfolding fits
 returns-4 c = rw (c .before .before .before .body2 .given .1, c .before .smallest-cut .ensures)
 
--- src/choice.rt:93:1
 returns-5 : tie.Need-returns-5
 unfolding fits
 returns-5 c = rw (c .before .before .before .body3 .given .1, c .before .smallest-cut2 .ensures)

@@ -11,36 +11,26 @@ use Rattle.pieces.specs.Table.{bit}
 use borrow.Author.Needs.{needs}
 use Rattle.pieces.proofs.choice.has.Statement.{statement}
 use Rattle.pieces.proofs.choice.has.Tie as tie
-use Rattle.pieces.proofs.choice.has.Reads as reads
-use Rattle.pieces.proofs.choice.has.Lts as lts
-use Rattle.pieces.proofs.piece.slot.Reads as slot-reads
 
--- src/choice.rt:28:9
 slot-requires : tie.Need-slot-requires
 slot-requires c κs = search needs
 
--- src/choice.rt:30:10
 mul-result : tie.Need-mul-result
 mul-result c = search needs
 
--- src/choice.rt:30:10
 shared-slice-read-result : tie.Need-shared-slice-read-result
 shared-slice-read-result c = search needs
 
--- src/choice.rt:30:23
 cast-result : tie.Need-cast-result
 cast-result c = search needs
 
--- src/choice.rt:30:10
 shr-result : tie.Need-shr-result
 shr-result c = search needs
 
--- src/choice.rt:24:1
 returns : tie.Need-returns
 unfolding hasBit bit
 returns c = rw (c .before .before .slot .ensures .0)
 
--- src/choice.rt:24:1
 returns-2 : tie.Need-returns-2
 unfolding hasBit bit
 returns-2 c =

@@ -3,23 +3,16 @@ use Rattle.pieces.specs.View.{hasColour}
 use borrow.Author.Needs.{needs}
 use Rattle.pieces.proofs.choice.paints.Statement.{statement}
 use Rattle.pieces.proofs.choice.paints.Tie as tie
-use Rattle.pieces.proofs.choice.paints.Reads as reads
-use Rattle.pieces.proofs.choice.paints.Lts as lts
-use Rattle.pieces.proofs.piece.times.Reads as times-reads
 
--- src/choice.rt:41:14
 times-requires : tie.Need-times-requires
 times-requires c κs = search needs
 
--- src/choice.rt:41:14
 add-at : tie.Need-add-at
 add-at c = search needs
 
--- src/choice.rt:42:5
 shared-slice-read-result : tie.Need-shared-slice-read-result
 shared-slice-read-result c = search needs
 
--- src/choice.rt:37:1
 returns : tie.Need-returns
 unfolding hasColour
 returns c = rw (c .before .before .times .ensures .0)

@@ -10,10 +10,6 @@ use Rattle.pieces.specs.Choice.{least, works, cutOf}
 use Rattle.pieces.proofs.Least.{least-found, least-passed, least-none}
 use Rattle.pieces.proofs.choice.smallest_cut.Statement.{statement}
 use Rattle.pieces.proofs.choice.smallest_cut.Tie as tie
-use Rattle.pieces.proofs.choice.smallest_cut.Reads as reads
-use Rattle.pieces.proofs.choice.smallest_cut.Lts as lts
-use Rattle.pieces.proofs.choice.works.Reads as works-reads
-use Rattle.pieces.proofs.part.reach.Reads as reach-reads
 
 abbrev Inv-loop : tie.InvT-loop
 Inv-loop work rows cols p d l r end k₀ k =
@@ -22,45 +18,37 @@ Inv-loop work rows cols p d l r end k₀ k =
 abbrev μ-loop : tie.MeasureT-loop
 μ-loop work rows cols p d l r end k₀ k = end - k
 
--- src/choice.rt:81:9
 reach-requires : tie.Need-reach-requires Inv-loop μ-loop
 reach-requires c κs = search needs
 
--- src/choice.rt:83:5
 loop-holds : tie.Need-loop-holds Inv-loop μ-loop
 unfolding cutOf
 loop-holds c =
     let a = c .before .before in
     (c .reach .ensures, search needs, rw (c .reach .ensures) (reach-pos _ _ _ (a .pre .1) _), rw (c .reach .ensures))
 
--- src/choice.rt:84:12
 works-requires : tie.Need-works-requires Inv-loop μ-loop
 works-requires c κs =
     let a = c .before .before .before .before in
     let v = c .before .loop .inv in
     (a .pre .0, a .pre .1, v .1, rw (← v .0) (c .loop-test .taken))
 
--- src/choice.rt:85:13
 returns : tie.Need-returns Inv-loop μ-loop
 returns c =
     let v = c .before .before .before .loop .inv in
     sym (least-found _ _ _ (c .before .before .loop-test .taken) (sym (c .before .works .ensures) ∙ c .if1 .taken)) ∙ v .3
 
--- src/choice.rt:87:9
 add-k : tie.Need-add-k Inv-loop μ-loop
 add-k c = search needs
 
--- src/choice.rt:83:5
 loop-less : tie.Need-loop-less Inv-loop μ-loop
 loop-less c = search needs
 
--- src/choice.rt:83:5
 loop-again : tie.Need-loop-again Inv-loop μ-loop
 loop-again c =
     let v = c .before .before .before .loop .inv in
     (v .0, search needs, search needs, sym (least-passed _ _ _ (c .before .before .loop-test .taken) (sym (c .before .works .ensures) ∙ c .if1 .left)) ∙ v .3)
 
--- src/choice.rt:69:1
 returns-2 : tie.Need-returns-2 Inv-loop μ-loop
 returns-2 c =
     let v = c .before .loop .inv in

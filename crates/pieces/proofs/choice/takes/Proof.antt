@@ -6,24 +6,17 @@ use Rattle.pieces.proofs.Least.{and-on, and-off}
 use borrow.Author.Needs.{needs}
 use Rattle.pieces.proofs.choice.takes.Statement.{statement}
 use Rattle.pieces.proofs.choice.takes.Tie as tie
-use Rattle.pieces.proofs.choice.takes.Reads as reads
-use Rattle.pieces.proofs.choice.takes.Lts as lts
-use Rattle.pieces.proofs.choice.fits.Reads as fits-reads
 
--- src/choice.rt:130:16
 cast-head : tie.Need-cast-head
 cast-head c = search needs
 
--- src/choice.rt:133:9
 fits-requires : tie.Need-fits-requires
 fits-requires c κs = search needs
 
--- src/choice.rt:118:1
 returns : tie.Need-returns
 unfolding takes
 returns c = c .fits2 .ensures ∙ sym (and-on _ _ (eq-eqb _ _ (c .before .if1 .taken)))
 
--- src/choice.rt:118:1
 returns-2 : tie.Need-returns-2
 unfolding takes
 returns-2 c = sym (and-off _ _ (ne-eqb _ _ (c .if1 .left)))

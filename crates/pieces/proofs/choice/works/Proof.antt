@@ -9,33 +9,23 @@ use Rattle.pieces.proofs.Cutting.{front-inside, back-inside}
 use borrow.Author.Needs.{needs}
 use Rattle.pieces.proofs.choice.works.Statement.{statement}
 use Rattle.pieces.proofs.choice.works.Tie as tie
-use Rattle.pieces.proofs.choice.works.Reads as reads
-use Rattle.pieces.proofs.choice.works.Lts as lts
-use Rattle.pieces.proofs.choice.has.Reads as has-reads
-use Rattle.pieces.proofs.part.back.Reads as back-reads
-use Rattle.pieces.proofs.part.front.Reads as front-reads
 
--- src/choice.rt:59:9
 front-requires : tie.Need-front-requires
 front-requires c κs = search needs
 
--- src/choice.rt:60:8
 has-requires : tie.Need-has-requires
 has-requires c κs =
     let a = c .before .before in
     (a .pre .0, rw (c .front .ensures) (front-inside _ _ _ (a .pre .1) _ _ (a .pre .2) (a .pre .3)))
 
--- src/choice.rt:61:13
 back-requires : tie.Need-back-requires
 back-requires c κs = search needs
 
--- src/choice.rt:62:9
 has-requires-2 : tie.Need-has-requires-2
 has-requires-2 c κs =
     let a = c .before .before .before .before .before in
     (a .pre .0, rw (c .back .ensures) (back-inside _ _ _ (a .pre .1) _ _ (a .pre .3)))
 
--- src/choice.rt:46:1
 returns : tie.Need-returns
 unfolding works
 returns c =
@@ -44,7 +34,6 @@ returns c =
     rw (c .before .before .before .before .front .ensures) at (sym (c .before .before .before .has .ensures) ∙ c .before .before .if1 .taken) in
     c .has2 .ensures ∙ rw (c .before .back .ensures) (sym (and-on _ _ h))
 
--- src/choice.rt:46:1
 returns-2 : tie.Need-returns-2
 unfolding works
 returns-2 c =

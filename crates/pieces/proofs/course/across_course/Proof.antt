@@ -6,84 +6,62 @@ use Rattle.pieces.proofs.Courses.{first-across, rise-begins, fall-begin
 use borrow.Author.Needs.{needs}
 use Rattle.pieces.proofs.course.across_course.Statement.{statement}
 use Rattle.pieces.proofs.course.across_course.Tie as tie
-use Rattle.pieces.proofs.course.across_course.Reads as reads
-use Rattle.pieces.proofs.course.across_course.Lts as lts
-use Rattle.pieces.proofs.piece.stretches_of.Reads as stretches-of-reads
-use Rattle.pieces.proofs.piece.times.Reads as times-reads
 
--- src/course.rt:25:23
 sub-places : tie.Need-sub-places
 sub-places c = search needs
 
--- src/course.rt:25:18
 sub-places-2 : tie.Need-sub-places-2
 sub-places-2 c = search needs
 
--- src/course.rt:27:32
 sub-stretches-of : tie.Need-sub-stretches-of
 sub-stretches-of c = search needs
 
--- src/course.rt:27:9
 stretches-of-requires : tie.Need-stretches-of-requires
 stretches-of-requires c κs = search needs
 
--- src/course.rt:28:9
 stretches-of-requires-2 : tie.Need-stretches-of-requires-2
 stretches-of-requires-2 c κs = search needs
 
--- src/course.rt:26:9
 times-requires : tie.Need-times-requires
 times-requires c κs = search needs
 
--- src/course.rt:31:15
 sub-t7 : tie.Need-sub-t7
 sub-t7 c = search needs
 
--- src/course.rt:32:27
 times-requires-2 : tie.Need-times-requires-2
 times-requires-2 c κs = search needs
 
--- src/course.rt:32:27
 add-t8 : tie.Need-add-t8
 add-t8 c = search needs
 
--- src/course.rt:32:16
 add-t10 : tie.Need-add-t10
 add-t10 c = search needs
 
--- src/course.rt:33:15
 times-requires-3 : tie.Need-times-requires-3
 times-requires-3 c κs = search needs
 
--- src/course.rt:33:15
 sub-t12 : tie.Need-sub-t12
 sub-t12 c =
     let s = c .before .before .before .before .before .before .before .before .before .before in
     omega (arith, c .before .times3 .ensures .0, rise-begins across (s .pre .1) (s .pre .1 .wide))
 
--- src/course.rt:35:28
 add-times : tie.Need-add-times
 add-times c = search needs
 
--- src/course.rt:35:28
 sub-times : tie.Need-sub-times
 sub-times c = search needs
 
--- src/course.rt:35:15
 times-requires-4 : tie.Need-times-requires-4
 times-requires-4 c κs = search needs
 
--- src/course.rt:35:56
 add-t16 : tie.Need-add-t16
 add-t16 c = search needs
 
--- src/course.rt:35:15
 sub-t17 : tie.Need-sub-t17
 sub-t17 c =
     let s = c .before .before .before .before .before .before .before .before .before .before .before .before .before in
     omega (arith, c .before .times4 .ensures .0, fall-begins across (s .pre .1))
 
--- src/course.rt:21:1
 returns : tie.Need-returns
 unfolding courseOf
 returns c =

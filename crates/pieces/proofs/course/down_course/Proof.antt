@@ -8,86 +8,64 @@ use Rattle.pieces.proofs.Courses.{first-down, rise-begins, fall-begins}
 use borrow.Author.Needs.{needs}
 use Rattle.pieces.proofs.course.down_course.Statement.{statement}
 use Rattle.pieces.proofs.course.down_course.Tie as tie
-use Rattle.pieces.proofs.course.down_course.Reads as reads
-use Rattle.pieces.proofs.course.down_course.Lts as lts
-use Rattle.pieces.proofs.piece.stretches_of.Reads as stretches-of-reads
-use Rattle.pieces.proofs.piece.times.Reads as times-reads
 
--- src/course.rt:45:9
 stretches-of-requires : tie.Need-stretches-of-requires
 stretches-of-requires c κs = search needs
 
--- src/course.rt:46:43
 sub-stretches-of : tie.Need-sub-stretches-of
 sub-stretches-of c = search needs
 
--- src/course.rt:46:9
 stretches-of-requires-2 : tie.Need-stretches-of-requires-2
 stretches-of-requires-2 c κs = search needs
 
--- src/course.rt:47:23
 sub-places : tie.Need-sub-places
 sub-places c = search needs
 
--- src/course.rt:47:18
 sub-places-2 : tie.Need-sub-places-2
 sub-places-2 c = search needs
 
--- src/course.rt:49:15
 sub-t8 : tie.Need-sub-t8
 sub-t8 c = search needs
 
--- src/course.rt:50:16
 times-requires : tie.Need-times-requires
 times-requires c κs = search needs
 
--- src/course.rt:50:45
 times-requires-2 : tie.Need-times-requires-2
 times-requires-2 c κs = search needs
 
--- src/course.rt:50:45
 add-t11 : tie.Need-add-t11
 add-t11 c = search needs
 
--- src/course.rt:50:16
 add-t12 : tie.Need-add-t12
 add-t12 c = search needs
 
--- src/course.rt:51:15
 times-requires-3 : tie.Need-times-requires-3
 times-requires-3 c κs = search needs
 
--- src/course.rt:51:15
 sub-t14 : tie.Need-sub-t14
 sub-t14 c =
     let s = c .before .before .before .before .before .before in
     let a = s .before .before .before in
     omega (arith, c .times3 .ensures .0, ap (λ (x : ℕ). a .args .m * x) (s .before .before .stretches-of .ensures .0), s .stretches-of2 .ensures .0, rise-begins down (a .pre .1) (a .pre .1 .tall))
 
--- src/course.rt:53:28
 add-times : tie.Need-add-times
 add-times c = search needs
 
--- src/course.rt:53:28
 sub-times : tie.Need-sub-times
 sub-times c = search needs
 
--- src/course.rt:53:15
 times-requires-4 : tie.Need-times-requires-4
 times-requires-4 c κs = search needs
 
--- src/course.rt:53:54
 add-t18 : tie.Need-add-t18
 add-t18 c = search needs
 
--- src/course.rt:53:15
 sub-t19 : tie.Need-sub-t19
 sub-t19 c =
     let s = c .before .before .before .before .before .before .before .before in
     let a = s .before .before .before in
     omega (arith, c .times4 .ensures .0, ap (λ (x : ℕ). (a .args .m + 2 - a .args .p .height) * x) (s .before .before .stretches-of .ensures .0), s .stretches-of2 .ensures .0, fall-begins down (a .pre .1))
 
--- src/course.rt:41:1
 returns : tie.Need-returns
 unfolding courseOf
 returns c =

@@ -1,4 +1,5 @@
-use mathlib.Core.Path.{_≡_, refl, ap, _∙_}
+-- The faults are answered in their order; a book and a sheet that are accepted are as reading gives them.
+use mathlib.Core.Path.{refl, ap, _∙_}
 use denote.Ref.{now}
 use Rattle.names.proofs.SpellingNumbers.{Bytes}
 use Rattle.books.specs.Answer.{blaming}
@@ -9,22 +10,13 @@ use Rattle.pieces.proofs.Judging.{as-read}
 use borrow.Author.Needs.{needs}
 use Rattle.pieces.proofs.derive.derive.Statement.{statement}
 use Rattle.pieces.proofs.derive.derive.Tie as tie
-use Rattle.pieces.proofs.derive.derive.Reads as reads
-use Rattle.pieces.proofs.derive.derive.Lts as lts
-use Rattle.books.proofs.answer.blame.Reads as blame-reads
-use Rattle.books.proofs.book.read_book.Reads as read-book-reads
-use Rattle.books.proofs.sheet.read_sheet.Reads as read-sheet-reads
-use Rattle.pieces.proofs.derive.fill_and_judge.Reads as fill-and-judge-reads
 
--- src/derive.rt:85:9
 read-book-requires : tie.Need-read-book-requires
 read-book-requires c κs = search needs
 
--- src/derive.rt:88:9
 blame-requires : tie.Need-blame-requires
 blame-requires c κs = search needs
 
--- src/derive.rt:88:9
 returns : tie.Need-returns
 returns c =
     let a = c .before .before .before .before .before .before .before .before .before .args in
@@ -32,15 +24,12 @@ returns c =
     rw (book-first (now (a .book)) (now (a .sheet)) (now (a .work)) (now (a .tree)) (rw read at (c .before .if1 .taken)))
     (c .blame .ensures ∙ ap (λ (r : BookRead). blaming 1 (r .fault)) read, (refl, refl))
 
--- src/derive.rt:90:9
 read-sheet-requires : tie.Need-read-sheet-requires
 read-sheet-requires c κs = search needs
 
--- src/derive.rt:93:9
 blame-requires-2 : tie.Need-blame-requires-2
 blame-requires-2 c κs = search needs
 
--- src/derive.rt:93:9
 returns-2 : tie.Need-returns-2
 returns-2 c =
     let a = c .before .before .before .before .before .before .before .before .before .before .before .before .before .args in
@@ -49,7 +38,6 @@ returns-2 c =
     rw (sheet-second (now (a .book)) (now (a .sheet)) (now (a .work)) (now (a .tree)) (rw read at (c .before .before .before .before .before .if1 .left)) (rw read2 at (c .before .if2 .taken)))
     (c .blame2 .ensures ∙ ap (λ (r : SheetRead). blaming 2 (r .fault)) read2, (refl, refl))
 
--- src/derive.rt:97:5
 fill-and-judge-requires : tie.Need-fill-and-judge-requires
 fill-and-judge-requires c κs =
     let a = c .before .before .before .before .before .before .before .before .before .before .before .before .before .before .before .before .args in
@@ -61,15 +49,12 @@ fill-and-judge-requires c κs =
     let read2 = c .before .before .before .before .before .before .before .read-sheet .ensures in
     rw (read, read2) (as-read book sheet bytes bytes2 (rw read at (c .before .before .before .before .before .before .before .before .if1 .left)) (rw read2 at (c .before .before .before .before .if2 .left)))
 
--- src/derive.rt:82:1
 same-length : tie.Need-same-length
 same-length c = search needs
 
--- src/derive.rt:82:1
 same-length-2 : tie.Need-same-length-2
 same-length-2 c = search needs
 
--- src/derive.rt:82:1
 returns-3 : tie.Need-returns-3
 returns-3 c =
     let a = c .before .before .before .before .before .before .before .before .before .before .before .before .before .before .before .before .before .before .before .before .before .args in

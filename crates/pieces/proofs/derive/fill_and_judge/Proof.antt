@@ -1,6 +1,7 @@
+-- The two tests are the definition's; then the slice holds the table, and is judged.
 use native.Mathlib.Nat.{mul-le-mul}
 use native.Mathlib.Omega.{arith}
-use mathlib.Core.Path.{_≡_, refl, sym, ap, _∙_}
+use mathlib.Core.Path.{refl}
 use borrow.Author.Tests.{lt-ltb, le-ltb}
 use denote.Ref.{now}
 use Rattle.pieces.specs.Derivation.{roomed, judged}
@@ -8,53 +9,37 @@ use Rattle.pieces.proofs.Judging.{filled-holds, judged-entries}
 use borrow.Author.Needs.{needs}
 use Rattle.pieces.proofs.derive.fill_and_judge.Statement.{statement}
 use Rattle.pieces.proofs.derive.fill_and_judge.Tie as tie
-use Rattle.pieces.proofs.derive.fill_and_judge.Reads as reads
-use Rattle.pieces.proofs.derive.fill_and_judge.Lts as lts
-use Rattle.books.proofs.answer.unblamed.Reads as unblamed-reads
-use Rattle.pieces.proofs.derive.judge.Reads as judge-reads
-use Rattle.pieces.proofs.piece.count.Reads as count-reads
-use Rattle.pieces.proofs.piece.times.Reads as times-reads
-use Rattle.pieces.proofs.table.fill_table.Reads as fill-table-reads
 
--- src/derive.rt:71:21
 count-requires : tie.Need-count-requires
 count-requires c κs = search needs
 
--- src/derive.rt:72:9
 unblamed-requires : tie.Need-unblamed-requires
 unblamed-requires c κs = search needs
 
--- src/derive.rt:72:9
 returns : tie.Need-returns
 unfolding roomed
 returns c =
     let short = rw (c .before .before .count .ensures .0) at (c .before .if1 .taken) in
     simp (lt-ltb _ _ short) (c .unblamed .ensures, (refl, refl))
 
--- src/derive.rt:74:30
 times-requires : tie.Need-times-requires
 times-requires c κs = search needs
 
--- src/derive.rt:74:26
 mul-if2 : tie.Need-mul-if2
 mul-if2 c = search needs
 
--- src/derive.rt:74:26
 sub-if2 : tie.Need-sub-if2
 sub-if2 c =
     let k = c .before .before .before .before .before .before .before .pre .sheet-keeps in
     let some = mul-le-mul (k .rows-some) (k .cols-some) in
     omega (arith, c .times .ensures .0)
 
--- src/derive.rt:74:21
 mul-if2-2 : tie.Need-mul-if2-2
 mul-if2-2 c = search needs
 
--- src/derive.rt:75:9
 unblamed-requires-2 : tie.Need-unblamed-requires-2
 unblamed-requires-2 c κs = search needs
 
--- src/derive.rt:75:9
 returns-2 : tie.Need-returns-2
 unfolding roomed
 returns-2 c =
@@ -62,26 +47,21 @@ returns-2 c =
     let short = rw (c .before .before .times .ensures .0) at (c .before .if2 .taken) in
     simp (le-ltb _ _ enough, lt-ltb _ _ short) (c .unblamed2 .ensures, (refl, refl))
 
--- src/derive.rt:77:5
 fill-table-requires : tie.Need-fill-table-requires
 fill-table-requires c κs = search needs
 
--- src/derive.rt:78:5
 judge-requires : tie.Need-judge-requires
 judge-requires c κs =
     let a = c .before .before .before .before .before .before .before .before .before .before .before .before .before .before .args in
     let enough = rw (c .before .before .before .before .before .before .before .times .ensures .0) at (c .before .before .before .before .before .before .if2 .left) in
     (c .before .before .before .before .before .before .before .before .before .before .before .before .before .before .pre, rw (c .before .before .before .before .fill-table .ensures) (filled-holds _ _ (now (a .work))), enough)
 
--- src/derive.rt:58:1
 same-length : tie.Need-same-length
 same-length c = search needs
 
--- src/derive.rt:58:1
 same-length-2 : tie.Need-same-length-2
 same-length-2 c = search needs
 
--- src/derive.rt:58:1
 returns-3 : tie.Need-returns-3
 unfolding roomed
 returns-3 c =

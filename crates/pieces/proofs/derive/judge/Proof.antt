@@ -1,9 +1,10 @@
+-- The start's bit at the whole sheet says whether the sheet is derived, and the tree that is found is the derivation given.
 use lib.ListN.{take}
 use Rattle.pieces.specs.Area.{whole}
 use Rattle.pieces.specs.Tree.{treeOf}
 use Rattle.pieces.specs.View.{seen}
 use native.Mathlib.Omega.{arith}
-use mathlib.Core.Path.{_≡_, refl, sym, ap, _∙_}
+use mathlib.Core.Path.{refl, sym, _∙_}
 use denote.Ref.{now}
 use Rattle.pieces.proofs.WholeTable.{room, cells-low}
 use Rattle.pieces.proofs.Cutting.{whole-inside}
@@ -11,15 +12,7 @@ use Rattle.pieces.proofs.Judging.{Numbered, held-long, colours-few, fou
 use borrow.Author.Needs.{needs}
 use Rattle.pieces.proofs.derive.judge.Statement.{statement}
 use Rattle.pieces.proofs.derive.judge.Tie as tie
-use Rattle.pieces.proofs.derive.judge.Reads as reads
-use Rattle.pieces.proofs.derive.judge.Lts as lts
-use Rattle.books.proofs.answer.unblamed.Reads as unblamed-reads
-use Rattle.pieces.proofs.choice.has.Reads as has-reads
-use Rattle.pieces.proofs.numbering.number_cells.Reads as number-cells-reads
-use Rattle.pieces.proofs.piece.times.Reads as times-reads
-use Rattle.pieces.proofs.tree.write_tree.Reads as write-tree-reads
 
--- src/derive.rt:36:8
 has-requires : tie.Need-has-requires
 has-requires c κs =
     let a = c .before .before .before .before .args in
@@ -28,15 +21,12 @@ has-requires c κs =
       whole-inside (a .g .rows) (a .g .cols) (given .sheet-keeps .rows-some) (given .sheet-keeps .cols-some),
     )
 
--- src/derive.rt:44:13
 times-requires : tie.Need-times-requires
 times-requires c κs = search needs
 
--- src/derive.rt:45:13
 slice-aggregate-number-cells : tie.Need-slice-aggregate-number-cells
 slice-aggregate-number-cells c = search needs
 
--- src/derive.rt:39:9
 number-cells-requires : tie.Need-number-cells-requires
 number-cells-requires c κs =
     let a = c .before .before .before .before .before .before .before .before .before .args in
@@ -44,11 +34,9 @@ number-cells-requires c κs =
     let area = c .before .times .ensures .0 in
     (colours-few given (now (a .work)) (c .before .before .before .before .before .before .before .before .before .pre .1), omega (arith, area, given .area-few), omega (arith, area, given .area-few), λ i h. cells-low given i (omega (arith, area)))
 
--- src/derive.rt:47:38
 slice-aggregate-write-tree : tie.Need-slice-aggregate-write-tree
 slice-aggregate-write-tree c = search needs
 
--- src/derive.rt:47:12
 write-tree-requires : tie.Need-write-tree-requires
 write-tree-requires c κs =
     let a = c .before .before .before .before .before .before .before .before .before .before .before .before .before .args in
@@ -58,23 +46,18 @@ write-tree-requires c κs =
       c .before .before .before .before .before .before .before .before .before .before .before .before .before .pre .2,
     )
 
--- src/derive.rt:48:13
 unblamed-requires : tie.Need-unblamed-requires
 unblamed-requires c κs = search needs
 
--- src/derive.rt:50:13
 unblamed-requires-2 : tie.Need-unblamed-requires-2
 unblamed-requires-2 c κs = search needs
 
--- src/derive.rt:53:9
 unblamed-requires-3 : tie.Need-unblamed-requires-3
 unblamed-requires-3 c κs = search needs
 
--- src/derive.rt:24:1
 same-length : tie.Need-same-length
 same-length c = search needs
 
--- src/derive.rt:24:1
 returns : tie.Need-returns
 returns c =
     let a = c .before .before .before .before .before .before .before .before .before .before .before .before .before .before .before .before .before .before .args in
@@ -87,11 +70,9 @@ returns c =
     rw (judged-by-tree (c .before .before .before .before .before .before .before .before .before .before .before .before .before .before .before .before .before .before .pre .0) (now (a .work)) (c .before .before .before .before .before .before .before .before .before .before .before .before .before .before .before .before .before .before .pre .1) numbers numbered (now (a .work)) (now (a .tree)) bit)
     (c .unblamed .ensures ∙ found-answer t (sym (written .0) ∙ c .before .if2 .taken), written .1)
 
--- src/derive.rt:24:1
 same-length-2 : tie.Need-same-length-2
 same-length-2 c = search needs
 
--- src/derive.rt:24:1
 returns-2 : tie.Need-returns-2
 returns-2 c =
     let a = c .before .before .before .before .before .before .before .before .before .before .before .before .before .before .before .before .before .before .args in
@@ -104,7 +85,6 @@ returns-2 c =
     rw (judged-by-tree (c .before .before .before .before .before .before .before .before .before .before .before .before .before .before .before .before .before .before .pre .0) (now (a .work)) (c .before .before .before .before .before .before .before .before .before .before .before .before .before .before .before .before .before .before .pre .1) numbers numbered (now (a .work)) (now (a .tree)) bit)
     (c .unblamed2 .ensures ∙ lost-answer t (sym (written .0) ∙ c .before .if2 .left), written .1)
 
--- src/derive.rt:24:1
 returns-3 : tie.Need-returns-3
 returns-3 c =
     let a = c .before .before .before .before .before .before .before .args in

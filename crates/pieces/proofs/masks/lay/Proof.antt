@@ -1,6 +1,6 @@
 -- The masks are laid out rule by rule.
 use mathlib.Core.Path.{_≡_}
-use Prim.Native.Nat.{_-_, _≤_, _<_}
+use Prim.Native.Nat.{_-_, _≤_}
 use native.Mathlib.Omega.{arith}
 use lib.ListN.{length}
 use Rattle.pieces.specs.Masks.{way}
@@ -8,9 +8,6 @@ use Rattle.pieces.proofs.Laying.{Laying, laying-start, laying-step}
 use borrow.Author.Needs.{needs}
 use Rattle.pieces.proofs.masks.lay.Statement.{statement}
 use Rattle.pieces.proofs.masks.lay.Tie as tie
-use Rattle.pieces.proofs.masks.lay.Reads as reads
-use Rattle.pieces.proofs.masks.lay.Lts as lts
-use Rattle.pieces.proofs.masks.put_rule.Reads as put-rule-reads
 
 abbrev Inv-loop : tie.InvT-loop
 Inv-loop downward masks₀ f at₀ i₀ n masks at i = (i ≤ n) × Laying (way downward) (f .rules) masks at i
@@ -18,45 +15,36 @@ Inv-loop downward masks₀ f at₀ i₀ n masks at i = (i ≤ n) × Laying (way 
 abbrev μ-loop : tie.MeasureT-loop
 μ-loop downward masks₀ f at₀ i₀ n masks at i = n - i
 
--- src/masks.rt:68:5
 loop-holds : tie.Need-loop-holds Inv-loop μ-loop
 loop-holds c = (omega arith, laying-start _ _ _ (c .before .pre .0))
 
--- src/masks.rt:69:17
 mul-r : tie.Need-mul-r Inv-loop μ-loop
 mul-r c = search needs
 
--- src/masks.rt:69:17
 element-copy-out-r : tie.Need-element-copy-out-r Inv-loop μ-loop
 element-copy-out-r c = search needs
 
--- src/masks.rt:70:9
 put-rule-requires : tie.Need-put-rule-requires Inv-loop μ-loop
 put-rule-requires c κs =
     let t = c .before .before .before in
     let v = t .loop .inv .1 in
     (v .long, omega arith, t .before .before .pre .2 (t .loop .i) (c .before .before .loop-test .taken))
 
--- src/masks.rt:71:9
 add-i : tie.Need-add-i Inv-loop μ-loop
 add-i c = search needs
 
--- src/masks.rt:68:5
 loop-less : tie.Need-loop-less Inv-loop μ-loop
 loop-less c = search needs
 
--- src/masks.rt:68:5
 loop-again : tie.Need-loop-again Inv-loop μ-loop
 loop-again c =
     let t = c .before .before .before .before .before .before in
     let a = c .before .before .put-rule in
     (omega arith, laying-step _ _ _ _ _ _ _ (omega arith) (t .loop .inv .1) (a .ensures .0) (a .ensures .1))
 
--- src/masks.rt:61:1
 same-length : tie.Need-same-length Inv-loop μ-loop
 same-length c = omega (arith, c .before .loop .inv .1 .long, c .before .before .before .pre .0)
 
--- src/masks.rt:61:1
 returns : tie.Need-returns Inv-loop μ-loop
 returns c =
     let v = c .before .loop .inv .1 in

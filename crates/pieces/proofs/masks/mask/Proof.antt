@@ -7,14 +7,10 @@ use lib.Pow.{shl-exact}
 use borrow.Author.Needs.{needs}
 use Rattle.pieces.proofs.masks.mask.Statement.{statement}
 use Rattle.pieces.proofs.masks.mask.Tie as tie
-use Rattle.pieces.proofs.masks.mask.Reads as reads
-use Rattle.pieces.proofs.masks.mask.Lts as lts
 
--- src/masks.rt:23:5
 shl-result : tie.Need-shl-result
 shl-result c = search needs
 
--- src/masks.rt:19:1
 returns : tie.Need-returns
 returns c = shl-exact 1 (c .args .a) 32 (omega arith) (omega arith) ∙ one-mul (2 ^ c .args .a)
 

@@ -5,65 +5,50 @@ use Rattle.pieces.proofs.Laying.{of-rule, put-none, put-one}
 use borrow.Author.Needs.{needs}
 use Rattle.pieces.proofs.masks.put_rule.Statement.{statement}
 use Rattle.pieces.proofs.masks.put_rule.Tie as tie
-use Rattle.pieces.proofs.masks.put_rule.Reads as reads
-use Rattle.pieces.proofs.masks.put_rule.Lts as lts
-use Rattle.pieces.proofs.masks.put.Reads as put-reads
 
--- src/masks.rt:44:28
 enum-told : tie.Need-enum-told
 enum-told c = search needs
 
--- src/masks.rt:45:22
 enum-known-b : tie.Need-enum-known-b
 enum-known-b c = search needs
 
--- src/masks.rt:47:17
 returns : tie.Need-returns
 returns c = put-none _ _ _ (of-rule _ (c .if1 .taken) (c .before .before .b .given .1))
 
--- src/masks.rt:49:13
 put-requires : tie.Need-put-requires
 put-requires c κs =
     let s = c .before .before .before .before .before .before in
     let fit = subst BodySmall (c .before .before .before .b .given .1) (s .pre .2 .body) in
     (s .pre .0, s .pre .1, s .pre .2 .head, fit .0, fit .1)
 
--- src/masks.rt:51:20
 enum-known-b-2 : tie.Need-enum-known-b-2
 enum-known-b-2 c = search needs
 
--- src/masks.rt:53:17
 put-requires-2 : tie.Need-put-requires-2
 put-requires-2 c κs =
     let s = c .before .before .before .before .before .before in
     let fit = subst BodySmall (c .before .before .before .b2 .given .1) (s .pre .2 .body) in
     (s .pre .0, s .pre .1, s .pre .2 .head, fit .0, fit .1)
 
--- src/masks.rt:53:17
 same-length : tie.Need-same-length
 same-length c = search needs
 
--- src/masks.rt:53:17
 returns-2 : tie.Need-returns-2
 returns-2 c =
     let t = c .before .before in
     put-one _ _ _ _ (of-rule _ (t .before .before .if2 .taken) (t .before .before .before .before .b2 .given .1)) (t .put2 .ensures .0) (t .put2 .ensures .1)
 
--- src/masks.rt:38:1
 returns-3 : tie.Need-returns-3
 returns-3 c = let s = c .before .before .before in put-none _ _ _ (of-rule (s .args .r .head) {w = s .args .downward} refl (c .enum-told .given .1))
 
--- src/masks.rt:38:1
 same-length-2 : tie.Need-same-length-2
 same-length-2 c = search needs
 
--- src/masks.rt:38:1
 returns-4 : tie.Need-returns-4
 returns-4 c =
     let t = c .before .before in
     put-one _ _ _ _ (of-rule _ (t .before .before .if1 .left) (t .before .before .before .before .b .given .1)) (t .put .ensures .0) (t .put .ensures .1)
 
--- src/masks.rt:38:1
 returns-5 : tie.Need-returns-5
 returns-5 c = put-none _ _ _ (of-rule _ (c .if2 .left) (c .before .before .b2 .given .1))
 

@@ -6,43 +6,31 @@ use Rattle.pieces.proofs.Laying.{both-laid}
 use borrow.Author.Needs.{needs}
 use Rattle.pieces.proofs.masks.split.Statement.{statement}
 use Rattle.pieces.proofs.masks.split.Tie as tie
-use Rattle.pieces.proofs.masks.split.Reads as reads
-use Rattle.pieces.proofs.masks.split.Lts as lts
-use Rattle.pieces.proofs.masks.lay.Reads as lay-reads
 
--- src/masks.rt:81:32
 slice-relend-prefix-lay : tie.Need-slice-relend-prefix-lay
 slice-relend-prefix-lay c = search needs
 
--- src/masks.rt:81:32
 slice-aggregate-lay : tie.Need-slice-aggregate-lay
 slice-aggregate-lay c = let s = c .before .before in sym (length-take-le 600 (s .args .rules .now) (omega (arith, s .pre .0)))
 
--- src/masks.rt:81:9
 lay-requires : tie.Need-lay-requires
 lay-requires c κs = let s = c .before .before in (length-take-le 600 (s .args .rules .now) (omega (arith, s .pre .0)), s .pre .1, s .pre .2)
 
--- src/masks.rt:82:29
 sub-lay : tie.Need-sub-lay
 sub-lay c = search needs
 
--- src/masks.rt:82:29
 part-lay-start : tie.Need-part-lay-start
 part-lay-start c = search needs
 
--- src/masks.rt:82:29
 part-lay-end : tie.Need-part-lay-end
 part-lay-end c = search needs
 
--- src/masks.rt:82:9
 lay-requires-2 : tie.Need-lay-requires-2
 lay-requires-2 c κs = search needs
 
--- src/masks.rt:77:1
 same-length : tie.Need-same-length
 same-length c = search needs
 
--- src/masks.rt:77:1
 returns : tie.Need-returns
 returns c =
     let t = c .before .before in

@@ -1,3 +1,4 @@
+-- Each turn numbers one cell more.
 use native.Mathlib.Omega.{arith}
 use Prim.Native.Nat.{ℕ, _-_, _<_, _≤_}
 use mathlib.Core.Path.{_≡_, refl, _∙_}
@@ -8,9 +9,6 @@ use lib.Seq.{getD-set-same, getD-set-other}
 use Rattle.names.specs.Colours.{nameIn, findName}
 use Rattle.pieces.proofs.numbering.number_cells.Statement.{statement}
 use Rattle.pieces.proofs.numbering.number_cells.Tie as tie
-use Rattle.pieces.proofs.numbering.number_cells.Reads as reads
-use Rattle.pieces.proofs.numbering.number_cells.Lts as lts
-use Rattle.pieces.proofs.numbering.number_of.Reads as number-of-reads
 
 abbrev Inv-loop : tie.InvT-loop
 Inv-loop book c sheet g count numbers₀ i₀ numbers i = (i ≤ count) × (length numbers ≡ length numbers₀) × ((j : ℕ) → j < i → getD numbers j 0 ≡ findName book c (nameIn sheet (g .colours) (getD (g .cells) j 0)))
@@ -18,27 +16,21 @@ Inv-loop book c sheet g count numbers₀ i₀ numbers i = (i ≤ count) × (leng
 abbrev μ-loop : tie.MeasureT-loop
 μ-loop book c sheet g count numbers₀ i₀ numbers i = count - i
 
--- src/numbering.rt:29:5
 loop-holds : tie.Need-loop-holds Inv-loop μ-loop
 loop-holds c = (omega arith, refl, λ j h. absurd (omega arith))
 
--- src/numbering.rt:30:22
 number-of-requires : tie.Need-number-of-requires Inv-loop μ-loop
 number-of-requires c κs = (c .before .before .before .before .before .pre .0, omega arith, c .before .before .before .before .before .pre .3 (c .before .loop .i) (c .loop-test .taken))
 
--- src/numbering.rt:30:9
 slice-write-numbers : tie.Need-slice-write-numbers Inv-loop μ-loop
 slice-write-numbers c = omega arith
 
--- src/numbering.rt:31:9
 add-i : tie.Need-add-i Inv-loop μ-loop
 add-i c = omega arith
 
--- src/numbering.rt:29:5
 loop-less : tie.Need-loop-less Inv-loop μ-loop
 loop-less c = omega arith
 
--- src/numbering.rt:29:5
 loop-again : tie.Need-loop-again Inv-loop μ-loop
 loop-again c =
     let a = c .before .before .before .before .before .before .args in
@@ -53,11 +45,9 @@ loop-again c =
           (getD-set-same l i (c .number-of .result) 0 room ∙ c .number-of .ensures),
     )
 
--- src/numbering.rt:24:1
 same-length : tie.Need-same-length Inv-loop μ-loop
 same-length c = c .before .loop .inv .1
 
--- src/numbering.rt:24:1
 returns : tie.Need-returns Inv-loop μ-loop
 returns c = λ i h. c .before .loop .inv .2 i (omega arith)
 

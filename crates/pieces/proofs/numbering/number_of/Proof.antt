@@ -1,3 +1,4 @@
+-- The colour's number is that of its name, and no greater than the count of the book's colours.
 use native.Mathlib.Omega.{arith}
 use denote.Ref.{now}
 use lib.ListN.{take, getD}
@@ -8,55 +9,40 @@ use Rattle.names.proofs.ReadingColours.{names-count}
 use borrow.Author.Needs.{needs}
 use Rattle.pieces.proofs.numbering.number_of.Statement.{statement}
 use Rattle.pieces.proofs.numbering.number_of.Tie as tie
-use Rattle.pieces.proofs.numbering.number_of.Reads as reads
-use Rattle.pieces.proofs.numbering.number_of.Lts as lts
-use Rattle.names.proofs.colours.find_name.Reads as find-name-reads
-use Rattle.names.proofs.name.tail.Reads as tail-reads
 
--- src/numbering.rt:16:18
 element-copy-out-colour : tie.Need-element-copy-out-colour
 element-copy-out-colour c = search needs
 
--- src/numbering.rt:16:18
 cast-colour : tie.Need-cast-colour
 cast-colour c = search needs
 
--- src/numbering.rt:18:17
 mul-start : tie.Need-mul-start
 mul-start c = search needs
 
--- src/numbering.rt:18:17
 element-copy-out-start : tie.Need-element-copy-out-start
 element-copy-out-start c = search needs
 
--- src/numbering.rt:18:17
 cast-start : tie.Need-cast-start
 cast-start c = search needs
 
--- src/numbering.rt:19:15
 element-copy-out-len : tie.Need-element-copy-out-len
 element-copy-out-len c = search needs
 
--- src/numbering.rt:19:15
 cast-len : tie.Need-cast-len
 cast-len c = search needs
 
--- src/numbering.rt:20:33
 tail-requires : tie.Need-tail-requires
 tail-requires c κs = search needs
 
--- src/numbering.rt:20:5
 find-name-requires : tie.Need-find-name-requires
 find-name-requires c κs = search needs
 
--- src/numbering.rt:20:5
 cast-result : tie.Need-cast-result
 cast-result c =
     let a = c .before .before .before .before .before .before .before .before .args in
     let name = take (getD (a .t4 .colours .lens) (getD (a .t4 .cells) (a .i) 0) 0) (now (c .before .tail .result)) in
     omega (arith, c .find-name .ensures, find-place (now (a .book)) (a .c) name (c .before .before .before .before .before .before .before .before .pre .0), place-le (namesIn (now (a .book)) (a .c)) name, names-count (now (a .book)) (a .c), c .before .before .before .before .before .before .before .before .pre .0)
 
--- src/numbering.rt:12:1
 returns : tie.Need-returns
 returns c = rw (← c .before .tail .ensures) (c .find-name .ensures)
 

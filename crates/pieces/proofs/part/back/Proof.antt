@@ -5,8 +5,6 @@ use Prim.Native.Nat.{_≤_}
 use Rattle.pieces.specs.Direction.{reach, back}
 use Rattle.pieces.proofs.part.back.Statement.{statement}
 use Rattle.pieces.proofs.part.back.Tie as tie
-use Rattle.pieces.proofs.part.back.Reads as reads
-use Rattle.pieces.proofs.part.back.Lts as lts
 
 enum-told : tie.Need-enum-told
 enum-told c = search needs

@@ -5,24 +5,16 @@ use Rattle.pieces.proofs.Stretches.{total-stretches}
 use borrow.Author.Needs.{needs}
 use Rattle.pieces.proofs.piece.count.Statement.{statement}
 use Rattle.pieces.proofs.piece.count.Tie as tie
-use Rattle.pieces.proofs.piece.count.Reads as reads
-use Rattle.pieces.proofs.piece.count.Lts as lts
-use Rattle.pieces.proofs.piece.stretches_of.Reads as stretches-of-reads
-use Rattle.pieces.proofs.piece.times.Reads as times-reads
 
--- src/piece.rt:35:11
 stretches-of-requires : tie.Need-stretches-of-requires
 stretches-of-requires c κs = search needs
 
--- src/piece.rt:35:31
 stretches-of-requires-2 : tie.Need-stretches-of-requires-2
 stretches-of-requires-2 c κs = search needs
 
--- src/piece.rt:35:5
 times-requires : tie.Need-times-requires
 times-requires c κs = search needs
 
--- src/piece.rt:31:1
 returns : tie.Need-returns
 returns c =
     let a = c .before .before .before .args in (

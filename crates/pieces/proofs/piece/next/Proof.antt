@@ -3,50 +3,38 @@ use Rattle.pieces.proofs.NextPiece.{next-right, next-below, next-wider,
 use borrow.Author.Needs.{needs}
 use Rattle.pieces.proofs.piece.next.Statement.{statement}
 use Rattle.pieces.proofs.piece.next.Tie as tie
-use Rattle.pieces.proofs.piece.next.Reads as reads
-use Rattle.pieces.proofs.piece.next.Lts as lts
 
--- src/piece.rt:55:8
 add-if1 : tie.Need-add-if1
 add-if1 c = search needs
 
--- src/piece.rt:60:19
 add-t6 : tie.Need-add-t6
 add-t6 c = search needs
 
--- src/piece.rt:56:9
 returns : tie.Need-returns
 returns c = let s = c .before .before .before in next-right _ _ _ (s .pre .1) (c .before .if1 .taken)
 
--- src/piece.rt:63:8
 add-if2 : tie.Need-add-if2
 add-if2 c = search needs
 
--- src/piece.rt:67:18
 add-t7 : tie.Need-add-t7
 add-t7 c = search needs
 
--- src/piece.rt:64:9
 returns-2 : tie.Need-returns-2
 returns-2 c =
     let s = c .before .before .before in
     next-below _ _ _ (s .before .before .pre .1) (s .if1 .left) (c .before .if2 .taken)
 
--- src/piece.rt:74:20
 add-t8 : tie.Need-add-t8
 add-t8 c = search needs
 
--- src/piece.rt:72:9
 returns-3 : tie.Need-returns-3
 returns-3 c =
     let s = c .before .before .before in
     next-wider _ _ _ (s .before .before .before .before .pre .1) (s .before .before .if1 .left) (s .if2 .left) (c .before .if3 .taken)
 
--- src/piece.rt:80:17
 add-t4 : tie.Need-add-t4
 add-t4 c = search needs
 
--- src/piece.rt:51:1
 returns-4 : tie.Need-returns-4
 returns-4 c =
     let s = c .before .before .before in

@@ -6,64 +6,46 @@ use Rattle.pieces.proofs.Slots.{slot-lt}
 use borrow.Author.Needs.{needs}
 use Rattle.pieces.proofs.piece.slot.Statement.{statement}
 use Rattle.pieces.proofs.piece.slot.Tie as tie
-use Rattle.pieces.proofs.piece.slot.Reads as reads
-use Rattle.pieces.proofs.piece.slot.Lts as lts
-use Rattle.pieces.proofs.piece.stretches_of.Reads as stretches-of-reads
-use Rattle.pieces.proofs.piece.times.Reads as times-reads
 
--- src/piece.rt:43:13
 sub-u : tie.Need-sub-u
 sub-u c = search needs
 
--- src/piece.rt:44:13
 sub-v : tie.Need-sub-v
 sub-v c = search needs
 
--- src/piece.rt:45:25
 stretches-of-requires : tie.Need-stretches-of-requires
 stretches-of-requires c κs = search needs
 
--- src/piece.rt:45:45
 stretches-of-requires-2 : tie.Need-stretches-of-requires-2
 stretches-of-requires-2 c κs = search needs
 
--- src/piece.rt:45:9
 times-requires : tie.Need-times-requires
 times-requires c κs = search needs
 
--- src/piece.rt:46:26
 sub-times : tie.Need-sub-times
 sub-times c = search needs
 
--- src/piece.rt:46:33
 stretches-of-requires-3 : tie.Need-stretches-of-requires-3
 stretches-of-requires-3 c κs = search needs
 
--- src/piece.rt:46:9
 times-requires-2 : tie.Need-times-requires-2
 times-requires-2 c κs = search needs
 
--- src/piece.rt:47:41
 sub-times-2 : tie.Need-sub-times-2
 sub-times-2 c = search needs
 
--- src/piece.rt:47:28
 times-requires-3 : tie.Need-times-requires-3
 times-requires-3 c κs = search needs
 
--- src/piece.rt:47:28
 add-result : tie.Need-add-result
 add-result c = search needs
 
--- src/piece.rt:47:16
 add-result-2 : tie.Need-add-result-2
 add-result-2 c = search needs
 
--- src/piece.rt:47:5
 add-result-3 : tie.Need-add-result-3
 add-result-3 c = search needs
 
--- src/piece.rt:39:1
 returns : tie.Need-returns
 unfolding slotOf place
 returns c =

@@ -7,27 +7,19 @@ use Rattle.pieces.proofs.Stretches.{stretches-closed, stretches-few}
 use borrow.Author.Needs.{needs}
 use Rattle.pieces.proofs.piece.stretches_of.Statement.{statement}
 use Rattle.pieces.proofs.piece.stretches_of.Tie as tie
-use Rattle.pieces.proofs.piece.stretches_of.Reads as reads
-use Rattle.pieces.proofs.piece.stretches_of.Lts as lts
-use Rattle.pieces.proofs.piece.times.Reads as times-reads
 
--- src/piece.rt:27:14
 mul-times : tie.Need-mul-times
 mul-times c = search needs
 
--- src/piece.rt:27:14
 add-times : tie.Need-add-times
 add-times c = search needs
 
--- src/piece.rt:27:14
 sub-times : tie.Need-sub-times
 sub-times c = search needs
 
--- src/piece.rt:27:5
 times-requires : tie.Need-times-requires
 times-requires c κs = search needs
 
--- src/piece.rt:23:1
 returns : tie.Need-returns
 returns c =
     let a = c .before .args in

@@ -4,14 +4,10 @@ use native.Mathlib.Nat.{mul-le-mul}
 use native.Mathlib.Omega.{arith}
 use Rattle.pieces.proofs.piece.times.Statement.{statement}
 use Rattle.pieces.proofs.piece.times.Tie as tie
-use Rattle.pieces.proofs.piece.times.Reads as reads
-use Rattle.pieces.proofs.piece.times.Lts as lts
 
--- src/piece.rt:19:5
 mul-result : tie.Need-mul-result
 mul-result c = omega (arith, mul-le-mul (c .pre .0) (c .pre .1))
 
--- src/piece.rt:15:1
 returns : tie.Need-returns
 returns c = (refl, mul-le-mul (c .pre .0) (c .pre .1))
 

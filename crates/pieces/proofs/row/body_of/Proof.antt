@@ -3,20 +3,15 @@ use borrow.Author.Tests.{eq-eqb, ne-eqb}
 use Rattle.pieces.specs.Row.{bodyOf}
 use Rattle.pieces.proofs.row.body_of.Statement.{statement}
 use Rattle.pieces.proofs.row.body_of.Tie as tie
-use Rattle.pieces.proofs.row.body_of.Reads as reads
-use Rattle.pieces.proofs.row.body_of.Lts as lts
 
--- src/row.rt:16:9
 returns : tie.Need-returns
 unfolding bodyOf
 returns c = simp (eq-eqb _ _ (c .if1 .taken))
 
--- src/row.rt:19:9
 returns-2 : tie.Need-returns-2
 unfolding bodyOf
 returns-2 c = simp (ne-eqb _ _ (c .before .if1 .left), eq-eqb _ _ (c .if2 .taken))
 
--- src/row.rt:12:1
 returns-3 : tie.Need-returns-3
 unfolding bodyOf
 returns-3 c = simp (ne-eqb _ _ (c .before .if1 .left), ne-eqb _ _ (c .if2 .left))

@@ -9,9 +9,6 @@ use lib.ListN.{length, take}
 use Rattle.pieces.specs.Row.{rowOf}
 use Rattle.pieces.proofs.row.lay_out.Statement.{statement}
 use Rattle.pieces.proofs.row.lay_out.Tie as tie
-use Rattle.pieces.proofs.row.lay_out.Reads as reads
-use Rattle.pieces.proofs.row.lay_out.Lts as lts
-use Rattle.pieces.proofs.row.put_rule.Reads as put-rule-reads
 
 abbrev Inv-loop : tie.InvT-loop
 Inv-loop count row₀ rules i₀ row i = (i ≤ count) × (length row ≡ length row₀) × (take (4 * i) row ≡ rowOf (take i rules))
@@ -19,36 +16,28 @@ Inv-loop count row₀ rules i₀ row i = (i ≤ count) × (length row ≡ length
 abbrev μ-loop : tie.MeasureT-loop
 μ-loop count row₀ rules i₀ row i = count - i
 
--- src/row.rt:67:5
 loop-holds : tie.Need-loop-holds Inv-loop μ-loop
 unfolding rowOf
 loop-holds c = (search needs, refl, refl)
 
--- src/row.rt:68:20
 mul-rule : tie.Need-mul-rule Inv-loop μ-loop
 mul-rule c = search needs
 
--- src/row.rt:68:20
 array-copy-out-rule : tie.Need-array-copy-out-rule Inv-loop μ-loop
 array-copy-out-rule c = search needs
 
--- src/row.rt:69:23
 mul-put-rule : tie.Need-mul-put-rule Inv-loop μ-loop
 mul-put-rule c = search needs
 
--- src/row.rt:69:9
 put-rule-requires : tie.Need-put-rule-requires Inv-loop μ-loop
 put-rule-requires c κs = search needs
 
--- src/row.rt:70:9
 add-i : tie.Need-add-i Inv-loop μ-loop
 add-i c = search needs
 
--- src/row.rt:67:5
 loop-less : tie.Need-loop-less Inv-loop μ-loop
 loop-less c = search needs
 
--- src/row.rt:67:5
 loop-again : tie.Need-loop-again Inv-loop μ-loop
 loop-again c =
     let s = c .before .before .before .before .before .before .before .before in
@@ -56,11 +45,9 @@ loop-again c =
     let h : l .i < length (s .args .t1) = omega arith in
     (search needs, search needs, rule-more (s .args .t1) (l .i) (l .row) (c .before .before .put-rule .last .0) h (l .inv .2) (c .before .before .put-rule .ensures))
 
--- src/row.rt:62:1
 same-length : tie.Need-same-length Inv-loop μ-loop
 same-length c = search needs
 
--- src/row.rt:62:1
 returns : tie.Need-returns Inv-loop μ-loop
 returns c =
     let v = c .before .loop .inv in

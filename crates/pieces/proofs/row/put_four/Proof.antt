@@ -5,42 +5,31 @@ use Rattle.pieces.proofs.Rows.{four-more}
 use borrow.Author.Needs.{needs}
 use Rattle.pieces.proofs.row.put_four.Statement.{statement}
 use Rattle.pieces.proofs.row.put_four.Tie as tie
-use Rattle.pieces.proofs.row.put_four.Reads as reads
-use Rattle.pieces.proofs.row.put_four.Lts as lts
 
--- src/row.rt:42:5
 slice-write-row : tie.Need-slice-write-row
 slice-write-row c = search needs
 
--- src/row.rt:43:9
 add-row : tie.Need-add-row
 add-row c = search needs
 
--- src/row.rt:43:5
 slice-write-row-2 : tie.Need-slice-write-row-2
 slice-write-row-2 c = simp length-set (omega arith)
 
--- src/row.rt:44:9
 add-row-2 : tie.Need-add-row-2
 add-row-2 c = search needs
 
--- src/row.rt:44:5
 slice-write-row-3 : tie.Need-slice-write-row-3
 slice-write-row-3 c = simp length-set (omega arith)
 
--- src/row.rt:45:9
 add-row-3 : tie.Need-add-row-3
 add-row-3 c = search needs
 
--- src/row.rt:45:5
 slice-write-row-4 : tie.Need-slice-write-row-4
 slice-write-row-4 c = simp length-set (omega arith)
 
--- src/row.rt:38:1
 same-length : tie.Need-same-length
 same-length c = search needs
 
--- src/row.rt:38:1
 returns : tie.Need-returns
 returns c = four-more _ _ _ _ _ _ (c .pre)
 

@@ -3,57 +3,42 @@ use Rattle.pieces.specs.Row.{ruleNumbers}
 use borrow.Author.Needs.{needs}
 use Rattle.pieces.proofs.row.put_rule.Statement.{statement}
 use Rattle.pieces.proofs.row.put_rule.Tie as tie
-use Rattle.pieces.proofs.row.put_rule.Reads as reads
-use Rattle.pieces.proofs.row.put_rule.Lts as lts
-use Rattle.pieces.proofs.row.put_four.Reads as put-four-reads
 
--- src/row.rt:55:22
 enum-known-body : tie.Need-enum-known-body
 enum-known-body c = search needs
 
--- src/row.rt:55:28
 put-four-requires : tie.Need-put-four-requires
 put-four-requires c κs = search needs
 
--- src/row.rt:56:22
 enum-known-body-2 : tie.Need-enum-known-body-2
 enum-known-body-2 c = search needs
 
--- src/row.rt:56:31
 put-four-requires-2 : tie.Need-put-four-requires-2
 put-four-requires-2 c κs = search needs
 
--- src/row.rt:57:20
 enum-known-body-3 : tie.Need-enum-known-body-3
 enum-known-body-3 c = search needs
 
--- src/row.rt:57:29
 put-four-requires-3 : tie.Need-put-four-requires-3
 put-four-requires-3 c κs = search needs
 
--- src/row.rt:49:1
 same-length : tie.Need-same-length
 same-length c = search needs
 
--- src/row.rt:49:1
 returns : tie.Need-returns
 unfolding ruleNumbers
 returns c = rw (c .before .before .before .before .before .body .given .1) (c .before .before .put-four .ensures)
 
--- src/row.rt:49:1
 same-length-2 : tie.Need-same-length-2
 same-length-2 c = search needs
 
--- src/row.rt:49:1
 returns-2 : tie.Need-returns-2
 unfolding ruleNumbers
 returns-2 c = rw (c .before .before .before .before .before .body2 .given .1) (c .before .before .put-four2 .ensures)
 
--- src/row.rt:49:1
 same-length-3 : tie.Need-same-length-3
 same-length-3 c = search needs
 
--- src/row.rt:49:1
 returns-3 : tie.Need-returns-3
 unfolding ruleNumbers
 returns-3 c = rw (c .before .before .before .before .before .body3 .given .1) (c .before .before .put-four3 .ensures)

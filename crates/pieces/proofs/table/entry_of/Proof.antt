@@ -15,21 +15,13 @@ use Rattle.pieces.proofs.AllCuts.{along-cuts, tail-whole}
 use borrow.Author.Needs.{needs}
 use Rattle.pieces.proofs.table.entry_of.Statement.{statement}
 use Rattle.pieces.proofs.table.entry_of.Tie as tie
-use Rattle.pieces.proofs.table.entry_of.Reads as reads
-use Rattle.pieces.proofs.table.entry_of.Lts as lts
-use Rattle.pieces.proofs.course.across_course.Reads as across-course-reads
-use Rattle.pieces.proofs.course.down_course.Reads as down-course-reads
-use Rattle.pieces.proofs.table.join_along.Reads as join-along-reads
 
--- src/table.rt:69:30
 slice-aggregate-join-along : tie.Need-slice-aggregate-join-along
 slice-aggregate-join-along c = let s = c .before .before .before in sym (length-take-le 600 (s .args .rules .now) (omega (arith, s .pre .1)))
 
--- src/table.rt:69:59
 across-course-requires : tie.Need-across-course-requires
 across-course-requires c κs = search needs
 
--- src/table.rt:69:9
 join-along-requires : tie.Need-join-along-requires
 join-along-requires c κs =
     let s = c .before .before .before .before in (
@@ -38,23 +30,18 @@ join-along-requires c κs =
       s .pre .1 .1,
     )
 
--- src/table.rt:70:30
 sub-join-along : tie.Need-sub-join-along
 sub-join-along c = search needs
 
--- src/table.rt:70:30
 part-join-along-start : tie.Need-part-join-along-start
 part-join-along-start c = search needs
 
--- src/table.rt:70:30
 part-join-along-end : tie.Need-part-join-along-end
 part-join-along-end c = search needs
 
--- src/table.rt:70:57
 down-course-requires : tie.Need-down-course-requires
 down-course-requires c κs = search needs
 
--- src/table.rt:70:9
 join-along-requires-2 : tie.Need-join-along-requires-2
 join-along-requires-2 c κs =
     let s = c .before .before .before .before .before .before .before in (
@@ -63,7 +50,6 @@ join-along-requires-2 c κs =
       s .pre .1 .2,
     )
 
--- src/table.rt:64:1
 returns : tie.Need-returns
 returns c =
     let t = c .before .before .before in

@@ -9,12 +9,6 @@ use Rattle.pieces.proofs.Settling.{Filling, filling-start, filling-step
 use borrow.Author.Needs.{needs}
 use Rattle.pieces.proofs.table.fill.Statement.{statement}
 use Rattle.pieces.proofs.table.fill.Tie as tie
-use Rattle.pieces.proofs.table.fill.Reads as reads
-use Rattle.pieces.proofs.table.fill.Lts as lts
-use Rattle.pieces.proofs.piece.count.Reads as count-reads
-use Rattle.pieces.proofs.piece.next.Reads as next-reads
-use Rattle.pieces.proofs.piece.times.Reads as times-reads
-use Rattle.pieces.proofs.table.entry_of.Reads as entry-of-reads
 
 abbrev Inv-loop : tie.InvT-loop
 Inv-loop work₀ rules joins m n end p₀ k₀ work p k = Filling (plan m n rules joins) work₀ work p k
@@ -22,33 +16,26 @@ Inv-loop work₀ rules joins m n end p₀ k₀ work p k = Filling (plan m n rule
 abbrev μ-loop : tie.MeasureT-loop
 μ-loop work₀ rules joins m n end p₀ k₀ work p k = end - k
 
--- src/table.rt:80:9
 count-requires : tie.Need-count-requires Inv-loop μ-loop
 count-requires c κs = search needs
 
--- src/table.rt:87:18
 sub-t10 : tie.Need-sub-t10 Inv-loop μ-loop
 sub-t10 c = search needs
 
--- src/table.rt:88:19
 sub-t11 : tie.Need-sub-t11 Inv-loop μ-loop
 sub-t11 c = search needs
 
--- src/table.rt:81:9
 next-requires : tie.Need-next-requires Inv-loop μ-loop
 next-requires c κs = let s = c .before .before .before in (s .pre .0 .0, last-cell-inside _ _ (s .pre .0 .0 .rows-some) (s .pre .0 .0 .cols-some))
 
--- src/table.rt:91:9
 times-requires : tie.Need-times-requires Inv-loop μ-loop
 times-requires c κs = search needs
 
--- src/table.rt:92:5
 loop-holds : tie.Need-loop-holds Inv-loop μ-loop
 loop-holds c =
     let r = c .before .before .before .before .before .pre .0 .0 in
     filling-start _ _ _ _ (r .rows-some) (r .cols-some) (c .times .ensures .0) (c .before .next .ensures)
 
--- src/table.rt:93:13
 entry-of-requires : tie.Need-entry-of-requires Inv-loop μ-loop
 entry-of-requires c κs =
     let t = c .before .before in
@@ -57,20 +44,17 @@ entry-of-requires c κs =
     let less = lt-of-lt-of-le (c .before .loop-test .taken) (le-of-eq (t .before .before .before .count .ensures .0)) in
     ((s .pre .0 .0, f .inside less, sym (f .here), omega (arith, f .sized, s .pre .0)), s .pre .1)
 
--- src/table.rt:94:9
 mul-work : tie.Need-mul-work Inv-loop μ-loop
 mul-work c =
     let t = c .before .before .before in
     omega (arith, t .before .before .before .count .ensures, c .before .before .loop-test .taken)
 
--- src/table.rt:94:9
 slice-write-work : tie.Need-slice-write-work Inv-loop μ-loop
 slice-write-work c =
     let t = c .before .before .before in
     let s = t .before .before .before .before .before .before in
     omega (arith, t .loop .inv .sized, s .pre .0, t .before .before .before .count .ensures, c .before .before .loop-test .taken)
 
--- src/table.rt:95:9
 next-requires-2 : tie.Need-next-requires-2 Inv-loop μ-loop
 next-requires-2 c κs =
     let t = c .before .before .before in
@@ -78,15 +62,12 @@ next-requires-2 c κs =
     let less = lt-of-lt-of-le (c .before .before .loop-test .taken) (le-of-eq (t .before .before .before .count .ensures .0)) in
     (s .pre .0 .0, t .loop .inv .inside less)
 
--- src/table.rt:96:9
 add-k : tie.Need-add-k Inv-loop μ-loop
 add-k c = search needs
 
--- src/table.rt:92:5
 loop-less : tie.Need-loop-less Inv-loop μ-loop
 loop-less c = search needs
 
--- src/table.rt:92:5
 loop-again : tie.Need-loop-again Inv-loop μ-loop
 loop-again c =
     let t = c .before .before .before .before in
@@ -94,11 +75,9 @@ loop-again c =
     let less = lt-of-lt-of-le (c .before .before .before .loop-test .taken) (le-of-eq (t .before .before .before .count .ensures .0)) in
     filling-step _ _ _ _ _ _ _ (t .loop .inv) less (s .pre .0 .1) (c .before .entry-of .ensures) (c .next2 .ensures)
 
--- src/table.rt:75:1
 same-length : tie.Need-same-length Inv-loop μ-loop
 same-length c = c .before .loop .inv .sized
 
--- src/table.rt:75:1
 returns : tie.Need-returns Inv-loop μ-loop
 returns c = filling-end _ _ _ _ _ (c .before .loop .inv) (omega (arith, c .loop-test .left, c .before .before .before .before .count .ensures .0))
 

@@ -5,29 +5,19 @@ use Rattle.pieces.proofs.WholeTable.{room, cells-in, rules-small, joins
 use borrow.Author.Needs.{needs}
 use Rattle.pieces.proofs.table.fill_table.Statement.{statement}
 use Rattle.pieces.proofs.table.fill_table.Tie as tie
-use Rattle.pieces.proofs.table.fill_table.Reads as reads
-use Rattle.pieces.proofs.table.fill_table.Lts as lts
-use Rattle.pieces.proofs.cells.begin.Reads as begin-reads
-use Rattle.pieces.proofs.masks.split.Reads as split-reads
-use Rattle.pieces.proofs.table.fill.Reads as fill-reads
 
--- src/table.rt:114:5
 begin-requires : tie.Need-begin-requires
 begin-requires c κs = let s = c .before .before .before .before in (s .pre .0, le-trans (cells-in (s .pre .0)) (s .pre .1))
 
--- src/table.rt:116:33
 slice-aggregate-split : tie.Need-slice-aggregate-split
 slice-aggregate-split c = search needs
 
--- src/table.rt:116:9
 split-requires : tie.Need-split-requires
 split-requires c κs = let g = c .before .before .before .before .before .before .before .before .pre .0 in (refl, g .rules-few, rules-small g)
 
--- src/table.rt:117:16
 slice-aggregate-fill : tie.Need-slice-aggregate-fill
 slice-aggregate-fill c = search needs
 
--- src/table.rt:117:5
 fill-requires : tie.Need-fill-requires
 fill-requires c κs =
     let t = c .before .before .before in
@@ -35,11 +25,9 @@ fill-requires c κs =
     let few = joins-few (s .pre .0) _ _ (t .split .ensures) in
     ((room (s .pre .0), le-trans (s .pre .1) (le-of-eq (sym (t .before .before .before .before .begin .kept .1 .1 .1 .1 .0)))), (t .split .kept .1 .0, few .0, few .1))
 
--- src/table.rt:110:1
 same-length : tie.Need-same-length
 same-length c = search needs
 
--- src/table.rt:110:1
 returns : tie.Need-returns
 returns c =
     let t = c .before .before .before .before .before .before in

@@ -1,23 +1,17 @@
 -- The two tests are those of the definition.
 use borrow.Author.Tests.{eq-eqb, ne-eqb}
 use Rattle.pieces.specs.Joined.{firing}
-use borrow.Author.Needs.{needs}
 use Rattle.pieces.proofs.table.fired.Statement.{statement}
 use Rattle.pieces.proofs.table.fired.Tie as tie
-use Rattle.pieces.proofs.table.fired.Reads as reads
-use Rattle.pieces.proofs.table.fired.Lts as lts
 
--- src/table.rt:22:9
 returns : tie.Need-returns
 unfolding firing
 returns c = rw (eq-eqb _ 0 (c .if1 .taken))
 
--- src/table.rt:25:9
 returns-2 : tie.Need-returns-2
 unfolding firing
 returns-2 c = rw (ne-eqb _ 0 (c .before .if1 .left), eq-eqb _ 0 (c .if2 .taken))
 
--- src/table.rt:18:1
 returns-3 : tie.Need-returns-3
 unfolding firing
 returns-3 c = rw (ne-eqb _ 0 (c .before .if1 .left), ne-eqb _ 0 (c .if2 .left))

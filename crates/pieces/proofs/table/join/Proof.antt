@@ -1,17 +1,13 @@
 -- After i turns the joins before the i-th are gathered.
 use mathlib.Core.Path.{_≡_, sym, ap₂, _∙_}
-use Prim.Native.Nat.{ℕ, _+_, _-_, _≤_}
+use Prim.Native.Nat.{_-_, _≤_}
 use native.Mathlib.Omega.{arith}
 use lib.Bits.{bitOr}
-use lib.ListN.{length, getD}
-use Rattle.pieces.specs.Joined.{firing, gathered, joined}
+use Rattle.pieces.specs.Joined.{gathered, joined}
 use Rattle.pieces.proofs.Gathered.{gathered-next}
 use borrow.Author.Needs.{needs}
 use Rattle.pieces.proofs.table.join.Statement.{statement}
 use Rattle.pieces.proofs.table.join.Tie as tie
-use Rattle.pieces.proofs.table.join.Reads as reads
-use Rattle.pieces.proofs.table.join.Lts as lts
-use Rattle.pieces.proofs.table.fired.Reads as fired-reads
 
 abbrev Inv-loop : tie.InvT-loop
 Inv-loop masks count l r acc₀ i₀ acc i = (i ≤ count) × (acc ≡ joined masks i l r)
@@ -19,63 +15,49 @@ Inv-loop masks count l r acc₀ i₀ acc i = (i ≤ count) × (acc ≡ joined ma
 abbrev μ-loop : tie.MeasureT-loop
 μ-loop masks count l r acc₀ i₀ acc i = count - i
 
--- src/table.rt:37:5
 loop-holds : tie.Need-loop-holds Inv-loop μ-loop
 unfolding joined gathered
 loop-holds c = search needs
 
--- src/table.rt:38:28
 mul-fired : tie.Need-mul-fired Inv-loop μ-loop
 mul-fired c = search needs
 
--- src/table.rt:38:28
 shared-slice-read-fired : tie.Need-shared-slice-read-fired Inv-loop μ-loop
 shared-slice-read-fired c = search needs
 
--- src/table.rt:38:44
 add-fired : tie.Need-add-fired Inv-loop μ-loop
 add-fired c = search needs
 
--- src/table.rt:38:38
 mul-fired-2 : tie.Need-mul-fired-2 Inv-loop μ-loop
 mul-fired-2 c = search needs
 
--- src/table.rt:38:38
 shared-slice-read-fired-2 : tie.Need-shared-slice-read-fired-2 Inv-loop μ-loop
 shared-slice-read-fired-2 c = search needs
 
--- src/table.rt:38:60
 add-fired-2 : tie.Need-add-fired-2 Inv-loop μ-loop
 add-fired-2 c = search needs
 
--- src/table.rt:38:54
 mul-fired-3 : tie.Need-mul-fired-3 Inv-loop μ-loop
 mul-fired-3 c = search needs
 
--- src/table.rt:38:54
 shared-slice-read-fired-3 : tie.Need-shared-slice-read-fired-3 Inv-loop μ-loop
 shared-slice-read-fired-3 c = search needs
 
--- src/table.rt:38:16
 fired-requires : tie.Need-fired-requires Inv-loop μ-loop
 fired-requires c κs = search needs
 
--- src/table.rt:39:9
 add-i : tie.Need-add-i Inv-loop μ-loop
 add-i c = search needs
 
--- src/table.rt:37:5
 loop-less : tie.Need-loop-less Inv-loop μ-loop
 loop-less c = search needs
 
--- src/table.rt:37:5
 loop-again : tie.Need-loop-again Inv-loop μ-loop
 unfolding joined
 loop-again c =
     let t = c .before .before .before .before .before in
     (omega arith, ap₂ bitOr (t .loop .inv .1) (c .fired .ensures) ∙ sym (gathered-next (t .loop .i) _))
 
--- src/table.rt:31:1
 returns : tie.Need-returns Inv-loop μ-loop
 returns c =
     let e : c .before .loop .i ≡ c .before .before .before .args .count = omega arith in

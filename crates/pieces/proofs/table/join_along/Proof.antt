@@ -1,6 +1,6 @@
 -- After k turns the course has gone k steps, and the cuts before are gathered.
 use mathlib.Core.Path.{_≡_, refl, sym, ap, ap₂, _∙_}
-use Prim.Native.Nat.{ℕ, _+_, _-_, _≤_, _<_}
+use Prim.Native.Nat.{ℕ, _-_, _≤_, _<_}
 use native.Mathlib.Omega.{arith}
 use lib.Bits.{bitOr}
 use lib.ListN.{length, getD}
@@ -12,10 +12,6 @@ use Rattle.pieces.proofs.Gathered.{gathered-next}
 use borrow.Author.Needs.{needs}
 use Rattle.pieces.proofs.table.join_along.Statement.{statement}
 use Rattle.pieces.proofs.table.join_along.Tie as tie
-use Rattle.pieces.proofs.table.join_along.Reads as reads
-use Rattle.pieces.proofs.table.join_along.Lts as lts
-use Rattle.pieces.proofs.course.next_cut.Reads as next-cut-reads
-use Rattle.pieces.proofs.table.join.Reads as join-reads
 
 abbrev Inv-loop : tie.InvT-loop
 Inv-loop work masks count acc₀ c₀ k₀ cuts acc c k = (k ≤ cuts) × (c ≡ after k c₀) × (acc ≡ gathered k (atCut work masks count c₀))
@@ -23,47 +19,37 @@ Inv-loop work masks count acc₀ c₀ k₀ cuts acc c k = (k ≤ cuts) × (c ≡
 abbrev μ-loop : tie.MeasureT-loop
 μ-loop work masks count acc₀ c₀ k₀ cuts acc c k = cuts - k
 
--- src/table.rt:53:5
 loop-holds : tie.Need-loop-holds Inv-loop μ-loop
 unfolding after gathered
 loop-holds c = (omega arith, refl, refl)
 
--- src/table.rt:55:9
 next-cut-requires : tie.Need-next-cut-requires Inv-loop μ-loop
 next-cut-requires c κs = let t = c .before in rw (t .loop .inv .1) (t .before .before .before .pre .0 (t .loop .k) (c .loop-test .taken) .0)
 
--- src/table.rt:57:35
 mul-join : tie.Need-mul-join Inv-loop μ-loop
 mul-join c = let t = c .before .before in rw (t .loop .inv .1) (omega (arith, t .before .before .before .pre .0 (t .loop .k) (c .before .loop-test .taken) .0 .climbs))
 
--- src/table.rt:57:35
 shared-slice-read-join : tie.Need-shared-slice-read-join Inv-loop μ-loop
 shared-slice-read-join c = let t = c .before .before .before in rw (t .loop .inv .1) (t .before .before .before .pre .0 (t .loop .k) (c .before .before .loop-test .taken) .1)
 
--- src/table.rt:57:44
 mul-join-2 : tie.Need-mul-join-2 Inv-loop μ-loop
 mul-join-2 c =
     let t = c .before .before .before in
     let h : c .before .next-cut .result .second < length (t .before .before .before .args .work .now) = rw (c .before .next-cut .ensures, t .loop .inv .1) (t .before .before .before .pre .0 (t .loop .k) (c .before .before .loop-test .taken) .2) in
     search needs
 
--- src/table.rt:57:44
 shared-slice-read-join-2 : tie.Need-shared-slice-read-join-2 Inv-loop μ-loop
 shared-slice-read-join-2 c = let t = c .before .before .before .before in rw (c .before .before .next-cut .ensures, t .loop .inv .1) (t .before .before .before .pre .0 (t .loop .k) (c .before .before .before .loop-test .taken) .2)
 
--- src/table.rt:57:16
 join-requires : tie.Need-join-requires Inv-loop μ-loop
 join-requires c κs = search needs
 
--- src/table.rt:58:9
 add-k : tie.Need-add-k Inv-loop μ-loop
 add-k c = search needs
 
--- src/table.rt:53:5
 loop-less : tie.Need-loop-less Inv-loop μ-loop
 loop-less c = search needs
 
--- src/table.rt:53:5
 loop-again : tie.Need-loop-again Inv-loop μ-loop
 loop-again c =
     let s = c .before .before .before in
@@ -73,7 +59,6 @@ loop-again c =
     let here = ap₂ (λ (x y : Course). joined (a .masks .now) (a .count) (getD (a .work .now) (x .first) 0) (getD (a .work .now) (y .second) 0)) (t .loop .inv .1) e in
     (omega arith, e ∙ sym (after-next _ _), ap₂ bitOr (t .loop .inv .2) (c .join .ensures ∙ here) ∙ sym (gathered-next (t .loop .k) _))
 
--- src/table.rt:45:1
 returns : tie.Need-returns Inv-loop μ-loop
 unfolding along
 returns c =

@@ -1,3 +1,4 @@
+-- Each part of a join has a smaller area, and is written right behind what stands before it.
 use mathlib.Core.Path.{refl}
 use Rattle.pieces.specs.declared.choice.Choice.the-variants.{NoRule}
 use Rattle.pieces.specs.Wrote.{Wrote}

@@ -8,8 +8,6 @@ use native.Mathlib.Omega.{arith}
 use borrow.Author.Needs.{needs}
 use Rattle.pieces.proofs.tree.clear.Statement.{statement}
 use Rattle.pieces.proofs.tree.clear.Tie as tie
-use Rattle.pieces.proofs.tree.clear.Reads as reads
-use Rattle.pieces.proofs.tree.clear.Lts as lts
 
 abbrev Inv-loop : tie.InvT-loop
 Inv-loop tree₀ n i₀ tree i = (i ≤ n) × (length tree ≡ length tree₀) × (tree ≡ replicate i 0 ++ drop i tree₀)
@@ -17,37 +15,29 @@ Inv-loop tree₀ n i₀ tree i = (i ≤ n) × (length tree ≡ length tree₀) �
 abbrev μ-loop : tie.MeasureT-loop
 μ-loop tree₀ n i₀ tree i = n - i
 
--- src/tree.rt:96:5
 loop-holds : tie.Need-loop-holds Inv-loop μ-loop
 loop-holds c = (search needs, refl, refl)
 
--- src/tree.rt:97:9
 mul-tree : tie.Need-mul-tree Inv-loop μ-loop
 mul-tree c = search needs
 
--- src/tree.rt:97:9
 slice-write-tree : tie.Need-slice-write-tree Inv-loop μ-loop
 slice-write-tree c = search needs
 
--- src/tree.rt:98:9
 add-i : tie.Need-add-i Inv-loop μ-loop
 add-i c = search needs
 
--- src/tree.rt:96:5
 loop-less : tie.Need-loop-less Inv-loop μ-loop
 loop-less c = search needs
 
--- src/tree.rt:96:5
 loop-again : tie.Need-loop-again Inv-loop μ-loop
 loop-again c =
     let l = c .before .loop in
     (search needs, simp length-set (search needs), ap (λ (t : List ℕ). set t (l .i) 0) (l .inv .2) ∙ fill-more (l .i) 0 _ (search needs))
 
--- src/tree.rt:91:1
 same-length : tie.Need-same-length Inv-loop μ-loop
 same-length c = search needs
 
--- src/tree.rt:91:1
 returns : tie.Need-returns Inv-loop μ-loop
 returns c =
     let e : c .before .loop .i ≡ c .before .before .args .n = omega arith in

@@ -5,42 +5,31 @@ use Rattle.pieces.proofs.Writing.{pair-written}
 use borrow.Author.Needs.{needs}
 use Rattle.pieces.proofs.tree.put_node.Statement.{statement}
 use Rattle.pieces.proofs.tree.put_node.Tie as tie
-use Rattle.pieces.proofs.tree.put_node.Reads as reads
-use Rattle.pieces.proofs.tree.put_node.Lts as lts
 
--- src/tree.rt:28:16
 cast-tree : tie.Need-cast-tree
 cast-tree c = search needs
 
--- src/tree.rt:28:5
 mul-tree : tie.Need-mul-tree
 mul-tree c = search needs
 
--- src/tree.rt:28:5
 slice-write-tree : tie.Need-slice-write-tree
 slice-write-tree c = search needs
 
--- src/tree.rt:29:20
 cast-tree-2 : tie.Need-cast-tree-2
 cast-tree-2 c = search needs
 
--- src/tree.rt:29:10
 add-tree : tie.Need-add-tree
 add-tree c = search needs
 
--- src/tree.rt:29:5
 mul-tree-2 : tie.Need-mul-tree-2
 mul-tree-2 c = search needs
 
--- src/tree.rt:29:5
 slice-write-tree-2 : tie.Need-slice-write-tree-2
 slice-write-tree-2 c = simp length-set (omega arith)
 
--- src/tree.rt:24:1
 same-length : tie.Need-same-length
 same-length c = search needs
 
--- src/tree.rt:24:1
 returns : tie.Need-returns
 returns c = pair-written _ _ _ _ (c .pre .0)
 

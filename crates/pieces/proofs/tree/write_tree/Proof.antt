@@ -9,36 +9,24 @@ use Rattle.pieces.proofs.Writing.{wrote-found, wrote-lost}
 use borrow.Author.Needs.{needs}
 use Rattle.pieces.proofs.tree.write_tree.Statement.{statement}
 use Rattle.pieces.proofs.tree.write_tree.Tie as tie
-use Rattle.pieces.proofs.tree.write_tree.Reads as reads
-use Rattle.pieces.proofs.tree.write_tree.Lts as lts
-use Rattle.pieces.proofs.piece.times.Reads as times-reads
-use Rattle.pieces.proofs.row.lay_out.Reads as lay-out-reads
-use Rattle.pieces.proofs.tree.clear.Reads as clear-reads
-use Rattle.pieces.proofs.tree.pick_node.Reads as pick-node-reads
 
--- src/tree.rt:117:27
 slice-aggregate-lay-out : tie.Need-slice-aggregate-lay-out
 slice-aggregate-lay-out c = search needs
 
--- src/tree.rt:117:5
 lay-out-requires : tie.Need-lay-out-requires
 lay-out-requires c κs = search needs
 
--- src/tree.rt:124:33
 mul-row : tie.Need-mul-row
 mul-row c = search needs
 
--- src/tree.rt:124:26
 array-share-prefix-row : tie.Need-array-share-prefix-row
 array-share-prefix-row c = search needs
 
--- src/tree.rt:124:26
 slice-aggregate-pick-node : tie.Need-slice-aggregate-pick-node
 slice-aggregate-pick-node c =
     let s = c .before .before .before .before .before .before .before .before in
     sym (length-take-le _ (c .before .before .lay-out .last .1 .1 .0) (omega (arith, s .pre .0, c .before .before .lay-out .kept .1 .1 .0)))
 
--- src/tree.rt:124:9
 pick-node-requires : tie.Need-pick-node-requires
 pick-node-requires c κs =
     let s = c .before .before .before .before .before .before .before .before .before in
@@ -47,49 +35,38 @@ pick-node-requires c κs =
     let e = length-take-le (4 * s .args .f .count) (l .last .1 .1 .0) (omega (arith, s .pre .0, l .kept .1 .1 .0)) in
     (s .pre .1, whole-inside _ _ (size .rows-some) (size .cols-some), omega (arith, s .pre .0, e), omega (arith, s .pre .2))
 
--- src/tree.rt:126:29
 enum-told : tie.Need-enum-told
 enum-told c = search needs
 
--- src/tree.rt:128:19
 enum-told-2 : tie.Need-enum-told-2
 enum-told-2 c = search needs
 
--- src/tree.rt:128:34
 times-requires : tie.Need-times-requires
 times-requires c κs = search needs
 
--- src/tree.rt:128:30
 mul-clear : tie.Need-mul-clear
 mul-clear c = search needs
 
--- src/tree.rt:128:30
 sub-clear : tie.Need-sub-clear
 sub-clear c =
     let size = c .before .before .before .before .before .before .before .before .before .before .before .before .before .before .before .before .pre .1 .tabled .sizes in
     omega (arith, c .times .ensures .0, area-pos _ _ _ (whole-inside _ _ (size .rows-some) (size .cols-some)))
 
--- src/tree.rt:128:25
 mul-clear-2 : tie.Need-mul-clear-2
 mul-clear-2 c = search needs
 
--- src/tree.rt:128:13
 clear-requires : tie.Need-clear-requires
 clear-requires c κs = search needs
 
--- src/tree.rt:103:1
 same-length : tie.Need-same-length
 same-length c = search needs
 
--- src/tree.rt:103:1
 returns : tie.Need-returns
 returns c = wrote-found _ _ _ _ _ (rw (c .before .before .before .before .before .before .before .before .lay-out .ensures, rules-again, c .enum-told .given .1) at (c .before .before .before .before .pick-node .ensures))
 
--- src/tree.rt:103:1
 same-length-2 : tie.Need-same-length-2
 same-length-2 c = search needs
 
--- src/tree.rt:103:1
 returns-2 : tie.Need-returns-2
 returns-2 c = wrote-lost _ _ _ _ _ (rw (c .before .before .before .before .before .before .before .before .before .before .before .before .before .lay-out .ensures, rules-again, c .before .before .before .before .before .enum-told2 .given .1) at (c .before .before .before .before .before .before .before .before .before .pick-node .ensures)) (rw (c .before .before .before .times .ensures .0) at (c .before .before .clear .ensures))
 
