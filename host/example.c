@@ -7,40 +7,30 @@
 #include "../include/druvelstek.h"
 
 static const char *const words[] = {
-    "accepted",
-    "the input ends too early",
-    "a number is misspelt",
-    "a count, length, rows or columns is out of range",
-    "a name has a byte that cannot be printed",
-    "a name stands twice",
-    "there is no motif or colour of this number",
-    "there is no such kind of rule",
-    "bytes follow the end",
-    "the work slice is too short",
-    "the tree slice is too short",
-    "the sheet does not belong to the family",
-    "too many colours, motifs or rules",
-    "the output slice is too short",
+    "accepted", "the input ends too early", "a number is misspelt", "a count, length, rows or columns is out of range",
+    "a name has a byte that cannot be printed", "a name stands twice", "there is no motif or colour of this number",
+    "there is no such kind of rule", "bytes follow the end", "the work slice is too short", "the tree slice is too short",
+    "the sheet does not belong to the family", "too many colours, motifs or rules", "the output slice is too short",
     "no rule fits at some node",
 };
 
-static uint8_t book[DV_LONGEST_BOOK + 1], second[DV_LONGEST_BOOK + 1], joined[DV_LONGEST_BOOK];
-static uint8_t sheet[DV_LONGEST_SHEET + 1];
+// One byte more than the longest that can be accepted is enough to have a longer file refused.
+static uint8_t book[DV_LONGEST_BOOK + 1], second[DV_LONGEST_BOOK + 1], sheet[DV_LONGEST_SHEET + 1];
+static uint8_t joined[DV_LONGEST_BOOK];
 static uint32_t work[DV_MOST_WORK];
 static uint16_t tree[DV_MOST_TREE];
 
 static size_t book_len;
 static unsigned kind[DV_MOST_RULES], colour[DV_MOST_RULES];
 
-// One byte more than the longest that can be accepted is enough to have a longer file refused.
 static size_t load(const char *path, uint8_t *bytes, size_t most)
 {
     FILE *file = fopen(path, "rb");
-    if (file == NULL) {
+    size_t length = file == NULL ? 0 : fread(bytes, 1, most, file);
+    if (file == NULL || ferror(file)) {
         perror(path);
         exit(2);
     }
-    size_t length = fread(bytes, 1, most, file);
     fclose(file);
     return length;
 }
@@ -62,19 +52,16 @@ static unsigned number(const uint8_t **at)
 
 static const uint8_t *past_colours(const uint8_t *at)
 {
-    for (unsigned count = number(&at); count > 0; count--) {
-        unsigned length = number(&at);
-        at += length;
-    }
+    for (unsigned count = number(&at); count > 0; count--)
+        for (unsigned length = number(&at); length > 0; length--)
+            at++;
     return at;
 }
 
 // The tree names a rule by its number; its kind says which way the piece is cut.
 static void note_rules(void)
 {
-    const uint8_t *at = past_colours(book);
-    number(&at); // motifs
-    number(&at); // start
+    const uint8_t *at = past_colours(book) + 2; // past the counts of motifs and the start, a byte each
     unsigned rules = number(&at);
     for (unsigned i = 0; i < rules; i++) {
         number(&at); // head
@@ -109,7 +96,7 @@ int main(int argc, char **argv)
     }
     book_len = load(argv[1], book, sizeof book);
     size_t sheet_len = load(argv[2], sheet, sizeof sheet);
-    size_t second_len = load(argv[argc - 1 == 3 ? 3 : 1], second, sizeof second);
+    size_t second_len = load(argv[argc == 4 ? 3 : 1], second, sizeof second);
 
     uint64_t answer = dv_derive(book, book_len, sheet, sheet_len, work, DV_MOST_WORK, tree, DV_MOST_TREE);
     say("the sheet", answer);
@@ -122,10 +109,7 @@ int main(int argc, char **argv)
 
     answer = dv_beside(book, book_len, second, second_len, joined, sizeof joined);
     say("the two families side by side", answer);
-    if (dv_number(answer) == DV_ACCEPTED) {
+    if (dv_number(answer) == DV_ACCEPTED)
         printf("a book of %zu bytes\n", dv_count(answer));
-        answer = dv_derive(joined, dv_count(answer), sheet, sheet_len, work, DV_MOST_WORK, tree, DV_MOST_TREE);
-        say("the sheet under that book", answer);
-    }
     return 0;
 }

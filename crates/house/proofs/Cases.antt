@@ -20,7 +20,7 @@ use Rattle.books.specs.Decide.{andThen, orElse, anyCut, fitsBody, anyRule, with
 use Rattle.pieces.specs.Pieces.{each, pieces}
 use Rattle.pieces.specs.Table.{bits, entry, table}
 use Rattle.pieces.specs.Direction.{reach, front, back}
-use Rattle.pieces.specs.Choice.{least, works, cutOf, fits, takes, taken, lowest, chosen, choose}
+use Rattle.pieces.specs.Choice.{least, works, cutOf, covers, fits, takes, taken, lowest, chosen, choose}
 use Rattle.pieces.specs.Tree.{both, treeWithin, treeOf}
 use Rattle.pieces.specs.Wrote.{outcome}
 use Rattle.pieces.specs.Derivation.{judged, roomed, derivation}
@@ -64,7 +64,7 @@ pub record Cases : Type 0 where
   pub P12-rules : length (contentsOf eitherOfBook .rules) ≡ 12
 
 pub cases : Cases
-unfolding derivation roomed judged outcome both treeWithin treeOf choose chosen lowest taken takes fits cutOf works least reach front back table entry bits pieces each derives? within anyRule fitsBody anyCut orElse andThen lent made written within? few? put either-of joined repeated copies merged without sheetOf coloursThen cellsThen cellsOf sizeAt bookOf colouredAt figuresAt endedAt rulesAt ruleAt bodyAt joinAt colourAt coloursOf nameAt nameOf findName place sameName numberIn numberBelow numberAt spellNumber
+unfolding derivation roomed judged outcome both treeWithin treeOf choose chosen lowest taken takes fits covers cutOf works least reach front back table entry bits pieces each derives? within anyRule fitsBody anyCut orElse andThen lent made written within? few? put either-of joined repeated copies merged without sheetOf coloursThen cellsThen cellsOf sizeAt bookOf colouredAt figuresAt endedAt rulesAt ruleAt bodyAt joinAt colourAt coloursOf nameAt nameOf findName place sameName numberIn numberBelow numberAt spellNumber
 cases =
     record {
       contents = refl;

@@ -2,10 +2,8 @@
 use mathlib.Core.Path.{_≡_, ap₂}
 use mathlib.Core.List.{List}
 use Prim.Native.Nat.{ℕ, _-_}
-use native.Mathlib.Nat.{le-of-eq}
 use native.Mathlib.Omega.{arith}
-use lib.ListN.{length, getD, take, drop, length-drop}
-use lib.Seq.{take-all}
+use lib.ListN.{getD}
 use Rattle.books.specs.Picture.{Dir}
 use Rattle.pieces.specs.Pieces.{Inside}
 use Rattle.pieces.specs.Parts.{extent}
@@ -25,7 +23,3 @@ along-cuts j t d p i =
     let a = course-at d (j .rows) (j .cols) p i k (omega arith) in
     let b = course-on d (j .rows) (j .cols) p i k (omega arith) in
     ap₂ (λ (x y : ℕ). joined (j .masks d) (j .count d) (getD t x 0) (getD t y 0)) (a .first) (b .second))
-
--- A part of a slice that goes to its end is all that is left.
-pub tail-whole : (k : ℕ) (s : List ℕ) → take (length s - k) (drop k s) ≡ drop k s
-tail-whole k s = take-all (length s - k) (drop k s) (le-of-eq (length-drop k s))

@@ -81,7 +81,7 @@ module _ (book : List ℕ) (f : Family) (keeps : Keeps (contentsIn book f)) (all
     painted : (a : ℕ) → bit (paintersOf f number) a ≡ 1 → (a < b .motifs) × Derives b a q
     unfolding paintersOf
     painted a o =
-        let v = gathered-has (f .count) (painterAt f number) a o in
+        let v = gathered-has (f .count) (painterAt (f .rules) number) a o in
         let r = getD (f .rules) (v .0) noRule in
         let w = painter-has number (r .head) a (r .body) (v .2) in
         let m = rule-in (v .0) (v .1) in
@@ -102,7 +102,7 @@ module _ (book : List ℕ) (f : Family) (keeps : Keeps (contentsIn book f)) (all
         let low : v .0 < f .count = omega (arith, v .1, length-take-le (f .count) (f .rules) all) in
         let here = sym (getD-take (f .count) (f .rules) (v .0) noRule low) ∙ v .2 in
         let found = found-at (q .cell 0 0) ∙ ap (place names) e ∙ place-own names c (keeps .colours-ok .distinct) (colour-in a c h) in
-        has-gathered (f .count) (painterAt f number) a (v .0) low
+        has-gathered (f .count) (painterAt (f .rules) number) a (v .0) low
         (subst (λ (r : Rule). bit (painterOf number (r .head) (r .body)) a ≡ 1) (sym here)
         (subst (λ (n : ℕ). bit (painterOf n a (Colour c)) a ≡ 1) (sym found) (has-painter c a)))
     paints a (join across l r k h hk hs u v) = absurd (omega arith)
@@ -112,6 +112,6 @@ module _ (book : List ℕ) (f : Family) (keeps : Keeps (contentsIn book f)) (all
     unfolding paintersOf
     painters-entry =
         same-bits (b .motifs) (paintersOf f number) (entry b q)
-        (gathered-lt (b .motifs) (f .count) (painterAt f number) (λ i h. painter-lt (b .motifs) number _ (getD (f .rules) i noRule .body) (keeps .sound .rules-fit _ (rule-in i h) .head-fits)))
+        (gathered-lt (b .motifs) (f .count) (painterAt (f .rules) number) (λ i h. painter-lt (b .motifs) number _ (getD (f .rules) i noRule .body) (keeps .sound .rules-fit _ (rule-in i h) .head-fits)))
         (entry-lt b q)
         (λ a h. same-bit (paintersOf f number) (entry b q) a (λ o. derives-entry b q a h (painted a o .1)) (λ o. paints a (entry-derives b q a o)))

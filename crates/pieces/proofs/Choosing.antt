@@ -23,7 +23,7 @@ use Rattle.pieces.specs.declared.choice.Choice.the-variants.{NoRule, Lea
 use Rattle.pieces.specs.Direction.{dirOf, reach}
 use Rattle.pieces.specs.Masks.{noRule}
 use Rattle.pieces.specs.View.{View}
-use Rattle.pieces.specs.Choice.{least, works, cutOf, fits, takes, taken, lowest, chosen, choose}
+use Rattle.pieces.specs.Choice.{least, works, cutOf, covers, fits, takes, taken, lowest, chosen, choose}
 use Rattle.pieces.proofs.Least.{Least, least-is}
 use Rattle.pieces.proofs.Fitting.{choose-rule, choose-none}
 
@@ -66,11 +66,11 @@ cut-upto has d l r q k h g e =
 
 -- A colour fits a piece of one cell alone.
 pub cell-fits : (v : View) (q : Piece) (c : ℕ) → fits v q (Colour c) ≡ true → (q .height ≡ 1) × (q .width ≡ 1) × (v .paints c q ≡ true)
-unfolding fits
+unfolding fits covers
 cell-fits v q c e = let (x, u) = and-both _ _ e in let (y, z) = and-both _ _ u in (eqb-true _ _ x, eqb-true _ _ y, z)
 
 -- A body that fits is chosen as it should be.
-chosen-right : (v : View) (rules : List Rule) (a : ℕ) (q : Piece) (i : ℕ) (x : Body) → Taken v rules a q i x → Right v rules a q (chosen v q i x)
+chosen-right : (v : View) (rules : List Rule) (a : ℕ) (q : Piece) (i : ℕ) (x : Body) → Taken v rules a q i x → Right v rules a q (chosen (v .has) q i x)
 unfolding chosen fits
 chosen-right v rules a q i (Colour c) t = (c, t)
 chosen-right v rules a q i (AcrossBody l r) t = (t, cut-is (v .has) Across l r q (unfold reach in ltb-true _ _ (t .fitting)))

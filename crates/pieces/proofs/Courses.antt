@@ -2,7 +2,7 @@
 -- and each such block is smaller than the one before by the same number; so it is with the second part, backwards.
 use mathlib.Core.Path.{_≡_, refl, sym, ap, _∙_, subst}
 use Prim.Native.Nat.{ℕ, zero, suc, _+_, _-_, _*_, _≤_, _<_}
-use native.Mathlib.Nat.{add-mul, mul-add, one-mul, zero-mul, mul-zero, mul-comm, mul-le-mul, le-trans, le-of-eq}
+use native.Mathlib.Nat.{add-mul, mul-add, one-mul, mul-comm, mul-le-mul, le-trans, le-of-eq}
 use native.Mathlib.Numerals.{add-one}
 use native.Mathlib.Omega.{arith}
 use Rattle.books.specs.Picture.{Dir, across, down}
@@ -58,6 +58,9 @@ first-next down {m} {n} {p} k i h =
     let b : k + 1 - 1 ≡ k = omega arith in
     rw (a, b) (taller m n k (p .width - 1) (p .top) (p .left) (omega arith))
 
+with-own : (n w : ℕ) → 1 ≤ w → stretches n w ≡ stretches n (w - 1) + (n - (w - 1))
+with-own n w h = let e : w - 1 + 1 ≡ w = omega arith in ap (stretches n) (sym e) ∙ stretches-next n (w - 1)
+
 pub rest-next : (d : Dir) {m n : ℕ} {p : Piece} (k : ℕ) → Inside m n p → k + 1 < extent d p
     → slotOf m n (restPart d (k + 1) p) + (cells d m n + 2 + k - extent d p) * change d m n p ≡ slotOf m n (restPart d k p) + shorter d n p
 unfolding slotOf
@@ -74,7 +77,8 @@ rest-next down {m} {n} {p} k i h =
     let b : m + 2 + k - p .height ≡ m - x = omega arith in
     let e : p .top + (k + 1) ≡ p .top + k + 1 = omega arith in
     rw (a, b, e)
-    (omega (arith, taller m n x (p .width - 1) (p .top + k) (p .left) (omega arith), lower m n x (p .width - 1) (p .top + k) (p .left)))
+    (omega
+    (arith, taller m n x (p .width - 1) (p .top + k) (p .left) (omega arith), lower m n x (p .width - 1) (p .top + k) (p .left), with-own n (p .width) (i .wide)))
 
 -- ---- the course of a piece
 
@@ -84,8 +88,7 @@ short-le down {m} {n} {p} i = stretches-mono n (p .width - 1) n (omega arith)
 
 shorter-le : (d : Dir) {m n : ℕ} {p : Piece} → Inside m n p → shorter d n p ≤ change d m n p
 shorter-le across i = omega arith
-shorter-le down {m} {n} {p} i =
-    omega (arith, stretches-next n (p .width - 1), stretches-mono n (p .width - 1 + 1) n (omega arith))
+shorter-le down {m} {n} {p} i = stretches-mono n (p .width) n (omega arith)
 
 extent-le : (d : Dir) {m n : ℕ} {p : Piece} → Inside m n p → extent d p ≤ cells d m n
 extent-le across i = omega arith
@@ -187,14 +190,10 @@ course-runs d m n p len r i h k l =
 
 -- ---- where a course begins
 
-pub first-across : (m n : ℕ) (p : Piece) → slotOf m n (firstPart across 1 p) ≡ stretches m (p .height - 1) * stretches n n + (p .top * n + p .left)
-unfolding slotOf place stretches
-first-across m n p =
-    let e : n - 0 ≡ n = omega arith in
-    omega (arith, mul-zero (m - (p .height - 1)), ap (λ (x : ℕ). p .top * x) e)
-
-pub first-down : (m n : ℕ) (p : Piece) → slotOf m n (firstPart down 1 p) ≡ m * stretches n (p .width - 1) + (p .top * (n - (p .width - 1)) + p .left)
-unfolding slotOf place stretches
-first-down m n p =
-    let e : m - 0 ≡ m = omega arith in
-    omega (arith, zero-mul (stretches n n), ap (λ (x : ℕ). x * stretches n (p .width - 1)) e)
+pub course-made : (d : Dir) (m n : ℕ) (p : Piece) {first rise second fall less : ℕ} → first ≡ slotOf m n (firstPart d 1 p)
+    → rise ≡ cells d m n * change d m n p - short d n p → second ≡ slotOf m n p
+    → fall ≡ (cells d m n + 2 - extent d p) * change d m n p - shorter d n p → less ≡ change d m n p
+    → record { cuts = extent d p - 1; first = first; rise = rise; second = second; fall = fall; change = less } ≡ courseOf d m n p
+unfolding courseOf
+course-made d m n p a b e g h =
+    λ i. record { cuts = extent d p - 1; first = a i; rise = b i; second = e i; fall = g i; change = h i }

@@ -3,7 +3,6 @@ use Prim.Native.Nat.{ℕ, suc, _+_, _<_}
 use mathlib.Core.Path.{_≡_, refl, sym, _∙_, ap, subst}
 use mathlib.Core.List.{List, [], _∷_, _++_, List·Memᴰ, List·Memᴰ·not-nil, List·Memᴰ·cases-cons, Memᴰ·cast}
 use mathlib.Core.Logic.{⊎-elim}
-use native.Mathlib.Nat.{le-antisymm}
 use native.Mathlib.Omega.{arith}
 use lib.ListN.{length, getD}
 use Rattle.names.proofs.Places.{getD-mem}
@@ -64,7 +63,7 @@ given-derives {b} {a} (node d i l r k u w lo sm x y) =
 same-rule : (b : Contents) {a i j : ℕ} {p : Picture} {x y : Body} → At b i a x → At b j a y → Able b p x → Able b p y
     → Lowest b a p i → Lowest b a p j → (i ≡ j) × (x ≡ y)
 same-rule b {a} {i} {j} {p} {x} {y} u v ax ay li lj =
-    let e : i ≡ j = le-antisymm (li j y v ay) (lj i x u ax) in
+    let e : i ≡ j = omega (arith, li j y v ay, lj i x u ax) in
     (e, ap (λ (r : Rule). r .body) (sym (u .rule-is) ∙ ap (λ (n : ℕ). getD (b .rules) n noRule) e ∙ v .rule-is))
 
 along : (F : Dir → ℕ → ℕ → Type 0) {d e : Dir} {l r u w : ℕ} → d ≡ e → l ≡ u → r ≡ w → F d l r → F e u w
@@ -81,7 +80,7 @@ given-unique {b} {p = p} (node {xs = xs} {ys = ys} d i l r k u w lo sm x y) (nod
     let (ei, ex) = same-rule b {x = joins d l r} {y = joins d′ l′ r′} u v (able-joins b p d l r k w) (able-joins b p d′ l′ r′ k′ w′) lo lo′ in
     let (ed, el, er) = joins-inj d d′ l r l′ r′ ex in
     let w″ : Works b d l r p k′ = along (λ d l r. Works b d l r p k′) (sym ed) (sym el) (sym er) w′ in
-    let ek : k ≡ k′ = le-antisymm (sm k′ w″) (sm′ k (along (λ d l r. Works b d l r p k) ed el er w)) in
+    let ek : k ≡ k′ = omega (arith, sm k′ w″, sm′ k (along (λ d l r. Works b d l r p k) ed el er w)) in
     let x″ : Given b l (first d k p) xs′ = rw ek (along (λ d l r. Given b l (first d k′ p) xs′) (sym ed) (sym el) (sym er) x′) in
     let y″ : Given b r (rest d k p) ys′ = rw ek (along (λ d l r. Given b r (rest d k′ p) ys′) (sym ed) (sym el) (sym er) y′) in
     (λ z. ei z ∷ ek z ∷ (given-unique x x″ z ++ given-unique y y″ z))

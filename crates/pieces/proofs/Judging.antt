@@ -7,7 +7,8 @@ use mathlib.Core.List.{List}
 use mathlib.Core.Logic.{⊎-elim}
 use mathlib.Core.Option.{Option, some, none}
 use native.Mathlib.Omega.{arith}
-use borrow.Author.Tests.{eqb-false}
+use borrow.Author.Tests.{eqb-false, lt-ltb, le-ltb}
+use native.Mathlib.Decide.{decLt}
 use lib.ListN.{length, getD, take, drop, length-append, length-drop, length-map}
 use lib.Seq.{take-at, take-all, getD-take}
 use Rattle.names.specs.Colours.{nameIn, namesIn, findName}
@@ -24,6 +25,7 @@ use Rattle.books.specs.Decide.{derives?}
 use Rattle.books.specs.Book.{bookOf}
 use Rattle.books.specs.Sheet.{sheetOf}
 use Rattle.books.specs.Answer.{plain}
+use Rattle.books.specs.declared.answer.Answer.{Answer}
 use Rattle.books.specs.Held.{contentsIn, gridIn}
 use Rattle.books.specs.Grid.{picture}
 use Rattle.books.specs.declared.family.Family.{Family}
@@ -39,16 +41,18 @@ use Rattle.pieces.specs.Table.{bit, cut, entry, table}
 use Rattle.pieces.specs.View.{Exact, hasBit, seen}
 use Rattle.pieces.specs.Tree.{tree, treeOf}
 use Rattle.pieces.specs.Wrote.{found, outcome}
-use Rattle.pieces.specs.Painted.{AsRead}
-use Rattle.pieces.specs.Derivation.{Derivation, leaving, entriesNeeded, numbersNeeded, filled, Holds, treeAnswer, judged}
+use Rattle.pieces.specs.Painted.{AsRead, Numbered}
+use Rattle.pieces.specs.Settled.{Made}
+use Rattle.pieces.specs.Verdict.{Verdict, verdict, lacking}
+use Rattle.pieces.specs.Derivation.{Derivation, leaving, entriesNeeded, numbersNeeded, filled, Holds, treeAnswer, judged, roomed}
 use Rattle.pieces.proofs.Entries.{derives-entry}
 use Rattle.pieces.proofs.Slots.{length-pieces, slot-lt, getD-slot}
 use Rattle.pieces.proofs.CellsFirst.{cell-before}
-use Rattle.pieces.proofs.SettledTable.{getD-map}
+use Rattle.pieces.proofs.TableEntries.{getD-map}
 use Rattle.pieces.proofs.Cutting.{whole-inside, cut-whole}
 use Rattle.pieces.proofs.ExactViews.{seen-exact}
 use Rattle.pieces.proofs.TheTree.{exact-tree}
-use Rattle.pieces.proofs.WholeTable.{cell-name}
+use Rattle.pieces.proofs.WholeTable.{book-colours, cell-name, whole-table}
 
 -- a book and a sheet that are accepted are as reading gives them
 pub as-read : (book sheet : List ℕ) → Bytes book → Bytes sheet → bookOf book .fault .number ≡ 0 → sheetOf sheet .fault .number ≡ 0
@@ -94,23 +98,14 @@ module _ (b : Contents) (p : Picture) (work : List ℕ) (h : Holds b p work) whe
 
 -- ── The tests that the code makes ──
 
-pub found-answer : (t : Option (List ℕ)) → found t ≡ true → plain 0 ≡ treeAnswer t
-found-answer (some xs) e = refl
-found-answer none e = let z : _≡_ {A = ℕ} 0 1 = cc in absurd (omega arith)
-
-pub lost-answer : (t : Option (List ℕ)) → found t ≡ false → plain 14 ≡ treeAnswer t
-lost-answer (some xs) e = let z : _≡_ {A = ℕ} 0 1 = cc in absurd (omega arith)
-lost-answer none e = refl
+plain-number : (t : Option (List ℕ)) → treeAnswer t ≡ plain (treeAnswer t .number)
+plain-number (some xs) = refl
+plain-number none = refl
 
 -- judging leaves the table as it is
 pub judged-entries : (b : Contents) (p : Picture) (entries numbers : List ℕ) → entries ≡ judged b p entries numbers .entries
 unfolding judged
 judged-entries b p entries numbers = pick-ind (λ (d : Derivation). entries ≡ d .entries) (derives? b (b .start) p) _ _ (λ _. refl) (λ _. refl)
-
--- the numbers of a sheet's cells in the book
-abbrev pub Numbered : List ℕ → Family → List ℕ → Sheet → List ℕ → Type 0
-Numbered book f bytes g numbers =
-    (i : ℕ) → i < g .rows * g .cols → getD numbers i 0 ≡ findName book (f .colours) (nameIn bytes (g .colours) (getD (g .cells) i 0))
 
 module _ {book : List ℕ} {f : Family} {bytes : List ℕ} {g : Sheet} (given : AsRead book f bytes g) (work : List ℕ)
     (holds : Holds (contentsIn book f) (picture (gridIn bytes g)) work) where
@@ -120,15 +115,12 @@ module _ {book : List ℕ} {f : Family} {bytes : List ℕ} {g : Sheet} (given : 
   abbrev p : Picture
   p = picture (gridIn bytes g)
 
-  pub colours-few : f .colours .count ≤ 64
-  colours-few = omega (arith, given .book-keeps .colours-ok .few, names-count book (f .colours))
-
   module _ (numbers : List ℕ) (numbered : Numbered book f bytes g numbers) where
     exact : Exact b p (seen (g .rows) (g .cols) work numbers)
     exact =
         seen-exact b p (given .book-keeps .sound) (given .book-keeps .colours-ok .distinct) work numbers (held-entry b p work holds)
         (λ i j hi hj. numbered (i * g .cols + j) (cell-before (g .rows) (g .cols) i j hi hj)
-        ∙ (find-place book (f .colours) _ colours-few ∙ ap (place (namesIn book (f .colours))) (sym (cell-name given i j hi hj))))
+        ∙ (find-place book (f .colours) _ (book-colours given) ∙ ap (place (namesIn book (f .colours))) (sym (cell-name given i j hi hj))))
 
     starts : hasBit (g .rows) (g .cols) work (f .start) (whole (g .rows) (g .cols)) ≡ true → Derives b (f .start) p
     starts e =
@@ -136,7 +128,7 @@ module _ {book : List ℕ} {f : Family} {bytes : List ℕ} {g : Sheet} (given : 
         subst (Derives b (f .start)) (cut-whole p) (exact .has-exact (f .start) (whole (g .rows) (g .cols)) (whole-inside (g .rows) (g .cols) (k .rows-some) (k .cols-some)) .0 e)
 
     -- where the start has its bit, the tree that is found is the derivation given
-    pub judged-by-tree : (entries tree-slice : List ℕ) → hasBit (g .rows) (g .cols) work (f .start) (whole (g .rows) (g .cols)) ≡ true
+    judged-by-tree : (entries tree-slice : List ℕ) → hasBit (g .rows) (g .cols) work (f .start) (whole (g .rows) (g .cols)) ≡ true
         → let t = treeOf (seen (g .rows) (g .cols) work numbers) (take (f .count) (f .rules)) (f .start) (whole (g .rows) (g .cols)) in
         judged b p entries tree-slice ≡ record { answer = treeAnswer t; entries = entries; numbers = outcome (numbersNeeded p) tree-slice t }
     unfolding judged
@@ -154,7 +146,74 @@ module _ {book : List ℕ} {f : Family} {bytes : List ℕ} {g : Sheet} (given : 
       let set = derives-entry b (cut p sheet) (f .start) (given .book-keeps .sound .start-fits) (subst (Derives b (f .start)) (sym (cut-whole p)) x) in
       eqb-false (bit (getD work (slotOf (g .rows) (g .cols) sheet) 0) (f .start)) 1 e (ap (λ (n : ℕ). bit n (f .start)) entered ∙ set)
 
-  pub judged-none : (entries tree-slice : List ℕ) → hasBit (g .rows) (g .cols) work (f .start) (whole (g .rows) (g .cols)) ≡ false
+  judged-none : (entries tree-slice : List ℕ) → hasBit (g .rows) (g .cols) work (f .start) (whole (g .rows) (g .cols)) ≡ false
       → judged b p entries tree-slice ≡ leaving (plain 11) entries tree-slice
   unfolding judged
   judged-none entries tree-slice e = simp (refused b (f .start) p .1 (not-derived e))
+
+  -- what the table tells is what document 01 has
+  abbrev told : List ℕ → List ℕ → Verdict
+  told numbers tree-slice = verdict (seen (g .rows) (g .cols) work numbers) (take (f .count) (f .rules)) (f .start) (whole (g .rows) (g .cols)) tree-slice
+
+  judged-told : (numbers : List ℕ) → Numbered book f bytes g numbers → (entries tree-slice : List ℕ)
+      → judged b p entries tree-slice
+      ≡ record { answer = plain (told numbers tree-slice .number); entries = entries; numbers = told numbers tree-slice .numbers }
+  unfolding verdict
+  judged-told numbers numbered entries tree-slice =
+      pick-ind
+      (λ (v : Verdict). judged b p entries tree-slice ≡ record { answer = plain (v .number); entries = entries; numbers = v .numbers })
+      (hasBit (g .rows) (g .cols) work (f .start) (whole (g .rows) (g .cols))) _ _
+      (λ e. let t = treeOf (seen (g .rows) (g .cols) work numbers) (take (f .count) (f .rules)) (f .start) (whole (g .rows) (g .cols)) in
+      judged-by-tree numbers numbered entries tree-slice e
+      ∙ ap (λ (a : Answer). record { answer = a; entries = entries; numbers = outcome (numbersNeeded p) tree-slice t }) (plain-number t))
+      (λ e. judged-none entries tree-slice e)
+
+-- A table that was made is judged as the definition has it.
+module _ {book : List ℕ} {f : Family} {bytes : List ℕ} {g : Sheet} (given : AsRead book f bytes g) (cells before after : List ℕ)
+    (numbered : Numbered book f bytes g cells) (made : Made f cells (g .rows) (g .cols) before after) (same : length before ≡ length after)
+    (enough : total (g .rows) (g .cols) ≤ length before) (tree-slice : List ℕ) where
+  abbrev contents : Contents
+  contents = contentsIn book f
+
+  abbrev sheet-picture : Picture
+  sheet-picture = picture (gridIn bytes g)
+
+  is-filled : after ≡ filled contents sheet-picture before
+  is-filled = whole-table given cells numbered before after made same enough
+
+  pub judged-made : judged contents sheet-picture (filled contents sheet-picture before) tree-slice
+      ≡ record {
+        answer = plain (verdict (seen (g .rows) (g .cols) after cells) (take (f .count) (f .rules)) (f .start) (whole (g .rows) (g .cols)) tree-slice .number);
+        entries = after;
+        numbers = verdict (seen (g .rows) (g .cols) after cells) (take (f .count) (f .rules)) (f .start) (whole (g .rows) (g .cols)) tree-slice .numbers;
+      }
+  judged-made =
+      ap (λ (w : List ℕ). judged contents sheet-picture w tree-slice) (sym is-filled)
+      ∙ judged-told given after (subst (Holds contents sheet-picture) (sym is-filled) (filled-holds contents sheet-picture before)) cells numbered after tree-slice
+
+-- ── The room ──
+
+module _ (b : Contents) (p : Picture) (entries numbers : List ℕ) where
+  abbrev lack : ℕ
+  lack = lacking (p .rows) (p .cols) (length entries) (length numbers)
+
+  -- a slice that is too short is what the answer says, and nothing is written
+  pub roomed-short : (lack ≡ 0 → ⊥) → roomed b p entries numbers ≡ leaving (plain lack) entries numbers
+  unfolding roomed lacking
+  roomed-short n = go (decLt (length entries) (entriesNeeded p)) (decLt (length numbers) (numbersNeeded p))
+    where
+      go : Dec (length entries < entriesNeeded p) → Dec (length numbers < numbersNeeded p) → roomed b p entries numbers ≡ leaving (plain lack) entries numbers
+      go (yes e) d = simp (lt-ltb _ _ e)
+      go (no e) (yes d) = simp (le-ltb (length entries) (entriesNeeded p) (omega arith), lt-ltb _ _ d)
+      go (no e) (no d) = absurd (n (simp (le-ltb (length entries) (entriesNeeded p) (omega arith), le-ltb (length numbers) (numbersNeeded p) (omega arith))))
+
+  pub roomed-enough : lack ≡ 0
+      → (entriesNeeded p ≤ length entries) × (numbersNeeded p ≤ length numbers) × (roomed b p entries numbers ≡ judged b p (filled b p entries) numbers)
+  unfolding roomed lacking
+  roomed-enough z = go (decLt (length entries) (entriesNeeded p)) (decLt (length numbers) (numbersNeeded p))
+    where
+      go : Dec (length entries < entriesNeeded p) → Dec (length numbers < numbersNeeded p)
+          → (entriesNeeded p ≤ length entries) × (numbersNeeded p ≤ length numbers) × (roomed b p entries numbers ≡ judged b p (filled b p entries) numbers)
+      go (yes e) d = let no : _≡_ {A = ℕ} 9 0 = simp (lt-ltb _ _ e) at z in absurd (omega arith)
+      go (no e) (yes d) = let no : _≡_ {A = ℕ} 10 0 = simp (le-ltb (length entries) (entriesNeeded p) (omega arith), lt-ltb _ _ d) at z in absurd (omega arith)
+      go (no e) (no d) = (omega arith, omega arith, simp (le-ltb (length entries) (entriesNeeded p) (omega arith), le-ltb (length numbers) (numbersNeeded p) (omega arith)))

@@ -1,10 +1,11 @@
 -- The joins of a direction are the rules with such a body, and masks that are laid out of them fire exactly for those rules.
 use mathlib.Core.Path.{_≡_, refl, sym, ap, _∙_, subst}
-use mathlib.Core.Logic.{_⊎_, ⊎-elim}
+use mathlib.Core.Logic.{⊎-elim}
 use mathlib.Core.List.{List, [], _∷_, List·Memᴰ, List·Memᴰ·head, List·Memᴰ·tail, List·Memᴰ·cases-cons, List·Memᴰ·not-nil, List·Memᴰ·append-cases, List·Memᴰ·eq-of-singleton, Memᴰ·append-left, Memᴰ·append-right}
-use Prim.Native.Nat.{ℕ, zero, suc, _+_, _^_, _<_}
+use Prim.Native.Nat.{ℕ, suc, _+_, _^_, _<_}
 use native.Mathlib.Omega.{arith}
 use lib.ListN.{length, getD}
+use Rattle.names.proofs.Places.{getD-mem}
 use Rattle.books.specs.Picture.{Dir, across, down, joins}
 use Rattle.books.specs.declared.rule.Rule.{Rule}
 use Rattle.books.specs.declared.rule.Body.{Body}
@@ -15,11 +16,6 @@ use Rattle.pieces.specs.Masks.{Join, join, joinOf, joinsIn, Laid}
 use Rattle.pieces.proofs.Gathered.{gathered-has, has-gathered, gathered-lt, firing-has, has-firing, firing-lt}
 
 -- ---- members and places of a list
-
-at-member : {A : Type 0} (l : List A) (i : ℕ) (d : A) → i < length l → List·Memᴰ (getD l i d) l
-at-member [] i d h = absurd (omega arith)
-at-member (x ∷ xs) zero d h = List·Memᴰ·head refl
-at-member (x ∷ xs) (suc i) d h = List·Memᴰ·tail (at-member xs i d (omega arith))
 
 pub member-at : {A : Type 0} (l : List A) (d : A) {a : A} → List·Memᴰ a l → (i : ℕ) × (i < length l) × (getD l i d ≡ a)
 member-at [] d m = absurd (List·Memᴰ·not-nil m)
@@ -72,7 +68,7 @@ module _ (js : List Join) (masks : List ℕ) (laid : Laid js masks) (l r : ℕ) 
       let v = gathered-has (length js) _ a o in
       let j = getD js (v .0) (join 0 0 0) in
       let f = firing-has l r (j .first) (j .second) (j .head) a (ap (λ (x : ℕ). bit x a) (sym (at-join (v .0) (v .1))) ∙ v .2) in
-      (j, at-member js (v .0) (join 0 0 0) (v .1), f .0, f .1, f .2)
+      (j, getD-mem js (v .0) (join 0 0 0) (v .1), f .0, f .1, f .2)
 
   pub has-joined : (j : Join) → List·Memᴰ j js → bit l (j .first) ≡ 1 → bit r (j .second) ≡ 1 → bit (joined masks (length js) l r) (j .head) ≡ 1
   unfolding joined
@@ -87,4 +83,4 @@ module _ (js : List Join) (masks : List ℕ) (laid : Laid js masks) (l r : ℕ) 
   unfolding joined
   joined-lt n below =
       gathered-lt n (length js) _
-      (λ i h. subst (λ (x : ℕ). x < 2 ^ n) (sym (at-join i h)) (firing-lt n l r _ _ (getD js i (join 0 0 0) .head) (below _ (at-member js i (join 0 0 0) h))))
+      (λ i h. subst (λ (x : ℕ). x < 2 ^ n) (sym (at-join i h)) (firing-lt n l r _ _ (getD js i (join 0 0 0) .head) (below _ (getD-mem js i (join 0 0 0) h))))

@@ -1,33 +1,27 @@
 -- Laying out the masks of joins one after the other: each goes behind those before it, in each of the three rows, and disturbs none of them.
 use mathlib.Core.Path.{_≡_, refl, sym, ap, ap₂, _∙_, subst}
-use mathlib.Core.Bool.{Bool}
 use mathlib.Core.List.{List, [], _∷_, _++_, append-nil, append-assoc}
-use Prim.Native.Nat.{ℕ, _+_, _-_, _^_, _≤_, _<_}
-use native.Mathlib.Nat.{le-of-eq}
+use Prim.Native.Nat.{ℕ, _+_, _^_, _≤_, _<_}
+use native.Mathlib.Nat.{min-le-left}
 use native.Mathlib.Omega.{arith}
-use native.Mathlib.Decide.{decLt}
+use native.Mathlib.Decide.{decLt, ℕ-discrete}
 use native.Mathlib.Numerals.{add-one}
-use lib.ListN.{length, getD, take, set, drop, length-append, length-set, length-drop, drop-of-length-le, List·getD-append, List·getD-eq-default}
-use lib.Seq.{getD-set-same, getD-set-other, getD-append-seam, take-suc, take-all, take-at, drop-at}
+use lib.Bits.{bitOr, or-zero-r}
+use lib.ListN.{length, getD, take, set, drop, replicate, length-append, length-set, length-drop, length-take, getD-replicate, List·getD-append, List·getD-eq-default}
+use lib.Seq.{getD-set-same, getD-set-other, getD-append-seam, take-suc, take-all, take-set-lt, take-set-le, drop-set-lt, drop-set-add, length-take-le}
 use Rattle.books.specs.Picture.{Dir, across, down}
+use Rattle.books.specs.declared.family.Family.{Family}
 use Rattle.books.specs.declared.rule.Rule.{Rule}
 use Rattle.books.specs.declared.rule.Body.{Body}
 use Rattle.books.specs.declared.rule.Body.the-variants.{Colour, Across, Down}
-use Rattle.pieces.specs.Masks.{Join, join, joinOf, joinsIn, Laid, Serves, layJoin, noRule, way}
-use Rattle.pieces.specs.Settled.{masksOf, countOf}
+use borrow.Author.Tests.{eq-eqb, ne-eqb}
+use Rattle.pieces.specs.Masks.{Join, join, joinOf, joinsIn, Laid, Serves, masksOf, countOf, putJoin, putRule, countRule, noRule}
+use Rattle.pieces.specs.Joined.{gathered}
+use Rattle.pieces.specs.Painted.{painterOf, painterAt, paintersOf, SmallRules, SplitInto}
 use Rattle.pieces.specs.declared.masks.Joins.{Joins}
+use Rattle.pieces.proofs.Gathered.{gathered-next}
 
--- ---- one rule
-
-pub of-rule : (a : ℕ) {w v : Bool} {x y : Body} → w ≡ v → x ≡ y → joinOf (way w) a x ≡ joinOf (way v) a y
-of-rule a p q = ap₂ (λ (w : Bool) (x : Body). joinOf (way w) a x) p q
-
-pub put-none : (masks : List ℕ) (at : ℕ) (js : List Join) → js ≡ [] → (at ≡ at + length js) × (masks ≡ layJoin masks at js)
-put-none masks at js e = rw e (omega arith, refl)
-
-pub put-one : (masks : List ℕ) (at : ℕ) (js : List Join) (j : Join) {after : List ℕ} {k : ℕ} → js ≡ j ∷ [] → k ≡ at + 1
-    → after ≡ layJoin masks at (j ∷ []) → (k ≡ at + length js) × (after ≡ layJoin masks at js)
-put-one masks at js j e h g = rw e (h, g)
+-- ---- how many joins a rule has
 
 few-of : (d : Dir) (a : ℕ) (x : Body) → length (joinOf d a x) ≤ 1
 few-of d a (Colour c) = omega arith
@@ -49,7 +43,7 @@ joins-few d [] = omega arith
 joins-few d (r ∷ rs) =
     omega (arith, joins-few d rs, few-of d (r .head) (r .body), length-append (joinOf d (r .head) (r .body)) (joinsIn d rs))
 
-pub serves-few : (rs : List Rule) (masks : Dir → List ℕ) (count : Dir → ℕ) (d : Dir) → Serves rs masks count → count d ≤ length rs
+serves-few : (rs : List Rule) (masks : Dir → List ℕ) (count : Dir → ℕ) (d : Dir) → Serves rs masks count → count d ≤ length rs
 serves-few rs masks count d serves = omega (arith, serves .counted d, joins-few d rs)
 
 joins-next : (d : Dir) (rs : List Rule) (i : ℕ)
@@ -90,115 +84,194 @@ module _ (masks : List ℕ) (js : List Join) (j : Join) (long : length masks ≡
   abbrev two : List ℕ
   two = set one (200 + at) (2 ^ j .second)
 
-  other : (i : ℕ) → (i ≡ at → ⊥) → (i ≡ 200 + at → ⊥) → (i ≡ 400 + at → ⊥) → getD (layJoin masks at (j ∷ [])) i 0 ≡ getD masks i 0
+  other : (i : ℕ) → (i ≡ at → ⊥) → (i ≡ 200 + at → ⊥) → (i ≡ 400 + at → ⊥) → getD (putJoin masks at j) i 0 ≡ getD masks i 0
   other i p q r =
       getD-set-other two (400 + at) i (2 ^ j .head) 0 r ∙ getD-set-other one (200 + at) i (2 ^ j .second) 0 q ∙ getD-set-other masks at i (2 ^ j .first) 0 p
 
-  at-first : getD (layJoin masks at (j ∷ [])) at 0 ≡ 2 ^ j .first
+  at-first : getD (putJoin masks at j) at 0 ≡ 2 ^ j .first
   at-first =
       getD-set-other two (400 + at) at (2 ^ j .head) 0 (λ e. omega arith) ∙ getD-set-other one (200 + at) at (2 ^ j .second) 0 (λ e. omega arith)
       ∙ getD-set-same masks at (2 ^ j .first) 0 (omega arith)
 
-  at-second : getD (layJoin masks at (j ∷ [])) (200 + at) 0 ≡ 2 ^ j .second
+  at-second : getD (putJoin masks at j) (200 + at) 0 ≡ 2 ^ j .second
   at-second =
       getD-set-other two (400 + at) (200 + at) (2 ^ j .head) 0 (λ e. omega arith)
       ∙ getD-set-same one (200 + at) (2 ^ j .second) 0 (omega (arith, length-set masks at (2 ^ j .first)))
 
-  at-head : getD (layJoin masks at (j ∷ [])) (400 + at) 0 ≡ 2 ^ j .head
+  at-head : getD (putJoin masks at j) (400 + at) 0 ≡ 2 ^ j .head
   at-head =
       getD-set-same two (400 + at) (2 ^ j .head) 0
       (omega (arith, length-set one (200 + at) (2 ^ j .second), length-set masks at (2 ^ j .first)))
 
-  laid-one : Laid js masks → Laid (js ++ (j ∷ [])) (layJoin masks at (j ∷ []))
+  laid-one : Laid js masks → Laid (js ++ (j ∷ [])) (putJoin masks at j)
   laid-one old =
       record {
-        firsts = row-more js j (λ k. k .first) (λ i. getD masks i 0) (λ i. getD (layJoin masks at (j ∷ [])) i 0) (old .firsts)
+        firsts = row-more js j (λ k. k .first) (λ i. getD masks i 0) (λ i. getD (putJoin masks at j) i 0) (old .firsts)
             (λ i l. other i (λ e. omega arith) (λ e. omega arith) (λ e. omega arith)) at-first;
-        seconds = row-more js j (λ k. k .second) (λ i. getD masks (200 + i) 0) (λ i. getD (layJoin masks at (j ∷ [])) (200 + i) 0) (old .seconds)
+        seconds = row-more js j (λ k. k .second) (λ i. getD masks (200 + i) 0) (λ i. getD (putJoin masks at j) (200 + i) 0) (old .seconds)
             (λ i l. other (200 + i) (λ e. omega arith) (λ e. omega arith) (λ e. omega arith)) at-second;
-        heads = row-more js j (λ k. k .head) (λ i. getD masks (400 + i) 0) (λ i. getD (layJoin masks at (j ∷ [])) (400 + i) 0) (old .heads)
+        heads = row-more js j (λ k. k .head) (λ i. getD masks (400 + i) 0) (λ i. getD (putJoin masks at j) (400 + i) 0) (old .heads)
             (λ i l. other (400 + i) (λ e. omega arith) (λ e. omega arith) (λ e. omega arith)) at-head;
       }
 
 laid-none : (masks : List ℕ) (js : List Join) → Laid js masks → Laid (js ++ []) masks
 laid-none masks js old = rw (append-nil js) old
 
+-- ---- one rule more, in both directions: the rows of the other direction are not touched
+
+module _ (rules : List ℕ) (at : ℕ) (j : Join) (low : at < 200) where
+  abbrev x : ℕ
+  x = 2 ^ j .first
+
+  abbrev y : ℕ
+  y = 2 ^ j .second
+
+  abbrev z : ℕ
+  z = 2 ^ j .head
+
+  across-across : take 600 (putJoin rules at j) ≡ putJoin (take 600 rules) at j
+  across-across =
+      take-set-lt 600 (set (set rules at x) (200 + at) y) (400 + at) z (omega arith)
+      ∙ ap (λ (l : List ℕ). set l (400 + at) z)
+      (take-set-lt 600 (set rules at x) (200 + at) y (omega arith) ∙ ap (λ (l : List ℕ). set l (200 + at) y) (take-set-lt 600 rules at x (omega arith)))
+
+  down-across : take 600 (drop 600 (putJoin rules at j)) ≡ take 600 (drop 600 rules)
+  down-across =
+      ap (take 600)
+      (drop-set-lt 600 (set (set rules at x) (200 + at) y) (400 + at) z (omega arith)
+      ∙ drop-set-lt 600 (set rules at x) (200 + at) y (omega arith) ∙ drop-set-lt 600 rules at x (omega arith))
+
+  abbrev behind : ℕ
+  behind = 600 + at
+
+  across-down : take 600 (putJoin rules behind j) ≡ take 600 rules
+  across-down =
+      take-set-le 600 (set (set rules behind x) (200 + behind) y) (400 + behind) z (omega arith)
+      ∙ take-set-le 600 (set rules behind x) (200 + behind) y (omega arith) ∙ take-set-le 600 rules behind x (omega arith)
+
+  rest-down : drop 600 (putJoin rules behind j) ≡ putJoin (drop 600 rules) at j
+  rest-down =
+      let a : 200 + behind ≡ 600 + (200 + at) = omega arith in
+      let b : 400 + behind ≡ 600 + (400 + at) = omega arith in
+      ap₂ (λ (u v : ℕ). drop 600 (set (set (set rules behind x) u y) v z)) a b
+      ∙ drop-set-add 600 (set (set rules behind x) (600 + (200 + at)) y) (400 + at) z
+      ∙ ap (λ (l : List ℕ). set l (400 + at) z)
+      (drop-set-add 600 (set rules behind x) (200 + at) y ∙ ap (λ (l : List ℕ). set l (200 + at) y) (drop-set-add 600 rules at x))
+
+down-down : (rules : List ℕ) (at : ℕ) (j : Join) → at < 200 → take 600 (drop 600 (putJoin rules (600 + at) j)) ≡ putJoin (take 600 (drop 600 rules)) at j
+down-down rules at j low = ap (take 600) (rest-down rules at j low) ∙ across-across (drop 600 rules) at j low
+
+-- The colours stand behind the joins.
+colour-behind : (rules : List ℕ) (c x : ℕ) (d : Dir) → masksOf (set rules (1200 + c) x) d ≡ masksOf rules d
+colour-behind rules c x across = take-set-le 600 rules (1200 + c) x (omega arith)
+colour-behind rules c x down =
+    let e : 1200 + c ≡ 600 + (600 + c) = omega arith in
+    ap (λ (n : ℕ). take 600 (drop 600 (set rules n x))) e ∙ ap (take 600) (drop-set-add 600 rules (600 + c) x)
+    ∙ take-set-le 600 (drop 600 rules) (600 + c) x (omega arith)
+
 -- A rule has one join of a direction or none.
-laid-more : (d : Dir) (a : ℕ) (x : Body) (masks : List ℕ) (js : List Join) → length masks ≡ 600 → length js < 200 → Laid js masks
-    → Laid (js ++ joinOf d a x) (layJoin masks (length js) (joinOf d a x))
-laid-more d a (Colour c) masks js long low old = laid-none masks js old
-laid-more across a (Across l r) masks js long low old = laid-one masks js (join a l r) long low old
-laid-more across a (Down u v) masks js long low old = laid-none masks js old
-laid-more down a (Across l r) masks js long low old = laid-none masks js old
-laid-more down a (Down u v) masks js long low old = laid-one masks js (join a u v) long low old
+count-more : (d : Dir) (a : ℕ) (x : Body) (j : Joins) → countOf (countRule j x) d ≡ countOf j d + length (joinOf d a x)
+count-more d a (Colour c) j = omega arith
+count-more across a (Across l r) j = refl
+count-more across a (Down u v) j = omega arith
+count-more down a (Across l r) j = omega arith
+count-more down a (Down u v) j = refl
 
-length-lay : (masks : List ℕ) (at : ℕ) (js : List Join) → length (layJoin masks at js) ≡ length masks
-length-lay masks at [] = refl
-length-lay masks at (j ∷ js) = simp length-set
+module _ (rules : List ℕ) (j : Joins) (long : length rules ≡ 1265) (a : ℕ) where
+  laid-more : (d : Dir) (x : Body) (js : List Join) → countOf j across < 200 → countOf j down < 200 → countOf j d ≡ length js → Laid js (masksOf rules d)
+      → Laid (js ++ joinOf d a x) (masksOf (putRule rules j a x) d)
+  laid-more d (Colour c) js p q e old = rw (colour-behind rules c _ d) (laid-none (masksOf rules d) js old)
+  laid-more across (Across l r) js p q e old =
+      rw (across-across rules (j .across) (join a l r) p, e)
+      (laid-one (take 600 rules) js (join a l r) (length-take-le 600 rules (omega arith)) (omega arith) old)
+  laid-more across (Down u v) js p q e old = rw (across-down rules (j .down) (join a u v) q) (laid-none (take 600 rules) js old)
+  laid-more down (Across l r) js p q e old = rw (down-across rules (j .across) (join a l r) p) (laid-none (take 600 (drop 600 rules)) js old)
+  laid-more down (Down u v) js p q e old =
+      rw (down-down rules (j .down) (join a u v) q, e)
+      (laid-one (take 600 (drop 600 rules)) js (join a u v) (length-take-le 600 (drop 600 rules) (omega (arith, length-drop 600 rules))) (omega arith) old)
 
--- ---- what holds while the masks are laid out: i rules are done, and at is the next place
+length-put : (rules : List ℕ) (j : Joins) (a : ℕ) (x : Body) → length (putRule rules j a x) ≡ length rules
+length-put rules j a (Colour c) = simp length-set
+length-put rules j a (Across l r) = simp length-set
+length-put rules j a (Down u v) = simp length-set
 
-pub record Laying (d : Dir) (rules : List Rule) (masks : List ℕ) (at i : ℕ) : Type 0 where
-  pub counted : at ≡ length (joinsIn d (take i rules))
-  pub few : at ≤ i
-  pub laid : Laid (joinsIn d (take i rules)) masks
-  pub long : length masks ≡ 600
+-- ---- the colours: a rule adds its head to those that paint its colour
 
-pub laying-start : (d : Dir) (rules : List Rule) (masks : List ℕ) → length masks ≡ 600 → Laying d rules masks 0 0
-laying-start d rules masks h =
+join-before : (rules : List ℕ) (at i : ℕ) (j : Join) → 400 + at < i → getD (putJoin rules at j) i 0 ≡ getD rules i 0
+join-before rules at i j h =
+    let one = set rules at (2 ^ j .first) in
+    getD-set-other (set one (200 + at) (2 ^ j .second)) (400 + at) i (2 ^ j .head) 0 (λ e. omega arith)
+    ∙ getD-set-other one (200 + at) i (2 ^ j .second) 0 (λ e. omega arith) ∙ getD-set-other rules at i (2 ^ j .first) 0 (λ e. omega arith)
+
+painter-more : (rules : List ℕ) (j : Joins) (a c : ℕ) (x : Body) → length rules ≡ 1265 → j .across < 200 → j .down < 200 → c < 65
+    → getD (putRule rules j a x) (1200 + c) 0 ≡ bitOr (getD rules (1200 + c) 0) (painterOf c a x)
+painter-more rules j a c (Colour k) long p q low = go (ℕ-discrete k c)
+  where
+    go : Dec (k ≡ c) → getD (putRule rules j a (Colour k)) (1200 + c) 0 ≡ bitOr (getD rules (1200 + c) 0) (painterOf c a (Colour k))
+    go (yes e) =
+        rw (e, eq-eqb c c refl) (getD-set-same rules (1200 + c) (bitOr (getD rules (1200 + c) 0) (2 ^ a)) 0 (omega arith))
+    go (no d) =
+        getD-set-other rules (1200 + k) (1200 + c) _ 0 (λ e. d (omega arith)) ∙ sym (or-zero-r (getD rules (1200 + c) 0))
+        ∙ ap (bitOr (getD rules (1200 + c) 0)) (rw (ne-eqb k c d))
+painter-more rules j a c (Across l r) long p q low =
+    join-before rules (j .across) (1200 + c) (join a l r) (omega arith) ∙ sym (or-zero-r (getD rules (1200 + c) 0))
+painter-more rules j a c (Down u v) long p q low =
+    join-before rules (600 + j .down) (1200 + c) (join a u v) (omega arith) ∙ sym (or-zero-r (getD rules (1200 + c) 0))
+
+-- ---- what holds while the masks are laid out: i rules are done
+
+pub record Laying (rs : List Rule) (rules : List ℕ) (j : Joins) (i : ℕ) : Type 0 where
+  pub served : Serves (take i rs) (masksOf rules) (countOf j)
+  pub few-across : j .across ≤ i
+  pub few-down : j .down ≤ i
+  pub painters : (c : ℕ) → c < 65 → getD rules (1200 + c) 0 ≡ gathered i (painterAt rs c)
+  pub long : length rules ≡ 1265
+
+pub laying-start : (rs : List Rule) (rules : List ℕ) → rules ≡ replicate 1265 0 → Laying rs rules (record { across = 0; down = 0 }) 0
+unfolding gathered
+laying-start rs rules h =
     record {
-      counted = refl;
-      few = omega arith;
-      laid = record { firsts = λ i l. absurd (omega arith); seconds = λ i l. absurd (omega arith); heads = λ i l. absurd (omega arith) };
-      long = h;
+      served = record { counted = none; laid = empty };
+      few-across = omega arith;
+      few-down = omega arith;
+      painters = λ c l. ap (λ (t : List ℕ). getD t (1200 + c) 0) h ∙ getD-replicate 1265 (1200 + c) 0 0 (omega arith);
+      long = ap length h;
+    }
+  where
+    none : (d : Dir) → countOf (record { across = 0; down = 0 }) d ≡ 0
+    none across = refl
+    none down = refl
+
+    empty : (d : Dir) → Laid [] (masksOf rules d)
+    empty d = record { firsts = λ i l. absurd (omega arith); seconds = λ i l. absurd (omega arith); heads = λ i l. absurd (omega arith) }
+
+pub laying-step : (rs : List Rule) (rules after : List ℕ) (j k : Joins) (i : ℕ) → i < 200 → Laying rs rules j i
+    → k ≡ countRule j (getD rs i noRule .body) → after ≡ putRule rules j (getD rs i noRule .head) (getD rs i noRule .body) → Laying rs after k (i + 1)
+laying-step rs rules after j k i l old e g =
+    let r = getD rs i noRule in
+    record {
+      served = record {
+        counted = λ d. ap (λ (c : Joins). countOf c d) e ∙ count-more d (r .head) (r .body) j
+            ∙ ap (λ (n : ℕ). n + length (joinOf d (r .head) (r .body))) (old .served .counted d)
+            ∙ sym (length-append (joinsIn d (take i rs)) (joinOf d (r .head) (r .body))) ∙ ap length (sym (joins-next d rs i));
+        laid = λ d. rw (g, joins-next d rs i)
+            (laid-more rules j (old .long) (r .head) d (r .body) (joinsIn d (take i rs)) (omega (arith, old .few-across)) (omega (arith, old .few-down))
+            (old .served .counted d) (old .served .laid d));
+      };
+      few-across = omega (arith, ap (λ (c : Joins). c .across) e, count-more across (r .head) (r .body) j, few-of across (r .head) (r .body), old .few-across);
+      few-down = omega (arith, ap (λ (c : Joins). c .down) e, count-more down (r .head) (r .body) j, few-of down (r .head) (r .body), old .few-down);
+      painters = λ k h. ap (λ (t : List ℕ). getD t (1200 + k) 0) g
+          ∙ painter-more rules j (r .head) k (r .body) (old .long) (omega (arith, old .few-across)) (omega (arith, old .few-down)) h
+          ∙ ap (λ (n : ℕ). bitOr n (painterAt rs k i)) (old .painters k h) ∙ sym (gathered-next i (painterAt rs k));
+      long = ap length g ∙ length-put rules j (r .head) (r .body) ∙ old .long;
     }
 
-pub laying-step : (d : Dir) (rules : List Rule) (masks after : List ℕ) (at k i : ℕ) → i < 200 → Laying d rules masks at i
-    → k ≡ at + length (joinOf d (getD rules i noRule .head) (getD rules i noRule .body))
-    → after ≡ layJoin masks at (joinOf d (getD rules i noRule .head) (getD rules i noRule .body)) → Laying d rules after k (i + 1)
-laying-step d rules masks after at k i l old e g =
-    let r = getD rules i noRule in
-    let js = joinsIn d (take i rules) in
-    let new = joinOf d (r .head) (r .body) in
-    record {
-      counted = e ∙ ap (λ (n : ℕ). n + length new) (old .counted) ∙ sym (length-append js new) ∙ ap length (sym (joins-next d rules i));
-      few = omega (arith, e, old .few, few-of d (r .head) (r .body));
-      laid =
-          rw (g, joins-next d rules i, old .counted)
-          (laid-more d (r .head) (r .body) masks js (old .long) (omega (arith, old .few, old .counted)) (old .laid));
-      long = ap length g ∙ length-lay masks at new ∙ old .long;
-    }
+pub laying-end : (f : Family) (rules : List ℕ) (j : Joins) → Laying (f .rules) rules j (f .count) → SplitInto f rules j
+unfolding paintersOf
+laying-end f rules j v = record { serves = v .served; painters = v .painters }
 
--- ---- both directions
-
--- The first part was written, and then the part behind it.
-module _ (a b rest : List ℕ) (long : length a ≡ 600) where
-  abbrev once : List ℕ
-  once = a ++ rest
-
-  abbrev twice : List ℕ
-  twice = take 600 once ++ (b ++ drop (length once - 600) (drop 600 once))
-
-  front : take 600 once ≡ a
-  front = take-at a rest 600 long
-
-  first-written : take 600 twice ≡ a
-  first-written = take-at (take 600 once) _ 600 (ap length front ∙ long) ∙ front
-
-  then-written : drop 600 twice ≡ b
-  then-written =
-      drop-at (take 600 once) (b ++ drop (length once - 600) (drop 600 once)) 600 (ap length front ∙ long)
-      ∙ ap (λ (l : List ℕ). b ++ l) (drop-of-length-le (drop 600 once) {i = length once - 600} (le-of-eq (length-drop 600 once)))
-      ∙ append-nil b
-
-  pub both-laid : (rs : List Rule) (j : Joins) → j .across ≡ length (joinsIn across rs) → Laid (joinsIn across rs) a
-      → j .down ≡ length (joinsIn down rs) → Laid (joinsIn down rs) b → Serves rs (masksOf twice) (countOf j)
-  both-laid rs j e p g q = record { counted = counts; laid = rows }
-    where
-      counts : (d : Dir) → countOf j d ≡ length (joinsIn d rs)
-      counts across = e
-      counts down = g
-
-      rows : (d : Dir) → Laid (joinsIn d rs) (masksOf twice d)
-      rows across = rw first-written p
-      rows down = rw then-written q
+pub split-few : (f : Family) (rules : List ℕ) (j : Joins) → SmallRules f → SplitInto f rules j → (j .across ≤ 200) × (j .down ≤ 200)
+split-few f rules j small split =
+    let n = length-take (f .count) (f .rules) in
+    let few : (d : Dir) → countOf j d ≤ 200 = λ d. omega (arith, serves-few _ (masksOf rules) (countOf j) d (split .serves), n, min-le-left (f .count) (length (f .rules)), small .few) in
+    (few across, few down)

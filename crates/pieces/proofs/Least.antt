@@ -6,8 +6,8 @@ use mathlib.Core.Bool.{Bool, true, false, true≢false, false≢true}
 use mathlib.Core.Logic.{_⊎_, inl, inr, ⊎-elim}
 use native.Mathlib.Nat.{eq-or-lt-of-le}
 use native.Mathlib.Omega.{arith}
-use Rattle.books.specs.Decide.{andThen}
 use Rattle.names.proofs.Tests.{true-or-false}
+use Rattle.books.specs.Decide.{andThen}
 use Rattle.pieces.specs.Choice.{least}
 
 -- one step, by the test of the first number

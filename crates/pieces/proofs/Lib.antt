@@ -16,6 +16,7 @@ pub mod Laying
 pub mod SettledTable
 pub mod CellEntries
 pub mod WholeTable
+pub mod TableEntries
 pub mod Least
 pub mod Cutting
 pub mod Fitting

@@ -1,25 +1,25 @@
 -- A settled table whose cells are right is the table of the picture. A derivation of a piece of more than one cell ends in a join, whose parts
 -- are pieces with smaller slots; so entry for entry the joins that fire are those that derive.
 use mathlib.Core.Path.{_≡_, refl, sym, ap, _∙_, subst}
-use mathlib.Core.Logic.{_⊎_, ⊎-elim}
-use mathlib.Core.List.{List, [], _∷_, map}
+use mathlib.Core.Logic.{⊎-elim}
+use mathlib.Core.List.{List}
 use Prim.Native.Nat.{ℕ, zero, suc, _+_, _-_, _*_, _^_, _≤_, _<_}
 use native.Mathlib.Nat.{add-assoc}
 use native.Mathlib.Omega.{arith}
 use native.Mathlib.Decide.{decLt}
 use lib.Bits.{or-lt}
-use lib.ListN.{length, getD, take, length-map}
+use lib.ListN.{length, getD, take}
 use lib.Seq.{ext-getD, getD-take, length-take-le}
 use Rattle.books.specs.Contents.{Contents, Has}
 use Rattle.books.specs.Keeps.{Sound}
 use Rattle.books.specs.Picture.{Picture, Same, Dir, across, down, joins, size, first, rest}
 use Rattle.books.specs.Derives.{Derives, paint, join}
 use Rattle.books.proofs.SamePictures.{derives-same, same-sym}
-use Rattle.pieces.specs.Pieces.{piece, Inside, pieces, total, slotOf}
+use Rattle.pieces.specs.Pieces.{piece, Inside, total, slotOf}
 use Rattle.pieces.specs.Parts.{extent, firstPart, restPart}
 use Rattle.pieces.specs.Table.{bit, cut, entry, table}
 use Rattle.pieces.specs.Joined.{joined}
-use Rattle.pieces.specs.Settled.{Plan, at, cutsOf, Settled}
+use Rattle.pieces.specs.Settled.{Plan, at, cutsOf, entryOf, Settled}
 use Rattle.pieces.specs.Masks.{joinsIn, Serves}
 use Rattle.pieces.specs.declared.piece.Piece.{Piece}
 use Rattle.pieces.proofs.Bits.{or-split, or-left, or-right, same-bit, same-bits}
@@ -28,8 +28,8 @@ use Rattle.pieces.proofs.Entries.{entry-lt, entry-derives, derives-entr
 use Rattle.pieces.proofs.LaidJoins.{join-rule, rule-join, joined-has, has-joined, joined-lt}
 use Rattle.pieces.proofs.CellsFirst.{slot-cell}
 use Rattle.pieces.proofs.PartsOfPieces.{first-inside, rest-inside, first-before, rest-before}
-use Rattle.pieces.proofs.Settling.{given}
-use Rattle.pieces.proofs.Slots.{slot-lt, slot-onto, getD-slot, length-pieces}
+use Rattle.pieces.proofs.TableEntries.{table-length, table-at}
+use Rattle.pieces.proofs.Slots.{slot-lt, slot-onto}
 
 -- ---- the parts of a piece of a picture
 
@@ -106,7 +106,7 @@ module _ (b : Contents) (sound : Sound b) (p : Picture) (j : Plan) (serves : Ser
       has-gathered (extent d q - 1) _ a (k - 1) (omega arith)
       (subst (λ (n : ℕ). bit (joined (j .masks d) (j .count d) (first-entry d n) (rest-entry d n)) a ≡ 1) (sym e) o)
 
-  made : (a : ℕ) → Derives b a (cut p q) → bit (given j t q) a ≡ 1
+  made : (a : ℕ) → Derives b a (cut p q) → bit (entryOf j t q) a ≡ 1
   made a (paint c h hr hc e) = absurd (omega arith)
   made a (join across x y k h hk hs u v) = or-left (cutsOf j t across q) (cutsOf j t down q) a (fired across a x y k h hk hs u v)
   made a (join down x y k h hk hs u v) = or-right (cutsOf j t across q) (cutsOf j t down q) a (fired down a x y k h hk hs u v)
@@ -119,20 +119,15 @@ module _ (b : Contents) (sound : Sound b) (p : Picture) (j : Plan) (serves : Ser
       (joined-lt (joinsIn d (b .rules)) (j .masks d) (serves .laid d) (first-entry d (k + 1)) (rest-entry d (k + 1)) (b .motifs)
       (λ x m. sound .rules-fit _ (join-rule d (b .rules) x m) .head-fits)))
 
-  given-entry : given j t q ≡ entry b (cut p q)
-  given-entry =
-      same-bits (b .motifs) (given j t q) (entry b (cut p q)) (or-lt (b .motifs) (cutsOf j t across q) (cutsOf j t down q) (cuts-lt across) (cuts-lt down))
+  right-entry : entryOf j t q ≡ entry b (cut p q)
+  right-entry =
+      same-bits (b .motifs) (entryOf j t q) (entry b (cut p q)) (or-lt (b .motifs) (cutsOf j t across q) (cutsOf j t down q) (cuts-lt across) (cuts-lt down))
       (entry-lt b (cut p q))
-      (λ a h. same-bit (given j t q) (entry b (cut p q)) a
+      (λ a h. same-bit (entryOf j t q) (entry b (cut p q)) a
       (λ o. derives-entry b (cut p q) a h (⊎-elim (λ x. found across a x) (λ x. found down a x) (or-split (cutsOf j t across q) (cutsOf j t down q) a o)))
       (λ o. made a (entry-derives b (cut p q) a o)))
 
 -- ---- every entry, and the table
-
-pub getD-map : {A : Type 0} (f : A → ℕ) (l : List A) (i : ℕ) (d : A) → i < length l → getD (map f l) i 0 ≡ f (getD l i d)
-getD-map f [] i d h = absurd (omega arith)
-getD-map f (x ∷ xs) zero d h = refl
-getD-map f (x ∷ xs) (suc i) d h = getD-map f xs i d (omega arith)
 
 module _ (b : Contents) (sound : Sound b) (p : Picture) (masks : Dir → List ℕ) (count : Dir → ℕ) where
   abbrev plan-of : Plan
@@ -146,7 +141,7 @@ module _ (b : Contents) (sound : Sound b) (p : Picture) (masks : Dir → List �
       where
         go : ((x : Piece) → Inside (p .rows) (p .cols) x → slotOf (p .rows) (p .cols) x < slotOf (p .rows) (p .cols) q → at plan-of t x ≡ entry b (cut p x))
             → Dec (2 < q .height + q .width) → at plan-of t q ≡ entry b (cut p q)
-        go ih (yes l) = settled q i l (slot-lt (p .rows) (p .cols) q i) ∙ given-entry b sound p plan-of serves t q i l ih
+        go ih (yes l) = settled q i l (slot-lt (p .rows) (p .cols) q i) ∙ right-entry b sound p plan-of serves t q i l ih
         go ih (no l) =
             let e : piece 1 1 (q .top) (q .left) ≡ q = one (omega arith) (omega arith) in
             subst (λ (x : Piece). at plan-of t x ≡ entry b (cut p x)) e
@@ -155,18 +150,13 @@ module _ (b : Contents) (sound : Sound b) (p : Picture) (masks : Dir → List �
             one : {x y : ℕ} → x ≡ q .height → y ≡ q .width → piece x y (q .top) (q .left) ≡ q
             one u v = rw (u, v)
 
-    entry-at : (i : ℕ) → i < total (p .rows) (p .cols) → getD t i 0 ≡ getD (map (λ q. entry b (cut p q)) (pieces (p .rows) (p .cols))) i 0
+    entry-at : (i : ℕ) → i < total (p .rows) (p .cols) → getD t i 0 ≡ getD (table b p) i 0
     entry-at i h =
         let w = slot-onto (p .rows) (p .cols) i h in
-        let q : Piece = w .0 in
-        ap (λ (x : ℕ). getD t x 0) (sym (w .2)) ∙ entries (suc i) q (w .1) (omega (arith, w .2))
-        ∙ sym (getD-map (λ q. entry b (cut p q)) (pieces (p .rows) (p .cols)) i q (omega (arith, length-pieces (p .rows) (p .cols)))
-        ∙ ap (λ (x : Piece). entry b (cut p x)) (ap (λ (x : ℕ). getD (pieces (p .rows) (p .cols)) x q) (sym (w .2)) ∙ getD-slot (p .rows) (p .cols) q (w .1) q))
+        subst (λ (k : ℕ). getD t k 0 ≡ getD (table b p) k 0) (w .2) (entries (suc i) (w .0) (w .1) (omega (arith, w .2)) ∙ sym (table-at b p (w .0) (w .1)))
 
     pub settled-table : total (p .rows) (p .cols) ≤ length t → take (total (p .rows) (p .cols)) t ≡ table b p
-    unfolding table
     settled-table room =
         let long = length-take-le (total (p .rows) (p .cols)) t room in
-        ext-getD 0 (take (total (p .rows) (p .cols)) t) (map (λ q. entry b (cut p q)) (pieces (p .rows) (p .cols)))
-        (long ∙ sym (length-map (pieces (p .rows) (p .cols)) (λ q. entry b (cut p q)) ∙ length-pieces (p .rows) (p .cols)))
+        ext-getD 0 (take (total (p .rows) (p .cols)) t) (table b p) (long ∙ sym (table-length b p))
         (λ i h. getD-take (total (p .rows) (p .cols)) t i 0 (omega arith) ∙ entry-at i (omega arith))

@@ -11,16 +11,12 @@ use Rattle.books.specs.Picture.{Dir, across, down}
 use Rattle.pieces.specs.Pieces.{piece, Inside, total, slotOf, NextTo}
 use Rattle.pieces.specs.Parts.{extent}
 use Rattle.pieces.specs.Joined.{joined}
-use Rattle.pieces.specs.Settled.{Plan, at, cutsOf, Settled, Filled}
+use Rattle.pieces.specs.Settled.{Plan, at, cutsOf, entryOf, Settled, Filled}
 use Rattle.pieces.specs.declared.piece.Piece.{Piece}
 use Rattle.pieces.proofs.Gathered.{gathered-same}
 use Rattle.pieces.proofs.CellsFirst.{slot-last-cell, cells-few, large-after}
 use Rattle.pieces.proofs.PartsOfPieces.{first-before, rest-before}
 use Rattle.pieces.proofs.Slots.{slot-inj}
-
--- what the cuts of a piece give
-abbrev pub given : Plan → List ℕ → Piece → ℕ
-given j t p = bitOr (cutsOf j t across p) (cutsOf j t down p)
 
 -- two tables with the same entries below k
 abbrev pub Agree : ℕ → List ℕ → List ℕ → Type 0
@@ -35,27 +31,27 @@ module _ (j : Plan) (s t : List ℕ) (p : Piece) (i : Inside (j .rows) (j .cols)
       (ag _ (first-before d (k + 1) i (omega arith) (omega arith)))
       (ag _ (rest-before d (k + 1) i (omega arith) (omega arith))))
 
-  pub given-local : given j s p ≡ given j t p
-  given-local = ap₂ bitOr (cuts-local across) (cuts-local down)
+  pub entry-local : entryOf j s p ≡ entryOf j t p
+  entry-local = ap₂ bitOr (cuts-local across) (cuts-local down)
 
 -- One entry more.
 module _ (j : Plan) (t : List ℕ) (k e : ℕ) (p : Piece) (i : Inside (j .rows) (j .cols) p)
-    (here : slotOf (j .rows) (j .cols) p ≡ k) (room : k < length t) (right : e ≡ given j t p) where
+    (here : slotOf (j .rows) (j .cols) p ≡ k) (room : k < length t) (right : e ≡ entryOf j t p) where
   untouched : Agree k t (set t k e)
   untouched x h = sym (getD-set-other t k x e 0 (λ q. omega arith))
 
   settle : Settled j k t → Settled j (k + 1) (set t k e)
   settle old q inq large h = go (decLt (slotOf (j .rows) (j .cols) q) k)
     where
-      go : Dec (slotOf (j .rows) (j .cols) q < k) → at j (set t k e) q ≡ given j (set t k e) q
+      go : Dec (slotOf (j .rows) (j .cols) q < k) → at j (set t k e) q ≡ entryOf j (set t k e) q
       go (yes l) =
           sym (untouched (slotOf (j .rows) (j .cols) q) l) ∙ old q inq large l
-          ∙ given-local j t (set t k e) q inq (λ x g. untouched x (omega arith))
+          ∙ entry-local j t (set t k e) q inq (λ x g. untouched x (omega arith))
       go (no l) =
           let same : p ≡ q = slot-inj (j .rows) (j .cols) p q i inq (omega arith) in
-          subst (λ (x : Piece). at j (set t k e) x ≡ given j (set t k e) x) same
+          subst (λ (x : Piece). at j (set t k e) x ≡ entryOf j (set t k e) x) same
           (ap (λ (x : ℕ). getD (set t k e) x 0) here ∙ getD-set-same t k e 0 room ∙ right
-          ∙ given-local j t (set t k e) p i (λ x g. untouched x (omega arith)))
+          ∙ entry-local j t (set t k e) p i (λ x g. untouched x (omega arith)))
 
 -- What holds while the table is filled: p is the piece due, and k its slot.
 pub record Filling (j : Plan) (before t : List ℕ) (p : Piece) (k : ℕ) : Type 0 where
@@ -84,7 +80,7 @@ filling-start j t p k hm hn e nx =
     }
 
 pub filling-step : (j : Plan) (before t : List ℕ) (p q : Piece) (k e : ℕ) → Filling j before t p k → k < total (j .rows) (j .cols)
-    → total (j .rows) (j .cols) ≤ length before → e ≡ given j t p → NextTo (j .rows) (j .cols) p q → Filling j before (set t k e) q (k + 1)
+    → total (j .rows) (j .cols) ≤ length before → e ≡ entryOf j t p → NextTo (j .rows) (j .cols) p q → Filling j before (set t k e) q (k + 1)
 filling-step j before t p q k e f less room right nx = record {
   from = omega (arith, f .from);
   upto = omega arith;

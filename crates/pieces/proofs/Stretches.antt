@@ -4,7 +4,7 @@ use Prim.Native.Nat.{ℕ, zero, suc, _+_, _-_, _*_, _/_, _≤_}
 use native.Mathlib.Nat.{suc-mul, zero-mul, mul-add, le-trans, mul-le-mul}
 use native.Mathlib.Numerals.{add-one}
 use native.Mathlib.Omega.{arith}
-use Rattle.pieces.specs.Pieces.{stretches, total}
+use Rattle.pieces.specs.Pieces.{most, stretches, total}
 use Rattle.pieces.proofs.Sums.{sum, sum-mono}
 
 pub stretches-next : (n k : ℕ) → stretches n (k + 1) ≡ stretches n k + (n - k)
@@ -41,10 +41,10 @@ total-stretches m n = rw (stretches-all m, stretches-all n)
 pub stretches-mono : (n i k : ℕ) → i ≤ k → stretches n i ≤ stretches n k
 stretches-mono n i k h = omega (arith, stretches-sum n i, stretches-sum n k, sum-mono (λ j. n - j) i k h)
 
-most : (n k : ℕ) → stretches n k ≤ k * n
+stretches-le : (n k : ℕ) → stretches n k ≤ k * n
 unfolding stretches
-most n zero = omega arith
-most n (suc k) = omega (arith, most n k, suc-mul k n)
+stretches-le n zero = omega arith
+stretches-le n (suc k) = omega (arith, stretches-le n k, suc-mul k n)
 
-pub stretches-few : (n k : ℕ) → n ≤ 24 → k ≤ 24 → stretches n k ≤ 576
-stretches-few n k h g = le-trans (most n k) (mul-le-mul g h)
+pub stretches-few : (n k : ℕ) → n ≤ most → k ≤ most → stretches n k ≤ 576
+stretches-few n k h g = le-trans (stretches-le n k) (mul-le-mul g h)

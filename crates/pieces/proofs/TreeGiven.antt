@@ -31,7 +31,7 @@ use Rattle.pieces.specs.Choice.{works, cutOf, fits, takes, taken, choose
 use Rattle.pieces.specs.Tree.{both, nodeTree, treeWithin, treeOf}
 use Rattle.pieces.proofs.Cutting.{area-pos, front-inside, back-inside, cut-reach, cut-front, cut-back}
 use Rattle.pieces.proofs.Choosing.{Taken, Cut, Right, cut-is, cut-upto, cell-fits, choose-right}
-use Rattle.pieces.proofs.Fitting.{fits-cell}
+use Rattle.pieces.proofs.Fitting.{covers-cell}
 use Rattle.pieces.proofs.TreeSteps.{Parts, parts}
 use Rattle.pieces.proofs.Giving.{at-has, derives-able}
 
@@ -74,7 +74,7 @@ module _ (b : Contents) (p : Picture) (v : View) (exact : Exact b p v) (q : Piec
       exact .paints-exact c q inq (a, at-has b i a (Colour c) u) in
       let here : p .cell (q .top + 0) (q .left + 0) ≡ p .cell (q .top) (q .left) = ap₂ (p .cell) (add-zero (q .top)) (add-zero (q .left)) in (
         λ e. let (h, w, z) = cell-fits v q c e in (h, w, here ∙ same .0 z),
-        λ z. fits-cell v q c (z .0) (z .1) ∙ same .1 (sym here ∙ z .2),
+        λ z. covers-cell (v .paints) q c (z .0) (z .1) ∙ same .1 (sym here ∙ z .2),
       )
   fits-able i a (AcrossBody l r) u = (λ e. cut-able Across l r .0 (ltb-true _ _ e), λ w. lt-ltb _ _ (cut-able Across l r .1 w))
   fits-able i a (DownBody l r) u = (λ e. cut-able Down l r .0 (ltb-true _ _ e), λ w. lt-ltb _ _ (cut-able Down l r .1 w))

@@ -12,7 +12,8 @@ use lib.Seq.{take-at, drop-append-add, drop-drop, length-take-le, sets-eq}
 use Rattle.pieces.specs.declared.tree.Written.{Written}
 use Rattle.pieces.specs.declared.tree.Written.the-variants.{Upto, NoRule}
 use Rattle.pieces.specs.Tree.{both}
-use Rattle.pieces.specs.Wrote.{Wrote, found, outcome}
+use Rattle.pieces.specs.Wrote.{Wrote, outcome}
+use Rattle.pieces.specs.Derivation.{treeAnswer}
 use Rattle.pieces.proofs.TreeSteps.{Each}
 
 -- xs written at a place
@@ -87,13 +88,13 @@ module _ (s t : List ℕ) (at room next : ℕ) where
   wrote-both u more (some xs) y r size h (e, w) z = wrote-on s t u at room more xs y r size h w (rw (upto-inj e) at z)
 
 -- What stands in a slice that was lent for a tree: the tree; or zeros, where it was cleared.
-pub wrote-found : (s t : List ℕ) (room next : ℕ) (o : Option (List ℕ)) → Wrote s t 0 room o (Upto next) → (true ≡ found o) × (t ≡ outcome room s o)
+pub wrote-found : (s t : List ℕ) (room next : ℕ) (o : Option (List ℕ)) → Wrote s t 0 room o (Upto next) → (0 ≡ treeAnswer o .number) × (t ≡ outcome room s o)
 unfolding Wrote outcome
 wrote-found s t room next none (e, w) = absurd (no-upto (sym e))
 wrote-found s t room next (some xs) (e, w) = (refl, rw (zero-add (length xs)) at w)
 
 pub wrote-lost : (s t u : List ℕ) (room : ℕ) (o : Option (List ℕ)) → Wrote s t 0 room o NoRule → u ≡ replicate room 0 ++ drop room t
-    → (false ≡ found o) × (u ≡ outcome room s o)
+    → (14 ≡ treeAnswer o .number) × (u ≡ outcome room s o)
 unfolding Wrote outcome
 wrote-lost s t u room none (e, w) z = (refl, z ∙ ap (λ (l : List ℕ). replicate room 0 ++ l) (rw (zero-add room) at w))
 wrote-lost s t u room (some xs) (e, w) z = absurd (no-upto e)

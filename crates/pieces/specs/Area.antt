@@ -1,7 +1,7 @@
 -- The cells of a piece, and how many numbers its tree has.
 use Prim.Native.Nat.{ℕ, _-_, _*_}
-use Rattle.pieces.specs.Pieces.{piece}
 use Rattle.pieces.specs.declared.piece.Piece.{Piece}
+use Rattle.pieces.specs.Pieces.{piece}
 
 -- a whole sheet of m rows and n columns
 abbrev pub whole : ℕ → ℕ → Piece

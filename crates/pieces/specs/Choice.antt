@@ -31,9 +31,13 @@ works has d l r q k = andThen (has l (front d k q)) (λ _. has r (back d k q))
 unfoldable pub cutOf : (ℕ → Piece → Bool) → Direction → ℕ → ℕ → Piece → ℕ
 cutOf has d l r q = least (works has d l r q) 1 (reach d q - 1)
 
+-- whether a piece is one cell of a colour
+unfoldable pub covers : (ℕ → Piece → Bool) → Piece → ℕ → Bool
+covers paints q c = andThen (eqb (q .height) 1) (λ _. andThen (eqb (q .width) 1) (λ _. paints c q))
+
 -- whether a body fits a piece
 unfoldable pub fits : View → Piece → Body → Bool
-fits v q (Colour c) = andThen (eqb (q .height) 1) (λ _. andThen (eqb (q .width) 1) (λ _. v .paints c q))
+fits v q (Colour c) = covers (v .paints) q c
 fits v q (AcrossBody l r) = ltb (cutOf (v .has) Across l r q) (q .width)
 fits v q (DownBody u w) = ltb (cutOf (v .has) Down u w q) (q .height)
 
@@ -48,11 +52,23 @@ taken v rules a q i = takes v a q (getD rules i noRule)
 unfoldable pub lowest : View → List Rule → ℕ → Piece → ℕ
 lowest v rules a q = least (taken v rules a q) 0 (length rules)
 
-unfoldable pub chosen : View → Piece → ℕ → Body → Choice
-chosen v q i (Colour c) = Leaf i
-chosen v q i (AcrossBody l r) = Join i Across (cutOf (v .has) Across l r q) l r
-chosen v q i (DownBody u w) = Join i Down (cutOf (v .has) Down u w q) u w
+-- rule number i with the cut that its body wants
+abbrev pub joined : (ℕ → Piece → Bool) → Piece → ℕ → Direction → ℕ → ℕ → Choice
+joined has q i d l r = Join i d (cutOf has d l r q) l r
+
+unfoldable pub chosen : (ℕ → Piece → Bool) → Piece → ℕ → Body → Choice
+chosen has q i (Colour c) = Leaf i
+chosen has q i (AcrossBody l r) = joined has q i Across l r
+chosen has q i (DownBody u w) = joined has q i Down u w
 
 unfoldable pub choose : View → List Rule → ℕ → Piece → Choice
 choose v rules a q =
-    pick (ltb (lowest v rules a q) (length rules)) (chosen v q (lowest v rules a q) (getD rules (lowest v rules a q) noRule .body)) NoRule
+    pick (ltb (lowest v rules a q) (length rules)) (chosen (v .has) q (lowest v rules a q) (getD rules (lowest v rules a q) noRule .body)) NoRule
+
+-- rule number i as a join with its smallest cut, or nothing where no cut works
+unfoldable pub joinedAt : (ℕ → Piece → Bool) → Piece → ℕ → Direction → ℕ → ℕ → Choice
+joinedAt has q i d l r = pick (ltb (cutOf has d l r q) (reach d q)) (joined has q i d l r) NoRule
+
+-- what rule number i offers by its body when the rules are tried one by one: itself where the body fits, else nothing
+unfoldable pub offered : View → Piece → ℕ → Body → Choice
+offered v q i x = pick (fits v q x) (chosen (v .has) q i x) NoRule

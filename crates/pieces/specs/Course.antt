@@ -38,19 +38,22 @@ abbrev pub cells : Dir → ℕ → ℕ → ℕ
 cells across m n = n
 cells down m n = m
 
--- by how much the steps change; by how much the first part's rise is less than so many changes; and the second part's fall
+-- how many pieces fewer the block of the next width has, or of the next height: by so much the steps change
 abbrev pub change : Dir → ℕ → ℕ → Piece → ℕ
 change across m n p = m - (p .height - 1)
 change down m n p = stretches n n
 
+-- by how much a step of the first part falls short of a whole block, ...
 abbrev pub short : Dir → ℕ → Piece → ℕ
 short across n p = p .top
 short down n p = stretches n (p .width - 1)
 
+-- ... and a step of the second part, which moves on by a column or a row
 abbrev pub shorter : Dir → ℕ → Piece → ℕ
 shorter across n p = p .top + 1
-shorter down n p = stretches n (p .width - 1) + (n - (p .width - 1))
+shorter down n p = stretches n (p .width)
 
+-- the course of the cuts of a piece, at its first cut
 unfoldable pub courseOf : Dir → ℕ → ℕ → Piece → Course
 courseOf d m n p =
     record {

@@ -2,9 +2,9 @@ pub mod Pieces
 pub mod Parts
 pub mod Course
 pub mod Joined
-pub mod Settled
 pub mod Masks
 pub mod Painted
+pub mod Settled
 pub mod Table
 pub mod Direction
 pub mod Area
@@ -15,3 +15,4 @@ pub mod Choice
 pub mod Tree
 pub mod Wrote
 pub mod Derivation
+pub mod Verdict

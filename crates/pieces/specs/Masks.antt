@@ -1,13 +1,14 @@
--- The joins of one direction among a book's rules, and their masks as the code lays them out.
+-- The joins of one direction among a book's rules, and the masks of the rules as the code lays them out.
 use Prim.Native.Nat.{ℕ, _+_, _^_, _<_}
 use mathlib.Core.Path.{_≡_}
-use mathlib.Core.Bool.{Bool, true, false}
 use mathlib.Core.List.{List, [], _∷_, _++_}
-use lib.ListN.{length, getD, set}
+use lib.Bits.{bitOr}
+use lib.ListN.{length, getD, take, drop, set}
 use Rattle.books.specs.Picture.{Dir, across, down}
 use Rattle.books.specs.declared.rule.Rule.{Rule}
 use Rattle.books.specs.declared.rule.Body.{Body}
 use Rattle.books.specs.declared.rule.Body.the-variants.{Colour, Across, Down}
+use Rattle.pieces.specs.declared.masks.Joins.{Joins}
 
 -- a head motif, and the motifs of its left and right or upper and lower parts
 pub record Join : Type 0 where
@@ -41,14 +42,33 @@ pub record Serves (rs : List Rule) (masks : Dir → List ℕ) (count : Dir → �
   pub counted : (d : Dir) → count d ≡ length (joinsIn d rs)
   pub laid : (d : Dir) → Laid (joinsIn d rs) (masks d)
 
--- the masks with those of a join, or of none, at a place
-abbrev pub layJoin : List ℕ → ℕ → List Join → List ℕ
-layJoin masks at [] = masks
-layJoin masks at (j ∷ js) = set (set (set masks at (2 ^ j .first)) (200 + at) (2 ^ j .second)) (400 + at) (2 ^ j .head)
+-- in one row of numbers: the masks of the across joins, from 600 on those of the down joins, and from 1200 on those of the colours
+abbrev pub masksOf : List ℕ → Dir → List ℕ
+masksOf rules across = take 600 rules
+masksOf rules down = take 600 (drop 600 rules)
 
--- the motifs of a rule have a place among 32 bits
+abbrev pub countOf : Joins → Dir → ℕ
+countOf j across = j .across
+countOf j down = j .down
+
+-- the masks of a join at a place, ...
+abbrev pub putJoin : List ℕ → ℕ → Join → List ℕ
+putJoin rules at j = set (set (set rules at (2 ^ j .first)) (200 + at) (2 ^ j .second)) (400 + at) (2 ^ j .head)
+
+-- ... and of a rule: a join behind those of its direction, the head of a colour rule with the others of its colour
+abbrev pub putRule : List ℕ → Joins → ℕ → Body → List ℕ
+putRule rules j a (Colour c) = set rules (1200 + c) (bitOr (getD rules (1200 + c) 0) (2 ^ a))
+putRule rules j a (Across l r) = putJoin rules (j .across) (join a l r)
+putRule rules j a (Down u v) = putJoin rules (600 + j .down) (join a u v)
+
+abbrev pub countRule : Joins → Body → Joins
+countRule j (Colour c) = j
+countRule j (Across l r) = record { across = j .across + 1; down = j .down }
+countRule j (Down u v) = record { across = j .across; down = j .down + 1 }
+
+-- the motifs of a rule have a place among 32 bits, and its colour among 64
 abbrev pub BodySmall : Body → Type 0
-BodySmall (Colour c) = Unit {0}
+BodySmall (Colour c) = c < 64
 BodySmall (Across l r) = (l < 32) × (r < 32)
 BodySmall (Down u v) = (u < 32) × (v < 32)
 
@@ -59,7 +79,3 @@ pub record Small (r : Rule) : Type 0 where
 -- the rule past the end of a list
 abbrev pub noRule : Rule
 noRule = record { head = 0; body = Colour 0 }
-
-abbrev pub way : Bool → Dir
-way false = across
-way true = down

@@ -1,25 +1,22 @@
--- The motifs that paint a cell: those with a colour rule of the cell's name.
+-- The motifs that paint a cell, those with a colour rule of the cell's name; and what reading gives the table to go by.
 use Prim.Native.Nat.{ℕ, _+_, _*_, _^_, _≤_, _<_}
 use mathlib.Core.Path.{_≡_}
 use mathlib.Core.List.{List}
 use lib.Dec.{eqb}
-use lib.ListN.{length, getD}
+use lib.ListN.{length, getD, take}
 use Rattle.names.specs.Pick.{pick}
 use Rattle.names.specs.Colours.{nameIn, findName}
-use Rattle.names.specs.declared.colours.Colours.{Colours}
-use Rattle.books.specs.Contents.{Contents}
 use Rattle.books.specs.Grid.{GridKeeps}
 use Rattle.books.specs.Held.{contentsIn, gridIn}
 use Rattle.books.specs.Keeps.{Keeps}
-use Rattle.books.specs.Picture.{Picture}
 use Rattle.books.specs.declared.family.Family.{Family}
 use Rattle.books.specs.declared.sheet.Sheet.{Sheet}
+use Rattle.books.specs.declared.rule.Rule.{Rule}
 use Rattle.books.specs.declared.rule.Body.{Body}
 use Rattle.books.specs.declared.rule.Body.the-variants.{Colour, Across, Down}
 use Rattle.pieces.specs.Joined.{gathered}
-use Rattle.pieces.specs.Masks.{noRule}
-use Rattle.pieces.specs.Pieces.{piece}
-use Rattle.pieces.specs.Table.{cut, entry}
+use Rattle.pieces.specs.Masks.{Serves, Small, masksOf, countOf, noRule}
+use Rattle.pieces.specs.declared.masks.Joins.{Joins}
 
 -- what reading gives of a book and of a sheet
 pub record AsRead (book : List ℕ) (f : Family) (bytes : List ℕ) (g : Sheet) : Type 0 where
@@ -29,30 +26,36 @@ pub record AsRead (book : List ℕ) (f : Family) (bytes : List ℕ) (g : Sheet) 
   pub sheet-keeps : GridKeeps (gridIn bytes g)
   pub area-few : g .rows * g .cols ≤ 144
 
+-- the number that the colour of each cell has in the book, or the count of the book's colours where it has no such colour
+abbrev pub Numbered : List ℕ → Family → List ℕ → Sheet → List ℕ → Type 0
+Numbered book f bytes g cells =
+    (i : ℕ) → i < g .rows * g .cols → getD cells i 0 ≡ findName book (f .colours) (nameIn bytes (g .colours) (getD (g .cells) i 0))
+
 -- the head's mask, where the body is the colour of a number
 abbrev pub painterOf : ℕ → ℕ → Body → ℕ
 painterOf colour a (Colour c) = pick (eqb c colour) (2 ^ a) 0
 painterOf colour a (Across l r) = 0
 painterOf colour a (Down u v) = 0
 
--- that of a family's i-th rule, and of all its rules
-abbrev pub painterAt : Family → ℕ → ℕ → ℕ
-painterAt f colour i = painterOf colour (getD (f .rules) i noRule .head) (getD (f .rules) i noRule .body)
+-- that of the i-th rule, and of all rules of a family
+abbrev pub painterAt : List Rule → ℕ → ℕ → ℕ
+painterAt rs colour i = painterOf colour (getD rs i noRule .head) (getD rs i noRule .body)
 
 unfoldable pub paintersOf : Family → ℕ → ℕ
-paintersOf f colour = gathered (f .count) (painterAt f colour)
+paintersOf f colour = gathered (f .count) (painterAt (f .rules) colour)
 
--- the masks of a sheet's colours: each colour goes by its name, which the book may number otherwise or lack
-abbrev pub Painted : List ℕ → Family → List ℕ → Colours → ℕ → List ℕ → Type 0
-Painted book f bytes c count masks =
-    (k : ℕ) → k < count → getD masks k 0 ≡ paintersOf f (findName book (f .colours) (nameIn bytes c k))
+-- a family whose rules have a place among the masks
+pub record SmallRules (f : Family) : Type 0 where
+  pub few : f .count ≤ 200
+  pub held : f .count ≤ length (f .rules)
+  pub small : (i : ℕ) → i < f .count → Small (getD (f .rules) i noRule)
+
+-- the masks of a family: of the joins in each direction, and of each of at most 64 colours, with one for all colours that the book lacks
+pub record SplitInto (f : Family) (rules : List ℕ) (j : Joins) : Type 0 where
+  pub serves : Serves (take (f .count) (f .rules)) (masksOf rules) (countOf j)
+  pub painters : (c : ℕ) → c < 65 → getD rules (1200 + c) 0 ≡ paintersOf f c
 
 -- a table that begins with the masks of the cells, row by row, and goes on as before
-pub record Begun (g : Sheet) (masks before after : List ℕ) (count : ℕ) : Type 0 where
-  pub cells : (i : ℕ) → i < count → getD after i 0 ≡ getD masks (getD (g .cells) i 0) 0
+pub record Begun (rules cells : List ℕ) (count : ℕ) (before after : List ℕ) : Type 0 where
+  pub begins : (i : ℕ) → i < count → getD after i 0 ≡ getD rules (1200 + getD cells i 0) 0
   pub rest : (i : ℕ) → count ≤ i → getD after i 0 ≡ getD before i 0
-
--- a table that begins with the entries of the cells of a picture
-pub record CellsOf (b : Contents) (p : Picture) (before after : List ℕ) : Type 0 where
-  pub cells : (r c : ℕ) → r < p .rows → c < p .cols → getD after (r * p .cols + c) 0 ≡ entry b (cut p (piece 1 1 r c))
-  pub rest : (i : ℕ) → p .rows * p .cols ≤ i → getD after i 0 ≡ getD before i 0

@@ -14,12 +14,15 @@ pub record Inside (m n : ℕ) (p : Piece) : Type 0 where
   pub low : p .top + p .height ≤ m
   pub right : p .left + p .width ≤ n
 
--- the sizes of sheets that the code's numbers have room for
+-- the most rows, and the most columns, that the code's numbers have room for
+abbrev pub most : ℕ
+most = 24
+
 pub record Room (m n : ℕ) : Type 0 where
   pub rows-some : 1 ≤ m
-  pub rows-few : m ≤ 24
+  pub rows-few : m ≤ most
   pub cols-some : 1 ≤ n
-  pub cols-few : n ≤ 24
+  pub cols-few : n ≤ most
 
 -- f 0, then f 1, .., then f (n - 1)
 unfoldable pub each : {A : Type 0} → ℕ → (ℕ → List A) → List A

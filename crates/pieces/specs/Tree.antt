@@ -8,7 +8,6 @@ use Rattle.books.specs.Picture.{Picture}
 use Rattle.books.specs.Decide.{derives?}
 use Rattle.books.specs.declared.rule.Rule.{Rule}
 use Rattle.pieces.specs.declared.piece.Piece.{Piece}
-use Rattle.pieces.specs.declared.part.Direction.{Direction}
 use Rattle.pieces.specs.declared.choice.Choice.{Choice}
 use Rattle.pieces.specs.declared.choice.Choice.the-variants.{NoRule, Leaf, Join}
 use Rattle.pieces.specs.Area.{whole, area}

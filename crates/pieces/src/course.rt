@@ -38,13 +38,19 @@ pub fn across_course(m: usize, n: usize, p: Piece, slot: usize) -> Course
     ensures { λ r. ⌜ r ≡ courseOf across m n p ⌝ }
 {
     let places = m - (p.height - 1);
-    let flatter = piece::times(
-        piece::stretches_of(m, p.height - 1),
-        piece::stretches_of(n, n),
+    let first = piece::slot(
+        m,
+        n,
+        Piece {
+            height: p.height,
+            width: 1,
+            top: p.top,
+            left: p.left,
+        },
     );
     Course {
         cuts: p.width - 1,
-        first: flatter + (piece::times(p.top, n) + p.left),
+        first: first,
         rise: piece::times(n, places) - p.top,
         second: slot,
         fall: piece::times(n + 2 - p.width, places) - (p.top + 1),
@@ -58,14 +64,22 @@ pub fn down_course(m: usize, n: usize, p: Piece, slot: usize) -> Course
     ensures { λ r. ⌜ r ≡ courseOf down m n p ⌝ }
 {
     let all = piece::stretches_of(n, n);
-    let narrower = piece::stretches_of(n, p.width - 1);
-    let places = n - (p.width - 1);
+    let first = piece::slot(
+        m,
+        n,
+        Piece {
+            height: 1,
+            width: p.width,
+            top: p.top,
+            left: p.left,
+        },
+    );
     Course {
         cuts: p.height - 1,
-        first: piece::times(m, narrower) + (piece::times(p.top, places) + p.left),
-        rise: piece::times(m, all) - narrower,
+        first: first,
+        rise: piece::times(m, all) - piece::stretches_of(n, p.width - 1),
         second: slot,
-        fall: piece::times(m + 2 - p.height, all) - (narrower + places),
+        fall: piece::times(m + 2 - p.height, all) - piece::stretches_of(n, p.width),
         change: all,
     }
 }

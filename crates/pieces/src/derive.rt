@@ -1,8 +1,9 @@
 // Whether a sheet belongs to a family, with the table of its pieces and the derivation given.
-use crate::choice;
-use crate::numbering;
+use crate::cells;
+use crate::cut;
 use crate::piece;
 use crate::piece::Piece;
+use crate::row;
 use crate::table;
 use crate::tree;
 use books::answer;
@@ -13,48 +14,53 @@ use books::sheet;
 use books::sheet::Sheet;
 ghost use mathlib.Core.Path.{_≡_};
 ghost use Prim.Native.Nat.{_≤_};
-ghost use lib.ListN.{length};
+ghost use lib.ListN.{length, take};
 ghost use Rattle.books.specs.Answer.{packed};
 ghost use Rattle.books.specs.Grid.{picture};
 ghost use Rattle.books.specs.Held.{contentsIn, gridIn};
-ghost use Rattle.pieces.specs.Painted.{AsRead};
-ghost use Rattle.pieces.specs.Derivation.{numbersNeeded, Holds, judged, roomed, derivation};
+ghost use Rattle.pieces.specs.Painted.{AsRead, SmallRules};
+ghost use Rattle.pieces.specs.Pieces.{Room};
+ghost use Rattle.pieces.specs.Area.{whole, treeSize};
+ghost use Rattle.pieces.specs.View.{Ready, seen};
+ghost use Rattle.pieces.specs.Derivation.{roomed, derivation};
+ghost use Rattle.pieces.specs.Verdict.{verdict, lacking};
 
-// The answer where the table is filled: 11 where the start motif has no bit at the whole sheet, and else the derivation in the tree slice.
-fn judge(book: &[u8], f: Family, bytes: &[u8], g: Sheet, work: &[u32], tree: &mut [u16]) -> Answer
-    requires { ⌜ AsRead (now book) f (now bytes) g × Holds (contentsIn (now book) f) (picture (gridIn (now bytes) g)) (now work) × (numbersNeeded (picture (gridIn (now bytes) g)) ≤ length (now tree)) ⌝ }
-    ensures { λ r. ⌜ r ≡ judged (contentsIn (now (book .entry)) f) (picture (gridIn (now (bytes .entry)) g)) (now (work .entry)) (now (tree .entry)) .answer ⌝ ∗ ⌜ now (tree .exit) ≡ judged (contentsIn (now (book .entry)) f) (picture (gridIn (now (bytes .entry)) g)) (now (work .entry)) (now (tree .entry)) .numbers ⌝ }
+// What a filled table tells: 11 where the start motif has no bit at the whole sheet, and else 0 with the derivation in the tree slice, or 14
+// where at some node no rule fits.
+fn judge(f: Family, cells: &[u8], rows: usize, cols: usize, work: &[u32], tree: &mut [u16]) -> u8
+    requires { ⌜ SmallRules f × Ready rows cols (now work) (now cells) × (treeSize (whole rows cols) ≤ length (now tree)) ⌝ }
+    ensures { λ r. ⌜ r ≡ verdict (seen rows cols (now (work .entry)) (now (cells .entry))) (take (f .count) (f .rules)) (f .start) (whole rows cols) (now (tree .entry)) .number ⌝ ∗ ⌜ now (tree .exit) ≡ verdict (seen rows cols (now (work .entry)) (now (cells .entry))) (take (f .count) (f .rules)) (f .start) (whole rows cols) (now (tree .entry)) .numbers ⌝ }
 {
-    let rows = g.rows;
-    let cols = g.cols;
-    let whole = Piece {
+    let sheet = Piece {
         height: rows,
         width: cols,
         top: 0,
         left: 0,
     };
-    if choice::has(work, rows, cols, whole, f.start) {
-        let colours = f.colours;
-        let mut numbers = [0u8; 144];
-        numbering::number_cells(
-            book,
-            colours,
-            bytes,
-            g,
-            piece::times(rows, cols),
-            &mut numbers,
-        );
-        if tree::write_tree(f, work, &numbers, rows, cols, tree) {
-            answer::unblamed(0)
-        } else {
-            answer::unblamed(14)
-        }
-    } else {
-        answer::unblamed(11)
+    if cut::has(work, rows, cols, sheet, f.start) {
+        let rules = f.rules;
+        let mut row = [0u32; 200];
+        row::lay_out(rules, f.count, &mut row);
+        return tree::write_tree(&row[..f.count], f.start, work, cells, rows, cols, tree);
     }
+    11
 }
 
-// The answer for a book and a sheet that were read: 9 and 10 where a slice is too short, and else the table is filled.
+// What two slices lack for a sheet of so many rows and columns: 9 where the work slice is too short, 10 where the tree slice is, and else 0.
+fn lack(rows: usize, cols: usize, entries: usize, numbers: usize) -> u8
+    requires { ⌜ Room rows cols ⌝ }
+    ensures { λ r. ⌜ r ≡ lacking rows cols entries numbers ⌝ }
+{
+    if entries < piece::count(rows, cols) {
+        return 9;
+    }
+    if numbers < 2 * (2 * piece::times(rows, cols) - 1) {
+        return 10;
+    }
+    0
+}
+
+// The answer for a book and a sheet that were read: where there is room, the cells are numbered and the table is filled, and it tells.
 fn fill_and_judge(
     book: &[u8],
     f: Family,
@@ -68,14 +74,21 @@ fn fill_and_judge(
 {
     let rows = g.rows;
     let cols = g.cols;
-    if work.len() < piece::count(rows, cols) {
-        return answer::unblamed(9);
+    let short = lack(rows, cols, work.len(), tree.len());
+    if short != 0 {
+        return answer::unblamed(short);
     }
-    if tree.len() < 2 * (2 * piece::times(rows, cols) - 1) {
-        return answer::unblamed(10);
-    }
-    table::fill_table(book, f, bytes, g, work);
-    judge(book, f, bytes, g, work, tree)
+    let mut cells = [0u8; 144];
+    cells::number_cells(
+        book,
+        f.colours,
+        bytes,
+        g,
+        piece::times(rows, cols),
+        &mut cells,
+    );
+    table::fill_table(f, &cells, rows, cols, work);
+    answer::unblamed(judge(f, &cells, rows, cols, work, tree))
 }
 
 // Asks whether the family of a book has a sheet. The work slice gets the table of pieces, and on 0 the tree slice the derivation given.

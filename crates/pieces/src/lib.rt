@@ -2,9 +2,9 @@
 mod cells;
 mod choice;
 mod course;
+mod cut;
 pub mod derive;
 mod masks;
-mod numbering;
 mod part;
 pub mod piece;
 mod row;

@@ -2,7 +2,6 @@
 use crate::piece::Piece;
 ghost use mathlib.Core.Path.{_≡_};
 ghost use Prim.Native.Nat.{_+_, _≤_};
-ghost use Rattle.pieces.specs.Pieces.{Inside};
 ghost use Rattle.pieces.specs.Direction.{reach, front, back};
 
 // The two ways of joining.
@@ -41,7 +40,7 @@ pub fn front(p: Piece, d: Direction, k: usize) -> Piece
     }
 }
 
-// The rest of them. The piece lies on a sheet of m rows and n columns and the cut in the piece, so that nothing wraps.
+// The rest of them. The piece lies on a sheet of at most 24 rows and columns and the cut in the piece, so that nothing wraps.
 pub fn back(p: Piece, d: Direction, k: usize) -> Piece
     requires { ⌜ (k ≤ reach d p) × (p .top + p .height ≤ 24) × (p .left + p .width ≤ 24) ⌝ }
     ensures { λ r. ⌜ r ≡ back d k p ⌝ }

@@ -1,7 +1,7 @@
 // A piece of a sheet, and its place in the table.
 ghost use mathlib.Core.Path.{_≡_};
 ghost use Prim.Native.Nat.{_*_, _≤_, _<_};
-ghost use Rattle.pieces.specs.Pieces.{Inside, Room, stretches, total, slotOf, NextTo};
+ghost use Rattle.pieces.specs.Pieces.{most, Inside, Room, stretches, total, slotOf, NextTo};
 
 // So many rows and columns, from a top row and a left column on.
 pub struct Piece {
@@ -21,7 +21,7 @@ pub fn times(a: usize, b: usize) -> usize
 
 // The stretches of at most k cells in a row of n cells.
 pub fn stretches_of(n: usize, k: usize) -> usize
-    requires { ⌜ (n ≤ 24) × (k ≤ n) ⌝ }
+    requires { ⌜ (n ≤ most) × (k ≤ n) ⌝ }
     ensures { λ r. ⌜ (r ≡ stretches n k) × (r ≤ 576) ⌝ }
 {
     times(k, 2 * n + 1 - k) / 2
@@ -47,39 +47,28 @@ pub fn slot(m: usize, n: usize, p: Piece) -> usize
     flatter + (narrower + (times(p.top, n - v) + p.left))
 }
 
-// The piece after p in the table.
+// The piece after p in the table: one to the right; at the end of a row, in the next row; after the last row, one column wider; and
+// after the widest, one row taller.
 pub fn next(m: usize, n: usize, p: Piece) -> Piece
     requires { ⌜ Room m n × Inside m n p ⌝ }
     ensures { λ r. ⌜ NextTo m n p r ⌝ }
 {
+    let mut q = p;
     if p.left + p.width < n {
-        return Piece {
-            height: p.height,
-            width: p.width,
-            top: p.top,
-            left: p.left + 1,
-        };
+        q.left = p.left + 1;
+        return q;
     }
+    q.left = 0;
     if p.top + p.height < m {
-        return Piece {
-            height: p.height,
-            width: p.width,
-            top: p.top + 1,
-            left: 0,
-        };
+        q.top = p.top + 1;
+        return q;
     }
+    q.top = 0;
     if p.width < n {
-        return Piece {
-            height: p.height,
-            width: p.width + 1,
-            top: 0,
-            left: 0,
-        };
+        q.width = p.width + 1;
+        return q;
     }
-    Piece {
-        height: p.height + 1,
-        width: 1,
-        top: 0,
-        left: 0,
-    }
+    q.width = 1;
+    q.height = p.height + 1;
+    q
 }

@@ -1,16 +1,27 @@
-// The rules of a book in a row of numbers, four a rule. A row is lent to the functions that go through the rules many times, where the
-// family would be copied at each call.
+// The rules of a book in a row of numbers, one a rule. The row is lent to the functions that go through the rules at every node of a tree,
+// which would else copy all rules from node to node.
 use books::rule::Body;
 use books::rule::Rule;
 ghost use mathlib.Core.Path.{_≡_};
-ghost use mathlib.Core.List.{[], _∷_, _++_};
-ghost use Prim.Native.Nat.{_+_, _*_, _≤_, _<_};
-ghost use lib.ListN.{length, getD, take};
-ghost use Rattle.pieces.specs.Masks.{noRule};
-ghost use Rattle.pieces.specs.Row.{ruleNumbers, rowOf, bodyOf, rulesIn};
+ghost use Prim.Native.Nat.{_≤_};
+ghost use lib.ListN.{length};
+ghost use Rattle.pieces.specs.Row.{codeOf, bodyOf, ruleOf, LaidOut};
+
+// A rule as a number: from the lowest byte up its head, its kind (0 colour, 1 across, 2 down) and the two numbers of its body.
+fn code(r: Rule) -> u32
+    ensures { λ n. ⌜ n ≡ codeOf (r .head) (r .body) ⌝ }
+{
+    let head = r.head as u32;
+    let body = r.body;
+    match body {
+        Body::Colour(c) => head + 65536 * (c as u32),
+        Body::Across(x, y) => head + 256 + 65536 * (x as u32) + 16777216 * (y as u32),
+        Body::Down(x, y) => head + 512 + 65536 * (x as u32) + 16777216 * (y as u32),
+    }
+}
 
 // A body from its kind and its two numbers.
-fn body_of(kind: u8, x: u8, y: u8) -> Body
+fn body_of(kind: u32, x: u8, y: u8) -> Body
     ensures { λ b. ⌜ b ≡ bodyOf kind x y ⌝ }
 {
     if kind == 0 {
@@ -22,52 +33,26 @@ fn body_of(kind: u8, x: u8, y: u8) -> Body
     Body::Down(x, y)
 }
 
-// Rule number i of a row.
-pub fn rule_at(row: &[u8], i: usize) -> Rule
-    requires { ⌜ 4 * i + 3 < length (now row) ⌝ }
-    ensures { λ r. ⌜ r ≡ getD (rulesIn (now (row .entry))) i noRule ⌝ }
+// The rule of a number.
+pub fn rule_of(n: u32) -> Rule
+    ensures { λ r. ⌜ r ≡ ruleOf n ⌝ }
 {
-    let at = 4 * i;
-    let body = body_of(row[at + 1], row[at + 2], row[at + 3]);
+    let body = body_of(n / 256 % 256, (n / 65536 % 256) as u8, (n / 16777216) as u8);
     Rule {
-        head: row[at],
+        head: (n % 256) as u8,
         body,
     }
 }
 
-// Four numbers, from a place on.
-fn put_four(row: &mut [u8], at: usize, a: u8, b: u8, c: u8, d: u8)
-    requires { ⌜ at + 4 ≤ length (now row) ⌝ }
-    ensures { λ _. ⌜ take (at + 4) (now (row .exit)) ≡ take at (now (row .entry)) ++ (a ∷ b ∷ c ∷ d ∷ []) ⌝ }
-{
-    row[at] = a;
-    row[at + 1] = b;
-    row[at + 2] = c;
-    row[at + 3] = d;
-}
-
-// The numbers of one rule, from a place on.
-fn put_rule(row: &mut [u8], at: usize, rule: Rule)
-    requires { ⌜ at + 4 ≤ length (now row) ⌝ }
-    ensures { λ _. ⌜ take (at + 4) (now (row .exit)) ≡ take at (now (row .entry)) ++ ruleNumbers rule ⌝ }
-{
-    let body = rule.body;
-    match body {
-        Body::Colour(c) => put_four(row, at, rule.head, 0, c, 0),
-        Body::Across(l, r) => put_four(row, at, rule.head, 1, l, r),
-        Body::Down(u, v) => put_four(row, at, rule.head, 2, u, v),
-    }
-}
-
 // The first rules of a family, laid out in a row.
-pub fn lay_out(rules: [Rule; 200], count: usize, row: &mut [u8])
-    requires { ⌜ (count ≤ 200) × (4 * count ≤ length (now row)) ⌝ }
-    ensures { λ _. ⌜ take (4 * count) (now (row .exit)) ≡ rowOf (take count rules) ⌝ }
+pub fn lay_out(rules: [Rule; 200], count: usize, row: &mut [u32])
+    requires { ⌜ (count ≤ 200) × (count ≤ length (now row)) ⌝ }
+    ensures { λ _. ⌜ LaidOut rules count (now (row .exit)) ⌝ }
 {
     let mut i = 0;
     while i < count {
         let rule = rules[i];
-        put_rule(row, 4 * i, rule);
+        row[i] = code(rule);
         i += 1;
     }
 }

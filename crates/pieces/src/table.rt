@@ -7,21 +7,14 @@ use crate::masks::Joins;
 use crate::piece;
 use crate::piece::Piece;
 use books::family::Family;
-use books::sheet::Sheet;
 ghost use mathlib.Core.Path.{_≡_};
-ghost use Prim.Native.Nat.{_≤_, _<_, _*_};
-ghost use lib.Bits.{bitOr};
-ghost use lib.ListN.{length, drop};
-ghost use mathlib.Core.List.{_++_};
-ghost use Rattle.books.specs.Grid.{picture};
-ghost use Rattle.books.specs.Held.{contentsIn, gridIn};
-ghost use Rattle.books.specs.Picture.{across, down};
+ghost use Prim.Native.Nat.{ℕ, _≤_, _<_, _*_};
+ghost use lib.ListN.{length, getD};
 ghost use Rattle.pieces.specs.Pieces.{Inside, Room, slotOf, total};
 ghost use Rattle.pieces.specs.Course.{Runs};
 ghost use Rattle.pieces.specs.Joined.{firing, joined, along};
-ghost use Rattle.pieces.specs.Painted.{AsRead};
-ghost use Rattle.pieces.specs.Table.{table};
-ghost use Rattle.pieces.specs.Settled.{plan, cutsOf, Filled};
+ghost use Rattle.pieces.specs.Painted.{SmallRules};
+ghost use Rattle.pieces.specs.Settled.{plan, entryOf, Filled, Made};
 
 // One join at one cut.
 fn fired(l: u32, r: u32, first: u32, second: u32, head: u32) -> u32
@@ -41,13 +34,13 @@ fn join(masks: &[u32], count: usize, l: u32, r: u32) -> u32
     requires { ⌜ (length (now masks) ≡ 600) × (count ≤ 200) ⌝ }
     ensures { λ x. ⌜ x ≡ joined (now (masks .entry)) count l r ⌝ }
 {
-    let mut acc = 0u32;
+    let mut found = 0u32;
     let mut i = 0;
     while i < count {
-        acc |= fired(l, r, masks[i], masks[200 + i], masks[400 + i]);
+        found |= fired(l, r, masks[i], masks[200 + i], masks[400 + i]);
         i += 1;
     }
-    acc
+    found
 }
 
 // Every join of one direction at every cut of a piece.
@@ -55,7 +48,7 @@ fn join_along(work: &[u32], masks: &[u32], count: usize, course: Course) -> u32
     requires { ⌜ Runs (length (now work)) course × (length (now masks) ≡ 600) × (count ≤ 200) ⌝ }
     ensures { λ x. ⌜ x ≡ along (now (work .entry)) (now (masks .entry)) count course ⌝ }
 {
-    let mut acc = 0u32;
+    let mut found = 0u32;
     let mut c = course;
     let mut k = 0;
     let cuts = course.cuts;
@@ -63,10 +56,10 @@ fn join_along(work: &[u32], masks: &[u32], count: usize, course: Course) -> u32
         let a = c.first;
         c = course::next_cut(c);
         let b = c.second;
-        acc |= join(masks, count, work[a], work[b]);
+        found |= join(masks, count, work[a], work[b]);
         k += 1;
     }
-    acc
+    found
 }
 
 // The entry of a piece of more than one cell, from the entries of its parts.
@@ -80,8 +73,8 @@ fn entry_of(
     slot: usize,
 ) -> u32
     requires { ⌜ Room m n × Inside m n p × (slot ≡ slotOf m n p) × (total m n ≤ length (now work)) ⌝ }
-    requires { ⌜ (length (now rules) ≡ 1200) × (joins .across ≤ 200) × (joins .down ≤ 200) ⌝ }
-    ensures { λ x. ⌜ x ≡ bitOr (cutsOf (plan m n (now (rules .entry)) joins) (now (work .entry)) across p) (cutsOf (plan m n (now (rules .entry)) joins) (now (work .entry)) down p) ⌝ }
+    requires { ⌜ (length (now rules) ≡ 1265) × (joins .across ≤ 200) × (joins .down ≤ 200) ⌝ }
+    ensures { λ x. ⌜ x ≡ entryOf (plan m n (now (rules .entry)) joins) (now (work .entry)) p ⌝ }
 {
     let a = join_along(
         work,
@@ -91,7 +84,7 @@ fn entry_of(
     );
     let d = join_along(
         work,
-        &rules[600..],
+        &rules[600..1200],
         joins.down,
         course::down_course(m, n, p, slot),
     );
@@ -99,9 +92,9 @@ fn entry_of(
 }
 
 // Every entry of a table that begins with those of the cells.
-pub fn fill(work: &mut [u32], rules: &[u32], joins: Joins, m: usize, n: usize)
+fn fill(work: &mut [u32], rules: &[u32], joins: Joins, m: usize, n: usize)
     requires { ⌜ Room m n × (total m n ≤ length (now work)) ⌝ }
-    requires { ⌜ (length (now rules) ≡ 1200) × (joins .across ≤ 200) × (joins .down ≤ 200) ⌝ }
+    requires { ⌜ (length (now rules) ≡ 1265) × (joins .across ≤ 200) × (joins .down ≤ 200) ⌝ }
     ensures { λ _. ⌜ Filled (plan m n (now (rules .entry)) joins) (now (work .entry)) (now (work .exit)) ⌝ }
 {
     let end = piece::count(m, n);
@@ -124,13 +117,14 @@ pub fn fill(work: &mut [u32], rules: &[u32], joins: Joins, m: usize, n: usize)
     }
 }
 
-// The table of a sheet for a book, as document 01 sets it out. A call that read both hands them on, so that they are as reading gives them.
-pub fn fill_table(book: &[u8], f: Family, bytes: &[u8], g: Sheet, work: &mut [u32])
-    requires { ⌜ AsRead (now book) f (now bytes) g × (total (g .rows) (g .cols) ≤ length (now work)) ⌝ }
-    ensures { λ _. ⌜ now (work .exit) ≡ table (contentsIn (now (book .entry)) f) (picture (gridIn (now (bytes .entry)) g)) ++ drop (total (g .rows) (g .cols)) (now (work .entry)) ⌝ }
+// The table of a sheet for a family, by the numbers that the colours of its cells have there.
+pub fn fill_table(f: Family, cells: &[u8], m: usize, n: usize, work: &mut [u32])
+    requires { ⌜ SmallRules f × Room m n × (total m n ≤ length (now work)) ⌝ }
+    requires { ⌜ (m * n ≤ length (now cells)) × ((i : ℕ) → i < m * n → getD (now cells) i 0 < 65) ⌝ }
+    ensures { λ _. ⌜ Made f (now (cells .entry)) m n (now (work .entry)) (now (work .exit)) ⌝ }
 {
-    cells::begin(book, f, bytes, g, work);
-    let mut rules = [0u32; 1200];
+    let mut rules = [0u32; 1265];
     let joins = masks::split(f, &mut rules);
-    fill(work, &rules, joins, g.rows, g.cols);
+    cells::paint_cells(&rules, cells, piece::times(m, n), work);
+    fill(work, &rules, joins, m, n);
 }

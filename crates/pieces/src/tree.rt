@@ -1,13 +1,11 @@
 // The derivation given: the tree of a sheet, written from the table of its pieces, whatever the table holds.
-// A row has the rules, and a colour stands for each cell, as for the choice at a piece.
+// The row of the rules and the colours of the cells are as for the choice at a piece.
 use crate::choice::Choice;
 use crate::choice::choose;
 use crate::part::back;
 use crate::part::front;
 use crate::piece::Piece;
 use crate::piece::times;
-use crate::row::lay_out;
-use books::family::Family;
 ghost use mathlib.Core.Path.{_≡_};
 ghost use mathlib.Core.List.{[], _∷_, _++_};
 ghost use Prim.Native.Nat.{_+_, _≤_, _<_};
@@ -17,7 +15,8 @@ ghost use Rattle.pieces.specs.Area.{whole, treeSize};
 ghost use Rattle.pieces.specs.Row.{rulesIn};
 ghost use Rattle.pieces.specs.View.{Ready, seen};
 ghost use Rattle.pieces.specs.Tree.{both, treeOf};
-ghost use Rattle.pieces.specs.Wrote.{Wrote, found, outcome};
+ghost use Rattle.pieces.specs.Wrote.{Wrote, outcome};
+ghost use Rattle.pieces.specs.Derivation.{treeAnswer};
 
 // Where the numbers of a tree end, or that at some node of it no rule fits.
 pub enum Written {
@@ -35,9 +34,9 @@ fn put_node(tree: &mut [u16], at: usize, rule: usize, cut: usize)
 }
 
 // The tree of a motif at a piece, from a place on: its rule and cut, and then its parts.
-// There is room for it, and a row of at most 200 rules keeps its numbers small.
+// There is room for it, and at most 200 rules keep its numbers small.
 fn pick_node(
-    row: &[u8],
+    row: &[u32],
     work: &[u32],
     colours: &[u8],
     rows: usize,
@@ -47,7 +46,7 @@ fn pick_node(
     tree: &mut [u16],
     at: usize,
 ) -> Written
-    requires { ⌜ Ready rows cols (now work) (now colours) × Inside rows cols p × (length (now row) ≤ 800) × (at + treeSize p ≤ length (now tree)) ⌝ }
+    requires { ⌜ Ready rows cols (now work) (now colours) × Inside rows cols p × (length (now row) ≤ 200) × (at + treeSize p ≤ length (now tree)) ⌝ }
     ensures { λ r. ⌜ Wrote (now (tree .entry)) (now (tree .exit)) at (treeSize p) (treeOf (seen rows cols (now (work .entry)) (now (colours .entry))) (rulesIn (now (row .entry))) motif p) r ⌝ }
 {
     let choice = choose(row, work, colours, rows, cols, p, motif);
@@ -80,7 +79,7 @@ fn pick_node(
 
 // The trees of the two parts of a join, the second behind the first.
 fn write_parts(
-    row: &[u8],
+    row: &[u32],
     work: &[u32],
     colours: &[u8],
     rows: usize,
@@ -92,7 +91,7 @@ fn write_parts(
     tree: &mut [u16],
     at: usize,
 ) -> Written
-    requires { ⌜ Ready rows cols (now work) (now colours) × Inside rows cols first × Inside rows cols rest × (length (now row) ≤ 800) × (at + (treeSize first + treeSize rest) ≤ length (now tree)) ⌝ }
+    requires { ⌜ Ready rows cols (now work) (now colours) × Inside rows cols first × Inside rows cols rest × (length (now row) ≤ 200) × (at + (treeSize first + treeSize rest) ≤ length (now tree)) ⌝ }
     ensures { λ x. ⌜ Wrote (now (tree .entry)) (now (tree .exit)) at (treeSize first + treeSize rest) (both (treeOf (seen rows cols (now (work .entry)) (now (colours .entry))) (rulesIn (now (row .entry))) l first) (treeOf (seen rows cols (now (work .entry)) (now (colours .entry))) (rulesIn (now (row .entry))) r rest)) x ⌝ }
 {
     let done = pick_node(row, work, colours, rows, cols, first, l, tree, at);
@@ -114,44 +113,32 @@ fn clear(tree: &mut [u16], n: usize)
     }
 }
 
-// The tree of a whole sheet, at the start of the slice, and whether there is one: where at some node no rule fits, as many zeros stand for it.
+// The tree of a start motif at a whole sheet, at the start of the slice, and 0; or 14 where at some node no rule fits, and as many zeros
+// stand for it.
 pub fn write_tree(
-    f: Family,
+    row: &[u32],
+    start: usize,
     work: &[u32],
     colours: &[u8],
     rows: usize,
     cols: usize,
     tree: &mut [u16],
-) -> bool
-    requires { ⌜ (f .count ≤ 200) × Ready rows cols (now work) (now colours) × (treeSize (whole rows cols) ≤ length (now tree)) ⌝ }
-    ensures { λ r. ⌜ (r ≡ found (treeOf (seen rows cols (now (work .entry)) (now (colours .entry))) (take (f .count) (f .rules)) (f .start) (whole rows cols))) × (now (tree .exit) ≡ outcome (treeSize (whole rows cols)) (now (tree .entry)) (treeOf (seen rows cols (now (work .entry)) (now (colours .entry))) (take (f .count) (f .rules)) (f .start) (whole rows cols))) ⌝ }
+) -> u8
+    requires { ⌜ (length (now row) ≤ 200) × Ready rows cols (now work) (now colours) × (treeSize (whole rows cols) ≤ length (now tree)) ⌝ }
+    ensures { λ r. ⌜ (r ≡ treeAnswer (treeOf (seen rows cols (now (work .entry)) (now (colours .entry))) (rulesIn (now (row .entry))) start (whole rows cols)) .number) × (now (tree .exit) ≡ outcome (treeSize (whole rows cols)) (now (tree .entry)) (treeOf (seen rows cols (now (work .entry)) (now (colours .entry))) (rulesIn (now (row .entry))) start (whole rows cols))) ⌝ }
 {
-    let rules = f.rules;
-    let count = f.count;
-    let mut row = [0u8; 800];
-    lay_out(rules, count, &mut row);
     let p = Piece {
         height: rows,
         width: cols,
         top: 0,
         left: 0,
     };
-    let done = pick_node(
-        &row[..4 * count],
-        work,
-        colours,
-        rows,
-        cols,
-        p,
-        f.start,
-        tree,
-        0,
-    );
+    let done = pick_node(row, work, colours, rows, cols, p, start, tree, 0);
     match done {
-        Written::Upto(_) => true,
+        Written::Upto(_) => 0,
         Written::NoRule => {
             clear(tree, 2 * (2 * times(rows, cols) - 1));
-            false
+            14
         }
     }
 }

@@ -10,25 +10,37 @@ use Rattle.pieces.proofs.cells.paint_cells.Statement.{statement}
 use Rattle.pieces.proofs.cells.paint_cells.Tie as tie
 
 abbrev Inv-loop : tie.InvT-loop
-Inv-loop masks work₀ count g i₀ work i = (i ≤ count) × Begun g masks work₀ work i × (length work ≡ length work₀)
+Inv-loop rules cells count work₀ i₀ work i = (i ≤ count) × Begun rules cells i work₀ work × (length work ≡ length work₀)
 
 abbrev μ-loop : tie.MeasureT-loop
-μ-loop masks work₀ count g i₀ work i = count - i
+μ-loop rules cells count work₀ i₀ work i = count - i
 
 loop-holds : tie.Need-loop-holds Inv-loop μ-loop
 loop-holds c = (omega arith, begun-start _ _ _, refl)
 
-element-copy-out-colour : tie.Need-element-copy-out-colour Inv-loop μ-loop
-element-copy-out-colour c = search needs
+shared-slice-read-at : tie.Need-shared-slice-read-at Inv-loop μ-loop
+shared-slice-read-at c = search needs
 
-cast-colour : tie.Need-cast-colour Inv-loop μ-loop
-cast-colour c = search needs
+cast-at : tie.Need-cast-at Inv-loop μ-loop
+cast-at c =
+    let t = c .before .before in
+    omega (arith, t .before .pre .3 (t .loop .i) (c .before .loop-test .taken))
+
+add-at : tie.Need-add-at Inv-loop μ-loop
+add-at c =
+    let t = c .before .before in
+    omega (arith, t .before .pre .3 (t .loop .i) (c .before .loop-test .taken))
 
 mul-work : tie.Need-mul-work Inv-loop μ-loop
-mul-work c = let t = c .before .before in omega (arith, t .before .pre .3 (t .loop .i) (c .before .loop-test .taken))
+mul-work c =
+    let t = c .before .before in
+    omega (arith, t .before .pre .3 (t .loop .i) (c .before .loop-test .taken))
 
 shared-slice-read-work : tie.Need-shared-slice-read-work Inv-loop μ-loop
-shared-slice-read-work c = let t = c .before .before .before in omega (arith, t .before .pre .3 (t .loop .i) (c .before .before .loop-test .taken))
+shared-slice-read-work c =
+    let t = c .before .before .before in
+    let s = t .before in
+    omega (arith, s .pre .0, s .pre .3 (t .loop .i) (c .before .before .loop-test .taken))
 
 mul-work-2 : tie.Need-mul-work-2 Inv-loop μ-loop
 mul-work-2 c = search needs
@@ -60,8 +72,9 @@ paint-cells-spec =
     Inv-loop
     μ-loop
     loop-holds
-    element-copy-out-colour
-    cast-colour
+    shared-slice-read-at
+    cast-at
+    add-at
     mul-work
     shared-slice-read-work
     mul-work-2

@@ -1,94 +1,108 @@
--- The rule is the lowest that is taken, and a join is cut where it is smallest.
-use Prim.Native.Nat.{_<_}
-use lib.ListN.{length}
-use Rattle.pieces.specs.Row.{rulesIn}
-use mathlib.Core.Path.{sym}
+-- The loop tries one rule after the other: the least rule from i on is the least of all, and what it offers is what is chosen.
+use Prim.Native.Nat.{_-_, _≤_}
+use mathlib.Core.Path.{_≡_, refl, sym, _∙_}
+use mathlib.Core.Logic.{⊎-elim}
+use native.Mathlib.Nat.{sub-zero}
 use native.Mathlib.Omega.{arith}
-use Rattle.pieces.specs.Choice.{chosen}
-use Rattle.pieces.proofs.Fitting.{choose-rule, choose-none}
-use Rattle.pieces.proofs.Rows.{length-rules}
+use denote.Ref.{now}
+use lib.ListN.{getD}
 use borrow.Author.Needs.{needs}
+use Rattle.pieces.specs.Masks.{noRule}
+use Rattle.pieces.specs.Row.{rulesIn}
+use Rattle.pieces.specs.View.{seen}
+use Rattle.pieces.specs.Choice.{least, taken, lowest}
+use Rattle.pieces.proofs.Rows.{length-rules, rule-at}
+use Rattle.pieces.proofs.Least.{least-found, least-passed, least-none}
+use Rattle.pieces.proofs.Fitting.{takes-own, takes-other, offered-rule, offered-none, choose-rule, choose-none}
 use Rattle.pieces.proofs.choice.choose.Statement.{statement}
 use Rattle.pieces.proofs.choice.choose.Tie as tie
 
-lowest-rule-requires : tie.Need-lowest-rule-requires
-lowest-rule-requires c κs = search needs
+abbrev Inv-loop : tie.InvT-loop
+Inv-loop row work colours rows cols p motif end i₀ i = (i ≤ end) × (least (taken (seen rows cols work colours) (rulesIn row) motif p) i (end - i) ≡ lowest (seen rows cols work colours) (rulesIn row) motif p)
 
-rule-at-requires : tie.Need-rule-at-requires
-rule-at-requires c κs = search needs
+abbrev μ-loop : tie.MeasureT-loop
+μ-loop row work colours rows cols p motif end i₀ i = end - i
 
-enum-told : tie.Need-enum-told
+loop-holds : tie.Need-loop-holds Inv-loop μ-loop
+unfolding lowest
+loop-holds c = (search needs, rw (sub-zero, length-rules))
+
+mul-rule-of : tie.Need-mul-rule-of Inv-loop μ-loop
+mul-rule-of c = search needs
+
+shared-slice-read-rule-of : tie.Need-shared-slice-read-rule-of Inv-loop μ-loop
+shared-slice-read-rule-of c = search needs
+
+rule-of-requires : tie.Need-rule-of-requires Inv-loop μ-loop
+rule-of-requires c κs = search needs
+
+cast-head : tie.Need-cast-head Inv-loop μ-loop
+cast-head c = search needs
+
+offer-requires : tie.Need-offer-requires Inv-loop μ-loop
+offer-requires c κs = search needs
+
+enum-told : tie.Need-enum-told Inv-loop μ-loop
 enum-told c = search needs
 
-enum-known-body : tie.Need-enum-known-body
-enum-known-body c = search needs
+-- the rule that is tried is the i-th
+tried : (c : tie.After-rule-of Inv-loop μ-loop) → let l = c .before .before .before in
+    getD (rulesIn (now (l .before .before .before .before .args .row))) (l .loop .i) noRule ≡ c .rule-of .result
+tried c =
+    let l = c .before .before .before in
+    rule-at (now (l .before .before .before .before .args .row)) (l .loop .i) (c .before .before .loop-test .taken) ∙ sym (c .rule-of .ensures)
 
-cast-left : tie.Need-cast-left
-cast-left c = search needs
-
-cast-right : tie.Need-cast-right
-cast-right c = search needs
-
-smallest-cut-requires : tie.Need-smallest-cut-requires
-smallest-cut-requires c κs = search needs
-
-enum-known-body-2 : tie.Need-enum-known-body-2
-enum-known-body-2 c = search needs
-
-cast-upper : tie.Need-cast-upper
-cast-upper c = search needs
-
-cast-lower : tie.Need-cast-lower
-cast-lower c = search needs
-
-smallest-cut-requires-2 : tie.Need-smallest-cut-requires-2
-smallest-cut-requires-2 c κs = search needs
-
-returns : tie.Need-returns
-unfolding chosen
+returns : tie.Need-returns Inv-loop μ-loop
+unfolding taken
 returns c =
-    let s = c .before .before .before .before .before .before .before .before in
-    let r = c .before .before .rule-at in
-    let h : c .before .before .before .before .lowest-rule .result < length (rulesIn (s .args .row .now)) = omega (arith, length-rules (s .args .row .now)) in
-    sym (choose-rule _ _ _ _ _ (c .before .before .before .before .lowest-rule .ensures) h (r .result) _ (r .ensures) (c .enum-told .given .1))
+    let s = c .before .before .before .before in
+    let t = s .before .before in
+    let below = t .loop-test .taken in
+    let offered =
+    offered-rule _ _ _ _ _ (c .before .offer .ensures)
+    (λ e. ⊎-elim (λ x. absurd (omega arith)) (λ x. absurd (omega arith)) (rw e at (c .match .keys2))) in
+    let here = takes-own _ _ _ _ (c .before .before .if1 .taken) ∙ offered .0 in
+    let low = sym (least-found _ _ _ below (rw (tried s) here)) ∙ t .before .loop .inv .1 in
+    offered .1 ∙ sym (choose-rule _ _ _ _ _ low (rw length-rules below) _ _ (sym (tried s)) refl)
 
-returns-2 : tie.Need-returns-2
-unfolding chosen
+add-i : tie.Need-add-i Inv-loop μ-loop
+add-i c = search needs
+
+loop-less : tie.Need-loop-less Inv-loop μ-loop
+loop-less c = search needs
+
+loop-again : tie.Need-loop-again Inv-loop μ-loop
+unfolding taken
+loop-again c =
+    let s = c .before .before in
+    let t = s .before .before in
+    let here =
+    ⊎-elim
+    (λ w. takes-own _ _ _ _ (w .0 .taken) ∙ offered-none _ _ _ _ _ (w .1 .ensures) (w .3 .given .1))
+    (λ w. takes-other _ _ _ _ (w .left))
+    (c .if1 .came) in
+    (search needs, sym (least-passed _ _ _ (t .loop-test .taken) (rw (tried s) here)) ∙ t .before .loop .inv .1)
+
+returns-2 : tie.Need-returns-2 Inv-loop μ-loop
 returns-2 c =
-    let s = c .before .before .before .before .before .before .before .before .before .before in
-    let r = c .before .before .before .before .rule-at in
-    let h : c .before .before .before .before .before .before .lowest-rule .result < length (rulesIn (s .args .row .now)) = omega (arith, length-rules (s .args .row .now)) in
-    rw (c .smallest-cut .ensures) (sym (choose-rule _ _ _ _ _ (c .before .before .before .before .before .before .lowest-rule .ensures) h (r .result) _ (r .ensures) (c .before .before .body .given .1)))
-
-returns-3 : tie.Need-returns-3
-unfolding chosen
-returns-3 c =
-    let s = c .before .before .before .before .before .before .before .before .before .before in
-    let r = c .before .before .before .before .rule-at in
-    let h : c .before .before .before .before .before .before .lowest-rule .result < length (rulesIn (s .args .row .now)) = omega (arith, length-rules (s .args .row .now)) in
-    rw (c .smallest-cut2 .ensures) (sym (choose-rule _ _ _ _ _ (c .before .before .before .before .before .before .lowest-rule .ensures) h (r .result) _ (r .ensures) (c .before .before .body2 .given .1)))
-
-returns-4 : tie.Need-returns-4
-returns-4 c =
-    let s = c .before .before .before .before .before in
-    sym (choose-none _ _ _ _ _ (c .before .lowest-rule .ensures) (omega (arith, length-rules (s .args .row .now))))
+    let low = sym (least-none _ _ _ (c .loop-test .left)) ∙ c .before .loop .inv .1 in
+    sym (choose-none _ _ _ _ _ low (rw length-rules (c .loop-test .left)))
 
 pub choose-spec : {M : Type 1} → statement M
 choose-spec =
     tie.close
     (tie.spec
-    lowest-rule-requires
-    rule-at-requires
+    Inv-loop
+    μ-loop
+    loop-holds
+    mul-rule-of
+    shared-slice-read-rule-of
+    rule-of-requires
+    cast-head
+    offer-requires
     enum-told
-    enum-known-body
-    cast-left
-    cast-right
-    smallest-cut-requires
-    enum-known-body-2
-    cast-upper
-    cast-lower
-    smallest-cut-requires-2
     returns
-    returns-2
-    returns-3
-    returns-4)
+    add-i
+    loop-less
+    loop-again
+    returns-2)

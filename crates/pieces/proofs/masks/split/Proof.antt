@@ -1,54 +1,66 @@
--- The two parts of the slice are laid out one after the other.
-use mathlib.Core.Path.{sym, _∙_}
+-- The masks are laid out rule by rule.
+use mathlib.Core.Path.{_≡_, ap, subst}
+use Prim.Native.Nat.{_-_, _≤_}
 use native.Mathlib.Omega.{arith}
-use lib.Seq.{length-take-le}
-use Rattle.pieces.proofs.Laying.{both-laid}
+use lib.ListN.{length}
+use Rattle.pieces.proofs.Laying.{Laying, laying-start, laying-step, laying-end}
 use borrow.Author.Needs.{needs}
 use Rattle.pieces.proofs.masks.split.Statement.{statement}
 use Rattle.pieces.proofs.masks.split.Tie as tie
 
-slice-relend-prefix-lay : tie.Need-slice-relend-prefix-lay
-slice-relend-prefix-lay c = search needs
+abbrev Inv-loop : tie.InvT-loop
+Inv-loop rules₀ f joins₀ i₀ n rules joins i = (i ≤ n) × Laying (f .rules) rules joins i
 
-slice-aggregate-lay : tie.Need-slice-aggregate-lay
-slice-aggregate-lay c = let s = c .before .before in sym (length-take-le 600 (s .args .rules .now) (omega (arith, s .pre .0)))
+abbrev μ-loop : tie.MeasureT-loop
+μ-loop rules₀ f joins₀ i₀ n rules joins i = n - i
 
-lay-requires : tie.Need-lay-requires
-lay-requires c κs = let s = c .before .before in (length-take-le 600 (s .args .rules .now) (omega (arith, s .pre .0)), s .pre .1, s .pre .2)
+loop-holds : tie.Need-loop-holds Inv-loop μ-loop
+loop-holds c = (omega arith, laying-start _ _ (c .before .pre .1))
 
-sub-lay : tie.Need-sub-lay
-sub-lay c = search needs
+mul-r : tie.Need-mul-r Inv-loop μ-loop
+mul-r c = search needs
 
-part-lay-start : tie.Need-part-lay-start
-part-lay-start c = search needs
+element-copy-out-r : tie.Need-element-copy-out-r Inv-loop μ-loop
+element-copy-out-r c = search needs
 
-part-lay-end : tie.Need-part-lay-end
-part-lay-end c = search needs
+put-rule-requires : tie.Need-put-rule-requires Inv-loop μ-loop
+put-rule-requires c κs =
+    let t = c .before .before .before in
+    let v = t .loop .inv .1 in
+    (v .long, omega arith, omega arith, t .before .before .pre .0 .small (t .loop .i) (c .before .before .loop-test .taken))
 
-lay-requires-2 : tie.Need-lay-requires-2
-lay-requires-2 c κs = search needs
+add-i : tie.Need-add-i Inv-loop μ-loop
+add-i c = search needs
 
-same-length : tie.Need-same-length
-same-length c = search needs
+loop-less : tie.Need-loop-less Inv-loop μ-loop
+loop-less c = search needs
 
-returns : tie.Need-returns
+loop-again : tie.Need-loop-again Inv-loop μ-loop
+loop-again c =
+    let t = c .before .before .before .before .before .before in
+    let a = c .before .before .put-rule in
+    (omega arith, laying-step _ _ _ _ _ _ (omega arith) (t .loop .inv .1) (a .ensures .0) (a .ensures .1))
+
+same-length : tie.Need-same-length Inv-loop μ-loop
+same-length c = omega (arith, c .before .loop .inv .1 .long, ap length (c .before .before .before .pre .1))
+
+returns : tie.Need-returns Inv-loop μ-loop
 returns c =
-    let t = c .before .before in
-    let u = t .before .before .before .before in
-    let s = u .before .before .before in
-    both-laid _ _ _ (u .lay .kept .1 .1 .0 ∙ length-take-le 600 (s .args .rules .now) (omega (arith, s .pre .0))) _ _ (u .lay .ensures .0) (u .lay .ensures .1)
-    (t .lay2 .ensures .0) (t .lay2 .ensures .1)
+    let e : c .before .loop .i ≡ c .before .before .before .args .t1 .count = omega arith in
+    laying-end _ _ _ (subst (Laying _ _ _) e (c .before .loop .inv .1))
 
 pub split-spec : {M : Type 1} → statement M
 split-spec =
     tie.close
     (tie.spec
-    slice-relend-prefix-lay
-    slice-aggregate-lay
-    lay-requires
-    sub-lay
-    part-lay-start
-    part-lay-end
-    lay-requires-2
+    Inv-loop
+    μ-loop
+    loop-holds
+    mul-r
+    element-copy-out-r
+    put-rule-requires
+    add-i
+    loop-less
+    loop-again
     same-length
     returns)

@@ -1,7 +1,7 @@
 -- `back` gives the rest of a piece: the cut lies in the piece and the piece on a sheet, so that nothing wraps.
-use borrow.Author.Needs.{needs}
-use native.Mathlib.Omega.{arith}
 use Prim.Native.Nat.{_≤_}
+use native.Mathlib.Omega.{arith}
+use borrow.Author.Needs.{needs}
 use Rattle.pieces.specs.Direction.{reach, back}
 use Rattle.pieces.proofs.part.back.Statement.{statement}
 use Rattle.pieces.proofs.part.back.Tie as tie

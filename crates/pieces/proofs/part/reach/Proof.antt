@@ -1,6 +1,6 @@
 -- A piece reaches as far as it is wide, or high.
-use Rattle.pieces.specs.Direction.{reach}
 use borrow.Author.Needs.{needs}
+use Rattle.pieces.specs.Direction.{reach}
 use Rattle.pieces.proofs.part.reach.Statement.{statement}
 use Rattle.pieces.proofs.part.reach.Tie as tie
 

@@ -1,17 +1,16 @@
 -- Along the two courses are all cuts of the piece.
 use mathlib.Core.Path.{sym, ap, ap₂, _∙_}
 use mathlib.Core.List.{List}
-use Prim.Native.Nat.{ℕ}
 use native.Mathlib.Omega.{arith}
 use lib.Bits.{bitOr}
-use lib.ListN.{length, drop, length-drop}
+use lib.ListN.{drop, length-drop}
 use lib.Seq.{length-take-le}
 use Rattle.books.specs.Picture.{across, down}
 use Rattle.pieces.specs.Joined.{along}
 use Rattle.pieces.specs.Settled.{plan}
 use Rattle.pieces.specs.declared.course.Course.{Course}
 use Rattle.pieces.proofs.Courses.{course-runs}
-use Rattle.pieces.proofs.AllCuts.{along-cuts, tail-whole}
+use Rattle.pieces.proofs.AllCuts.{along-cuts}
 use borrow.Author.Needs.{needs}
 use Rattle.pieces.proofs.table.entry_of.Statement.{statement}
 use Rattle.pieces.proofs.table.entry_of.Tie as tie
@@ -46,7 +45,7 @@ join-along-requires-2 : tie.Need-join-along-requires-2
 join-along-requires-2 c κs =
     let s = c .before .before .before .before .before .before .before in (
       rw (c .down-course .ensures) (course-runs down _ _ _ _ (s .pre .0 .0) (s .pre .0 .1) (s .pre .0 .3)),
-      rw (tail-whole 600 (s .args .rules .now)) (omega (arith, length-drop 600 (s .args .rules .now), s .pre .1)),
+      length-take-le 600 (drop 600 (s .args .rules .now)) (omega (arith, length-drop 600 (s .args .rules .now), s .pre .1)),
       s .pre .1 .2,
     )
 
@@ -61,7 +60,7 @@ returns c =
     ∙ ap (λ (x : Course). along w (j .masks across) (j .count across) x) (t .before .across-course .ensures)
     ∙ along-cuts j w across (s .args .p) (s .pre .0 .1))
     (c .join-along2 .ensures
-    ∙ ap₂ (λ (l : List ℕ) (x : Course). along w l (j .count down) x) (tail-whole 600 (s .args .rules .now)) (c .before .down-course .ensures)
+    ∙ ap (λ (x : Course). along w (j .masks down) (j .count down) x) (c .before .down-course .ensures)
     ∙ along-cuts j w down (s .args .p) (s .pre .0 .1))
 
 pub entry-of-spec : {M : Type 1} → statement M

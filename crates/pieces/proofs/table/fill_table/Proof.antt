@@ -1,48 +1,64 @@
--- The cells begin the table, the masks are laid out, and the rest is filled.
-use mathlib.Core.Path.{refl, sym, _∙_}
+-- The family is split into masks, the cells begin the table, and the rest is filled.
+use mathlib.Core.Path.{sym}
+use native.Mathlib.Omega.{arith}
 use native.Mathlib.Nat.{le-trans, le-of-eq}
-use Rattle.pieces.proofs.WholeTable.{room, cells-in, rules-small, joins-few, whole-table}
+use Rattle.pieces.proofs.CellsFirst.{cells-few}
+use Rattle.pieces.proofs.Laying.{split-few}
+use Rattle.pieces.proofs.Painting.{made}
 use borrow.Author.Needs.{needs}
 use Rattle.pieces.proofs.table.fill_table.Statement.{statement}
 use Rattle.pieces.proofs.table.fill_table.Tie as tie
-
-begin-requires : tie.Need-begin-requires
-begin-requires c κs = let s = c .before .before .before .before in (s .pre .0, le-trans (cells-in (s .pre .0)) (s .pre .1))
 
 slice-aggregate-split : tie.Need-slice-aggregate-split
 slice-aggregate-split c = search needs
 
 split-requires : tie.Need-split-requires
-split-requires c κs = let g = c .before .before .before .before .before .before .before .before .pre .0 in (refl, g .rules-few, rules-small g)
+split-requires c κs = search needs
+
+slice-aggregate-paint-cells : tie.Need-slice-aggregate-paint-cells
+slice-aggregate-paint-cells c = search needs
+
+times-requires : tie.Need-times-requires
+times-requires c κs = search needs
+
+paint-cells-requires : tie.Need-paint-cells-requires
+paint-cells-requires c κs =
+    let s = c .before .before .before .before .before .before .before .before in
+    let e = c .before .times .ensures .0 in
+    let few = cells-few _ _ (s .pre .0 .1 .rows-some) (s .pre .0 .1 .cols-some) in
+    (c .before .before .before .before .split .kept .1 .0, rw e (s .pre .1 .0), omega (arith, e, few, s .pre .0 .2), rw e (s .pre .1 .1))
 
 slice-aggregate-fill : tie.Need-slice-aggregate-fill
 slice-aggregate-fill c = search needs
 
 fill-requires : tie.Need-fill-requires
 fill-requires c κs =
-    let t = c .before .before .before in
-    let s = t .before .before .before .before .before .before .before .before .before in
-    let few = joins-few (s .pre .0) _ _ (t .split .ensures) in
-    ((room (s .pre .0), le-trans (s .pre .1) (le-of-eq (sym (t .before .before .before .before .begin .kept .1 .1 .1 .1 .0)))), (t .split .kept .1 .0, few .0, few .1))
+    let t = c .before .before .before .before in
+    let v = t .before .before .before .before .before in
+    let s = v .before .before .before .before in
+    let few = split-few _ _ _ (s .pre .0 .0) (v .split .ensures) in
+    ((s .pre .0 .1, le-trans (s .pre .0 .2) (le-of-eq (sym (t .paint-cells .kept .1 .1 .1 .0)))), (v .split .kept .1 .0, few .0, few .1))
 
 same-length : tie.Need-same-length
 same-length c = search needs
 
 returns : tie.Need-returns
 returns c =
-    let t = c .before .before .before .before .before .before in
-    let s = t .before .before .before .before .before .before .before .before .before in
-    let begun = t .before .before .before .before .begin in
-    whole-table (s .pre .0) _ _ _ _ _ (t .split .ensures) (begun .ensures) (c .before .before .fill .ensures)
-    (sym (c .before .before .fill .kept .0 ∙ begun .kept .1 .1 .1 .1 .0)) (s .pre .1)
+    let t = c .before .before .before .before .before .before .before in
+    let v = t .before .before .before .before .before in
+    let s = v .before .before .before .before in
+    made _ _ _ _ _ _ _ _ _ _ (v .split .ensures) (t .paint-cells .ensures) (t .before .before .times .ensures .0) (c .before .before .fill .ensures)
+    (cells-few _ _ (s .pre .0 .1 .rows-some) (s .pre .0 .1 .cols-some)) (s .pre .1 .1)
 
 pub fill-table-spec : {M : Type 1} → statement M
 fill-table-spec =
     tie.close
     (tie.spec
-    begin-requires
     slice-aggregate-split
     split-requires
+    slice-aggregate-paint-cells
+    times-requires
+    paint-cells-requires
     slice-aggregate-fill
     fill-requires
     same-length

@@ -10,10 +10,10 @@ use Rattle.pieces.proofs.table.join.Statement.{statement}
 use Rattle.pieces.proofs.table.join.Tie as tie
 
 abbrev Inv-loop : tie.InvT-loop
-Inv-loop masks count l r acc₀ i₀ acc i = (i ≤ count) × (acc ≡ joined masks i l r)
+Inv-loop masks count l r found₀ i₀ found i = (i ≤ count) × (found ≡ joined masks i l r)
 
 abbrev μ-loop : tie.MeasureT-loop
-μ-loop masks count l r acc₀ i₀ acc i = count - i
+μ-loop masks count l r found₀ i₀ found i = count - i
 
 loop-holds : tie.Need-loop-holds Inv-loop μ-loop
 unfolding joined gathered

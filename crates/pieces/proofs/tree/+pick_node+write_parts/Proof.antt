@@ -1,18 +1,24 @@
--- Each part of a join has a smaller area, and is written right behind what stands before it.
+-- A piece's tree is its node and the trees of its two parts, the second behind the first. The measure is twice the piece's area: the parts
+-- have one less than the piece, and each part has less than both together.
+use Prim.Native.Nat.{ℕ, _+_, _-_, _*_, _≤_, _<_}
 use mathlib.Core.Path.{refl}
-use Rattle.pieces.specs.declared.choice.Choice.the-variants.{NoRule}
-use Rattle.pieces.specs.Wrote.{Wrote}
-use Rattle.pieces.proofs.Cutting.{area-pos}
-use Rattle.pieces.proofs.TreeSteps.{tree-length}
-use Rattle.pieces.proofs.Writing.{wrote-next, wrote-both}
 use native.Mathlib.Omega.{arith}
-use Rattle.pieces.proofs.Nodes.{room-some, leaf-small, join-fits, tree-of}
-use Rattle.pieces.proofs.Writing.{wrote-node, wrote-stop}
+use lib.ListN.{length}
+use denote.Ref.{now}
 use borrow.Author.Needs.{needs}
-use Prim.Native.Nat.{ℕ, _+_, _-_, _*_, _<_}
-use Rattle.pieces.specs.Area.{area}
 use borrow.Fn.Kinds.{In}
 use borrow.Fn.PlainCycle.{Measures, is, falls, and}
+use Rattle.pieces.specs.declared.choice.Choice.the-variants.{NoRule}
+use Rattle.pieces.specs.Area.{area}
+use Rattle.pieces.specs.Row.{rulesIn}
+use Rattle.pieces.specs.Wrote.{Wrote}
+use Rattle.pieces.proofs.Cutting.{area-pos}
+use Rattle.pieces.proofs.Rows.{length-rules}
+use Rattle.pieces.proofs.TreeSteps.{tree-length}
+use Rattle.pieces.proofs.Nodes.{Chose, JoinFits, room-some, leaf-small, join-fits, tree-of}
+use Rattle.pieces.proofs.Writing.{wrote-node, wrote-stop, wrote-next, wrote-both}
+use Rattle.pieces.proofs.tree.+pick_node+write_parts.{statement}
+use Rattle.pieces.proofs.tree.+pick_node+write_parts.Tie.{close}
 use Rattle.pieces.proofs.tree.pick_node.Reads as pick-node
 use Rattle.pieces.proofs.tree.pick_node.Kinds as pick-node-kinds
 use Rattle.pieces.proofs.tree.+pick_node+write_parts.Lts-pick_node as pick-node-lts
@@ -23,8 +29,6 @@ use Rattle.pieces.proofs.choice.choose.Reads as choose-reads
 use Rattle.pieces.proofs.part.back.Reads as back-reads
 use Rattle.pieces.proofs.part.front.Reads as front-reads
 use Rattle.pieces.proofs.tree.put_node.Reads as put-node-reads
-use Rattle.pieces.proofs.tree.+pick_node+write_parts.{statement}
-use Rattle.pieces.proofs.tree.+pick_node+write_parts.Tie.{close}
 
 abbrev μ-pick-node : Measures 4 pick-node-kinds.ps ℕ
 μ-pick-node κs a = 2 * area (a .1 .1 .1 .1 .1 .0)
@@ -66,6 +70,36 @@ abbrev parts : ℕ → write-parts-lts.Claims
 parts t = (pick-node-below t, pick-node.Post)
 
 module _ (t : ℕ) where
+  -- after the choice at the piece: where the node began, what is known of the choice, and that there is room for the node
+  abbrev Choosing : Type 0
+  Choosing = pick-node-lts.After-choose (picks t) (pick-node-at t) pick-node.Post
+
+  abbrev node : Choosing → pick-node-lts.Start (picks t) (pick-node-at t) pick-node.Post
+  node k = k .before .before .before .before .before
+
+  known : (k : Choosing) →
+      let a = node k .args in
+      Chose (a .rows) (a .cols) (now (a .work)) (now (a .colours)) (rulesIn (now (a .row))) (a .motif) (a .p) (k .choose .result)
+  known k =
+      let g = node k .pre .1 in
+      record { ready = g .0; in-sheet = g .1; few = rw (length-rules _) (g .2); choice = k .choose .ensures }
+
+  room : (k : Choosing) → let a = node k .args in a .at + 2 ≤ length (now (a .tree))
+  room k = let g = node k .pre .1 in omega (arith, g .3, room-some _ _ _ (g .1))
+
+  -- where a join was chosen: what that means for its node
+  abbrev Joining : Type 0
+  Joining = pick-node-lts.After-known-told2 (picks t) (pick-node-at t) pick-node.Post
+
+  abbrev choosing : Joining → Choosing
+  choosing k = k .before .before .before
+
+  join : (k : Joining) →
+      let a = node (choosing k) .args in
+      let x = k .before .choice2 .given .0 in
+      JoinFits (a .rows) (a .cols) (a .p) (x .0) (x .1 .0) (x .1 .1 .0)
+  join k = join-fits (known (choosing k)) _ _ _ _ _ (k .before .choice2 .given .1)
+
   pick-node-choose-requires : pick-node-lts.Need-choose-requires (picks t) (pick-node-at t) pick-node.Post
   pick-node-choose-requires c κs = search needs
 
@@ -77,10 +111,8 @@ module _ (t : ℕ) where
 
   pick-node-put-node-requires : pick-node-lts.Need-put-node-requires (picks t) (pick-node-at t) pick-node.Post
   pick-node-put-node-requires c κs =
-      let s = c .before .before .before .before .before .before .before .before .before in
-      let g = s .pre .1 in
-      let i = leaf-small _ _ _ _ _ _ _ (g .0) (g .1) (g .2) _ (c .before .before .before .before .choose .ensures) _ (c .before .before .choice .given .1) in
-      (omega (arith, g .3, room-some _ _ _ (g .1)), i, search needs)
+      let k = c .before .before .before .before in
+      (room k, leaf-small (known k) _ (c .before .before .choice .given .1), search needs)
 
   pick-node-add-t23 : pick-node-lts.Need-add-t23 (picks t) (pick-node-at t) pick-node.Post
   pick-node-add-t23 c = search needs
@@ -90,41 +122,37 @@ module _ (t : ℕ) where
 
   pick-node-put-node-requires-2 : pick-node-lts.Need-put-node-requires-2 (picks t) (pick-node-at t) pick-node.Post
   pick-node-put-node-requires-2 c κs =
-      let s = c .before .before .before .before .before .before .before .before .before in
-      let g = s .pre .1 in
-      let j = join-fits _ _ _ _ _ _ _ (g .0) (g .1) (g .2) _ (c .before .before .before .before .choose .ensures) _ _ _ _ _ (c .before .before .choice2 .given .1) in
-      (omega (arith, g .3, room-some _ _ _ (g .1)), j .rule-small, j .cut-small)
+      let j = join (c .before) in
+      (room (choosing (c .before)), j .rule-small, j .cut-small)
 
   pick-node-front-requires : pick-node-lts.Need-front-requires (picks t) (pick-node-at t) pick-node.Post
   pick-node-front-requires c κs = search needs
 
   pick-node-back-requires : pick-node-lts.Need-back-requires (picks t) (pick-node-at t) pick-node.Post
   pick-node-back-requires c κs =
-      let s = c .before .before .before .before .before .before .before .before .before .before .before .before .before in
-      let g = s .pre .1 in
-      let j = join-fits _ _ _ _ _ _ _ (g .0) (g .1) (g .2) _ (c .before .before .before .before .before .before .before .before .choose .ensures) _ _ _ _ _ (c .before .before .before .before .before .before .choice2 .given .1) in
-      (omega (arith, j .inside), omega (arith, g .1, g .0 .tabled), omega (arith, g .1, g .0 .tabled))
+      let k = c .before .before .before .before .before in
+      let g = node (choosing k) .pre .1 in
+      (omega (arith, join k .inside), omega (arith, g .1, g .0 .tabled), omega (arith, g .1, g .0 .tabled))
 
   pick-node-add-write-parts : pick-node-lts.Need-add-write-parts (picks t) (pick-node-at t) pick-node.Post
   pick-node-add-write-parts c =
-      let s = c .before .before .before .before .before .before .before .before .before .before .before .before .before .before .before in
-      omega (arith, s .good, s .pre .1 .3, room-some _ _ _ (s .pre .1 .1))
+      let k = choosing (c .before .before .before .before .before .before .before) in
+      omega (arith, node k .good, room k)
 
   pick-node-write-parts-requires : pick-node-lts.Need-write-parts-requires (picks t) (pick-node-at t) pick-node.Post
   pick-node-write-parts-requires c κs =
-      let s = c .before .before .before .before .before .before .before .before .before .before .before .before .before .before .before in
+      let k = c .before .before .before .before .before .before .before in
+      let s = node (choosing k) in
       let g = s .pre .1 in
-      let j = join-fits _ _ _ _ _ _ _ (g .0) (g .1) (g .2) _ (c .before .before .before .before .before .before .before .before .before .before .choose .ensures) _ _ _ _ _ (c .before .before .before .before .before .before .before .before .choice2 .given .1) in
+      let j = join k in
       let p = j .of-parts in
       let long = c .before .before .before .before .before .put-node2 .kept .0 in
-      rw (c .before .before .front .ensures, c .before .back .ensures) (omega (arith, s .pre .0, p), (g .0, p .front-in, p .back-in, g .2, omega (arith, g .3, j .rooms, long)))
+      rw (c .before .before .front .ensures, c .before .back .ensures)
+      (omega (arith, s .pre .0, p), (g .0, p .front-in, p .back-in, g .2, omega (arith, g .3, j .rooms, long)))
 
   pick-node-returns : pick-node-lts.Need-returns (picks t) (pick-node-at t) pick-node.Post
   unfolding Wrote
-  pick-node-returns c =
-      let s = c .before .before .before .before .before .before .before in
-      let g = s .pre .1 in
-      rw (tree-of _ _ _ _ _ _ _ (g .0) (g .1) (g .2) _ (c .before .before .choose .ensures) NoRule (c .enum-told .given .1)) (refl, refl)
+  pick-node-returns c = rw (tree-of (known (c .before .before)) NoRule (c .enum-told .given .1)) (refl, refl)
 
   pick-node-same-length : pick-node-lts.Need-same-length (picks t) (pick-node-at t) pick-node.Post
   pick-node-same-length c = search needs
@@ -132,26 +160,37 @@ module _ (t : ℕ) where
   pick-node-returns-2 : pick-node-lts.Need-returns-2 (picks t) (pick-node-at t) pick-node.Post
   unfolding Wrote
   pick-node-returns-2 c =
-      let s = c .before .before .before .before .before .before .before .before .before .before .before .before in
-      let g = s .pre .1 in
-      rw (tree-of _ _ _ _ _ _ _ (g .0) (g .1) (g .2) _ (c .before .before .before .before .before .before .before .choose .ensures) _ (c .before .before .before .before .before .choice .given .1)) (refl, c .before .before .put-node .ensures)
+      let k = c .before .before .before .before in
+      rw (tree-of (known (k .before .before .before)) _ (k .before .choice .given .1)) (refl, c .before .before .put-node .ensures)
 
   pick-node-same-length-2 : pick-node-lts.Need-same-length-2 (picks t) (pick-node-at t) pick-node.Post
   pick-node-same-length-2 c = search needs
 
   pick-node-returns-3 : pick-node-lts.Need-returns-3 (picks t) (pick-node-at t) pick-node.Post
   pick-node-returns-3 c =
-      let s = c .before .before .before .before .before .before .before .before .before .before .before .before .before .before .before .before .before .before in
-      let g = s .pre .1 in
-      let j = join-fits _ _ _ _ _ _ _ (g .0) (g .1) (g .2) _ (c .before .before .before .before .before .before .before .before .before .before .before .before .before .choose .ensures) _ _ _ _ _ (c .before .before .before .before .before .before .before .before .before .before .before .choice2 .given .1) in
-      let w = rw (c .before .before .before .before .before .front .ensures, c .before .before .before .before .back .ensures) at (c .before .before .write-parts .ensures) in
-      rw (tree-of _ _ _ _ _ _ _ (g .0) (g .1) (g .2) _ (c .before .before .before .before .before .before .before .before .before .before .before .before .before .choose .ensures) _ (c .before .before .before .before .before .before .before .before .before .before .before .choice2 .given .1), j .rooms) (wrote-node _ _ _ _ _ _ _ _ _ (omega (arith, g .3, j .rooms)) (c .before .before .before .before .before .before .before .before .put-node2 .ensures) w)
+      let f = c .before .before .before .before .before in
+      let n = f .before .before .before in
+      let k = n .before .before in
+      let tree = tree-of (known (choosing k)) _ (k .before .choice2 .given .1) in
+      let behind = rw (f .front .ensures, c .before .before .before .before .back .ensures) at (c .before .before .write-parts .ensures) in
+      rw (tree, join k .rooms) (wrote-node _ _ _ _ _ _ _ _ _ (room (choosing k)) (n .put-node2 .ensures) behind)
+
+  -- where the parts begin, both have cells
+  abbrev Began : Type 0
+  Began = write-parts-lts.Start (parts t) (write-parts-at t) write-parts.Post
+
+  cells : (s : Began) → let a = s .args in (1 ≤ area (a .first)) × (1 ≤ area (a .rest))
+  cells s = let g = s .pre .1 in (area-pos _ _ _ (g .1), area-pos _ _ _ (g .2))
+
+  -- after the first part: where the parts began
+  abbrev began : write-parts-lts.After-pick-node (parts t) (write-parts-at t) write-parts.Post → Began
+  began k = k .before .before .before .before .before .before
 
   write-parts-pick-node-requires : write-parts-lts.Need-pick-node-requires (parts t) (write-parts-at t) write-parts.Post
   write-parts-pick-node-requires c κs =
       let s = c .before .before .before .before .before in
       let g = s .pre .1 in
-      (omega (arith, s .pre .0, area-pos _ _ _ (g .1), area-pos _ _ _ (g .2)), (g .0, g .1, g .3, omega (arith, g .4)))
+      (omega (arith, s .pre .0, cells s), (g .0, g .1, g .3, omega (arith, g .4)))
 
   write-parts-enum-told : write-parts-lts.Need-enum-told (parts t) (write-parts-at t) write-parts.Post
   write-parts-enum-told c = search needs
@@ -161,26 +200,32 @@ module _ (t : ℕ) where
 
   write-parts-pick-node-requires-2 : write-parts-lts.Need-pick-node-requires-2 (parts t) (write-parts-at t) write-parts.Post
   write-parts-pick-node-requires-2 c κs =
-      let s = c .before .before .before .before .before .before .before .before .before .before .before .before in
+      let k = c .before .before .before .before .before .before in
+      let s = began k in
       let g = s .pre .1 in
-      let f = c .before .before .before .before .before .before .pick-node in
+      let f = k .pick-node in
       let next = wrote-next _ _ _ _ _ _ (tree-length _ _ _ _ _ _ (g .1)) (rw (c .before .before .done .given .1) at (f .ensures)) in
-      (omega (arith, s .pre .0, area-pos _ _ _ (g .1), area-pos _ _ _ (g .2)), (g .0, g .2, g .3, omega (arith, g .4, next, f .kept .1 .1 .1 .1 .1 .1 .1 .0)))
+      let long = f .kept .1 .1 .1 .1 .1 .1 .1 .0 in
+      (omega (arith, s .pre .0, cells s), (g .0, g .2, g .3, omega (arith, g .4, next, long)))
 
   write-parts-same-length : write-parts-lts.Need-same-length (parts t) (write-parts-at t) write-parts.Post
   write-parts-same-length c = search needs
 
   write-parts-returns : write-parts-lts.Need-returns (parts t) (write-parts-at t) write-parts.Post
-  write-parts-returns c = wrote-stop _ _ _ _ _ _ _ (rw (c .enum-told .given .1) at (c .before .before .before .before .pick-node .ensures))
+  write-parts-returns c =
+      let stopped = c .before .before .before .before .pick-node .ensures in
+      wrote-stop _ _ _ _ _ _ _ (rw (c .enum-told .given .1) at stopped)
 
   write-parts-same-length-2 : write-parts-lts.Need-same-length-2 (parts t) (write-parts-at t) write-parts.Post
   write-parts-same-length-2 c = search needs
 
   write-parts-returns-2 : write-parts-lts.Need-returns-2 (parts t) (write-parts-at t) write-parts.Post
   write-parts-returns-2 c =
-      let s = c .before .before .before .before .before .before .before .before .before .before .before .before .before .before .before in
-      let g = s .pre .1 in
-      wrote-both _ _ _ _ _ _ _ _ _ _ (tree-length _ _ _ _ _ _ (g .1)) (omega (arith, g .4)) (rw (c .before .before .before .before .before .done .given .1) at (c .before .before .before .before .before .before .before .before .before .pick-node .ensures)) (c .before .before .pick-node2 .ensures)
+      let d = c .before .before .before .before .before in
+      let k = d .before .before .before .before in
+      let g = began k .pre .1 in
+      let first = rw (d .done .given .1) at (k .pick-node .ensures) in
+      wrote-both _ _ _ _ _ _ _ _ _ _ (tree-length _ _ _ _ _ _ (g .1)) (omega (arith, g .4)) first (c .before .before .pick-node2 .ensures)
 
 pub +pick-node+write-parts-spec : {M : Type 1} → statement M
 +pick-node+write-parts-spec =

@@ -1,10 +1,10 @@
 -- After i turns the slice begins with i zeros.
+use Prim.Native.Nat.{ℕ, _-_, _≤_}
 use mathlib.Core.Path.{_≡_, refl, ap, _∙_}
 use mathlib.Core.List.{List, _++_}
-use Prim.Native.Nat.{ℕ, _-_, _≤_}
-use borrow.Author.Fill.{fill-more}
-use lib.ListN.{length, drop, set, replicate, length-set}
 use native.Mathlib.Omega.{arith}
+use lib.ListN.{length, drop, set, replicate, length-set}
+use borrow.Author.Fill.{fill-more}
 use borrow.Author.Needs.{needs}
 use Rattle.pieces.proofs.tree.clear.Statement.{statement}
 use Rattle.pieces.proofs.tree.clear.Tie as tie

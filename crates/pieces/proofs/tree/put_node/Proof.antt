@@ -1,8 +1,8 @@
 -- The two numbers are stored one after the other.
 use native.Mathlib.Omega.{arith}
 use lib.ListN.{length-set}
-use Rattle.pieces.proofs.Writing.{pair-written}
 use borrow.Author.Needs.{needs}
+use Rattle.pieces.proofs.Writing.{pair-written}
 use Rattle.pieces.proofs.tree.put_node.Statement.{statement}
 use Rattle.pieces.proofs.tree.put_node.Tie as tie
 

@@ -1,0 +1,34 @@
+-- A piece of one row and one column is the cell that stands at its row times the columns, and its column.
+use mathlib.Core.Path.{sym}
+use native.Mathlib.Omega.{arith}
+use borrow.Author.Needs.{needs}
+use Rattle.pieces.specs.View.{hasColour}
+use Rattle.pieces.proofs.Cutting.{cell-inside}
+use Rattle.pieces.proofs.Fitting.{covers-cell, covers-high, covers-wide}
+use Rattle.pieces.proofs.choice.covers.Statement.{statement}
+use Rattle.pieces.proofs.choice.covers.Tie as tie
+
+times-requires : tie.Need-times-requires
+times-requires c κs = search needs
+
+add-at : tie.Need-add-at
+add-at c = search needs
+
+shared-slice-read-result : tie.Need-shared-slice-read-result
+shared-slice-read-result c =
+    let s = c .before .before .before .before .before .before .before .before in
+    omega (arith, s .pre .2, c .before .before .times .ensures .0, cell-inside _ _ _ (s .pre .1))
+
+returns : tie.Need-returns
+unfolding hasColour
+returns c = rw (c .before .before .times .ensures .0) (sym (covers-cell _ _ _ (c .before .before .before .before .before .if1 .taken) (c .before .before .before .if2 .taken)))
+
+returns-2 : tie.Need-returns-2
+returns-2 c = sym (covers-wide _ _ _ (c .before .before .if1 .taken) (c .if2 .left))
+
+returns-3 : tie.Need-returns-3
+returns-3 c = sym (covers-high _ _ _ (c .if1 .left))
+
+pub covers-spec : {M : Type 1} → statement M
+covers-spec =
+    tie.close (tie.spec times-requires add-at shared-slice-read-result returns returns-2 returns-3)

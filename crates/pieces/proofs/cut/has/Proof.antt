@@ -1,0 +1,47 @@
+-- The entry of a piece stands at its slot, and an entry, below 2 to the power 32, has no bit from the 32nd on.
+use lib.ListN.{getD}
+use borrow.Author.Needs.{needs}
+use Rattle.pieces.specs.Pieces.{slotOf}
+use Rattle.pieces.specs.View.{hasBit}
+use Rattle.pieces.specs.Table.{bit}
+use Rattle.pieces.proofs.Bits.{bit-high}
+use Rattle.pieces.proofs.cut.has.Statement.{statement}
+use Rattle.pieces.proofs.cut.has.Tie as tie
+
+slot-requires : tie.Need-slot-requires
+slot-requires c κs = search needs
+
+mul-result : tie.Need-mul-result
+mul-result c = search needs
+
+shared-slice-read-result : tie.Need-shared-slice-read-result
+shared-slice-read-result c = search needs
+
+cast-result : tie.Need-cast-result
+cast-result c = search needs
+
+shr-result : tie.Need-shr-result
+shr-result c = search needs
+
+returns : tie.Need-returns
+unfolding hasBit bit
+returns c = rw (c .before .before .slot .ensures .0)
+
+returns-2 : tie.Need-returns-2
+unfolding hasBit
+returns-2 c =
+    let a = c .before .before .before .args in
+    let w = getD (a .work .now) (slotOf (a .rows) (a .cols) (a .p)) 0 in
+    rw (bit-high w (a .motif) 32 (c .before .before .shared-slice-known .given _ .fits) (c .if1 .left))
+
+pub has-spec : {M : Type 1} → statement M
+has-spec =
+    tie.close
+    (tie.spec
+    slot-requires
+    mul-result
+    shared-slice-read-result
+    cast-result
+    shr-result
+    returns
+    returns-2)

@@ -1,0 +1,74 @@
+// The cuts of a piece, by the bits of the table. The sheet has so many rows and columns, and work is the table of its pieces: each function
+// asks that it is long enough for the sheet, and that the piece lies on it.
+use crate::part::Direction;
+use crate::part::back;
+use crate::part::front;
+use crate::part::reach;
+use crate::piece::Piece;
+use crate::piece::slot;
+ghost use mathlib.Core.Path.{_≡_};
+ghost use Prim.Native.Nat.{_≤_, _<_};
+ghost use Rattle.pieces.specs.Pieces.{Inside};
+ghost use Rattle.pieces.specs.Direction.{reach};
+ghost use Rattle.pieces.specs.View.{Tabled, hasBit};
+ghost use Rattle.pieces.specs.Choice.{works, cutOf};
+
+// Whether a motif has its bit set at a piece. An entry has 32 bits.
+pub fn has(work: &[u32], rows: usize, cols: usize, p: Piece, motif: usize) -> bool
+    requires { ⌜ Tabled rows cols (now work) × Inside rows cols p ⌝ }
+    ensures { λ r. ⌜ r ≡ hasBit rows cols (now (work .entry)) motif p ⌝ }
+{
+    let at = slot(rows, cols, p);
+    if motif < 32 {
+        (work[at] >> (motif as u32)) % 2 == 1
+    } else {
+        false
+    }
+}
+
+// Whether both parts of a cut have their bits.
+fn works(
+    work: &[u32],
+    rows: usize,
+    cols: usize,
+    p: Piece,
+    d: Direction,
+    l: usize,
+    r: usize,
+    k: usize,
+) -> bool
+    requires { ⌜ Tabled rows cols (now work) × Inside rows cols p × (1 ≤ k) × (k < reach d p) ⌝ }
+    ensures { λ x. ⌜ x ≡ works (hasBit rows cols (now (work .entry))) d l r p k ⌝ }
+{
+    let first = front(p, d, k);
+    if has(work, rows, cols, first, l) {
+        let rest = back(p, d, k);
+        has(work, rows, cols, rest, r)
+    } else {
+        false
+    }
+}
+
+// The smallest cut that works, or the piece's reach where none does.
+pub fn smallest_cut(
+    work: &[u32],
+    rows: usize,
+    cols: usize,
+    p: Piece,
+    d: Direction,
+    l: usize,
+    r: usize,
+) -> usize
+    requires { ⌜ Tabled rows cols (now work) × Inside rows cols p ⌝ }
+    ensures { λ k. ⌜ k ≡ cutOf (hasBit rows cols (now (work .entry))) d l r p ⌝ }
+{
+    let end = reach(p, d);
+    let mut k = 1;
+    while k < end {
+        if works(work, rows, cols, p, d, l, r, k) {
+            return k;
+        }
+        k += 1;
+    }
+    k
+}
