@@ -23,7 +23,7 @@ use Rattle.books.specs.declared.family.Family.{Family}
 use Rattle.books.specs.declared.rule.Rule.{Rule}
 use Rattle.books.specs.declared.rule.Body.{Body}
 use Rattle.books.specs.declared.rule.Body.the-variants.{Colour, Across, Down}
-use Rattle.pieces.specs.Masks.{noRule}
+use Rattle.books.specs.Rules.{noRule}
 use Rattle.pieces.specs.Painted.{painterOf, painterAt, paintersOf}
 use Rattle.pieces.specs.Table.{bit, entry}
 use Rattle.pieces.proofs.Bits.{none-set, bit-pow, pow-has, same-bit, same-bits}

@@ -21,7 +21,7 @@ use Rattle.pieces.specs.declared.part.Direction.the-variants.{Across, Do
 use Rattle.pieces.specs.declared.choice.Choice.{Choice}
 use Rattle.pieces.specs.declared.choice.Choice.the-variants.{NoRule, Leaf, Join}
 use Rattle.pieces.specs.Direction.{dirOf, reach}
-use Rattle.pieces.specs.Masks.{noRule}
+use Rattle.books.specs.Rules.{noRule}
 use Rattle.pieces.specs.View.{View}
 use Rattle.pieces.specs.Choice.{least, works, cutOf, covers, fits, takes, taken, lowest, chosen, choose}
 use Rattle.pieces.proofs.Least.{Least, least-is}

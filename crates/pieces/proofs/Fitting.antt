@@ -14,7 +14,7 @@ use Rattle.pieces.specs.declared.piece.Piece.{Piece}
 use Rattle.pieces.specs.declared.choice.Choice.{Choice}
 use Rattle.pieces.specs.declared.choice.Choice.the-variants.{NoRule, Leaf, Join}
 use Rattle.pieces.specs.View.{View}
-use Rattle.pieces.specs.Masks.{noRule}
+use Rattle.books.specs.Rules.{noRule}
 use Rattle.pieces.specs.Choice.{covers, fits, takes, lowest, chosen, offered, choose}
 use Rattle.pieces.proofs.Least.{and-on, and-off}
 

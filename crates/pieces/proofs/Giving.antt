@@ -12,7 +12,7 @@ use Rattle.books.specs.Derives.{Derives, paint, join}
 use Rattle.books.specs.declared.rule.Rule.{Rule}
 use Rattle.books.specs.declared.rule.Body.{Body}
 use Rattle.books.specs.declared.rule.Body.the-variants.{Colour}
-use Rattle.pieces.specs.Masks.{noRule}
+use Rattle.books.specs.Rules.{noRule}
 use Rattle.pieces.specs.Given.{At, Works, Able, Lowest, Given, leaf, node}
 
 -- Bodies tell what they hold.

@@ -9,7 +9,8 @@ use Rattle.books.specs.declared.family.Family.{Family}
 use Rattle.books.specs.declared.rule.Rule.{Rule}
 use Rattle.books.specs.declared.rule.Body.{Body}
 use Rattle.books.specs.declared.rule.Body.the-variants.{Colour, Across, Down}
-use Rattle.pieces.specs.Masks.{BodySmall, Small, noRule}
+use Rattle.pieces.specs.Masks.{BodySmall, Small}
+use Rattle.books.specs.Rules.{noRule}
 use Rattle.pieces.specs.Painted.{SmallRules}
 use Rattle.pieces.specs.Row.{codeOf, bodyOf, ruleOf, rulesIn, LaidOut}
 

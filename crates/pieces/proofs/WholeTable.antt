@@ -19,7 +19,8 @@ use Rattle.books.specs.declared.family.Family.{Family}
 use Rattle.books.specs.declared.sheet.Sheet.{Sheet}
 use Rattle.books.specs.declared.rule.Body.{Body}
 use Rattle.books.specs.declared.rule.Body.the-variants.{Colour, Across, Down}
-use Rattle.pieces.specs.Masks.{BodySmall, noRule}
+use Rattle.pieces.specs.Masks.{BodySmall}
+use Rattle.books.specs.Rules.{noRule}
 use Rattle.pieces.specs.Painted.{AsRead, Numbered, SmallRules, paintersOf}
 use Rattle.pieces.specs.Pieces.{piece, Room, total}
 use Rattle.pieces.specs.Settled.{Made}

@@ -15,7 +15,7 @@ use Rattle.pieces.specs.declared.part.Direction.the-variants.{Across, Do
 use Rattle.pieces.specs.declared.choice.Choice.{Choice}
 use Rattle.pieces.specs.declared.choice.Choice.the-variants.{NoRule, Leaf, Join}
 use Rattle.pieces.specs.Direction.{reach, front, back}
-use Rattle.pieces.specs.Masks.{noRule}
+use Rattle.books.specs.Rules.{noRule}
 use Rattle.pieces.specs.View.{View}
 
 -- the least of n numbers from i on that a test accepts, or the number after them

@@ -8,7 +8,7 @@ use Rattle.books.specs.Picture.{Picture, Dir, across, down, joins, size, first,
 use Rattle.books.specs.Derives.{Derives}
 use Rattle.books.specs.declared.rule.Body.{Body}
 use Rattle.books.specs.declared.rule.Body.the-variants.{Colour, Across, Down}
-use Rattle.pieces.specs.Masks.{noRule}
+use Rattle.books.specs.Rules.{noRule}
 
 -- rule number i has head a and body x
 pub record At (b : Contents) (i a : ℕ) (x : Body) : Type 0 where

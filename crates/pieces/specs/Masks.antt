@@ -75,7 +75,3 @@ BodySmall (Down u v) = (u < 32) × (v < 32)
 pub record Small (r : Rule) : Type 0 where
   pub head : r .head < 32
   pub body : BodySmall (r .body)
-
--- the rule past the end of a list
-abbrev pub noRule : Rule
-noRule = record { head = 0; body = Colour 0 }

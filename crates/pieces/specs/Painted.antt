@@ -15,7 +15,8 @@ use Rattle.books.specs.declared.rule.Rule.{Rule}
 use Rattle.books.specs.declared.rule.Body.{Body}
 use Rattle.books.specs.declared.rule.Body.the-variants.{Colour, Across, Down}
 use Rattle.pieces.specs.Joined.{gathered}
-use Rattle.pieces.specs.Masks.{Serves, Small, masksOf, countOf, noRule}
+use Rattle.pieces.specs.Masks.{Serves, Small, masksOf, countOf}
+use Rattle.books.specs.Rules.{noRule}
 use Rattle.pieces.specs.declared.masks.Joins.{Joins}
 
 -- what reading gives of a book and of a sheet
@@ -28,8 +29,8 @@ pub record AsRead (book : List ℕ) (f : Family) (bytes : List ℕ) (g : Sheet) 
 
 -- the number that the colour of each cell has in the book, or the count of the book's colours where it has no such colour
 abbrev pub Numbered : List ℕ → Family → List ℕ → Sheet → List ℕ → Type 0
-Numbered book f bytes g cells =
-    (i : ℕ) → i < g .rows * g .cols → getD cells i 0 ≡ findName book (f .colours) (nameIn bytes (g .colours) (getD (g .cells) i 0))
+Numbered book f bytes g colours =
+    (i : ℕ) → i < g .rows * g .cols → getD colours i 0 ≡ findName book (f .colours) (nameIn bytes (g .colours) (getD (g .cells) i 0))
 
 -- the head's mask, where the body is the colour of a number
 abbrev pub painterOf : ℕ → ℕ → Body → ℕ
@@ -56,6 +57,6 @@ pub record SplitInto (f : Family) (rules : List ℕ) (j : Joins) : Type 0 where
   pub painters : (c : ℕ) → c < 65 → getD rules (1200 + c) 0 ≡ paintersOf f c
 
 -- a table that begins with the masks of the cells, row by row, and goes on as before
-pub record Begun (rules cells : List ℕ) (count : ℕ) (before after : List ℕ) : Type 0 where
-  pub begins : (i : ℕ) → i < count → getD after i 0 ≡ getD rules (1200 + getD cells i 0) 0
+pub record Begun (rules colours : List ℕ) (count : ℕ) (before after : List ℕ) : Type 0 where
+  pub begins : (i : ℕ) → i < count → getD after i 0 ≡ getD rules (1200 + getD colours i 0) 0
   pub rest : (i : ℕ) → count ≤ i → getD after i 0 ≡ getD before i 0

@@ -9,7 +9,7 @@ use Rattle.names.specs.Pick.{pick}
 use Rattle.books.specs.declared.rule.Rule.{Rule}
 use Rattle.books.specs.declared.rule.Body.{Body}
 use Rattle.books.specs.declared.rule.Body.the-variants.{Colour, Across, Down}
-use Rattle.pieces.specs.Masks.{noRule}
+use Rattle.books.specs.Rules.{noRule}
 
 abbrev pub codeOf : ℕ → Body → ℕ
 codeOf h (Colour c) = h + 65536 * c

@@ -28,26 +28,26 @@ pub fn number_cells(
     sheet: &[u8],
     g: Sheet,
     count: usize,
-    numbers: &mut [u8],
+    colours: &mut [u8],
 )
-    requires { ⌜ (c .count ≤ 64) × (count ≤ 144) × (count ≤ length (now numbers)) × ((i : ℕ) → i < count → getD (g .cells) i 0 < 64) ⌝ }
-    ensures { λ _. ⌜ ((i : ℕ) → i < count → getD (now (numbers .exit)) i 0 ≡ findName (now (book .entry)) c (nameIn (now (sheet .entry)) (g .colours) (getD (g .cells) i 0))) ⌝ }
+    requires { ⌜ (c .count ≤ 64) × (count ≤ 144) × (count ≤ length (now colours)) × ((i : ℕ) → i < count → getD (g .cells) i 0 < 64) ⌝ }
+    ensures { λ _. ⌜ ((i : ℕ) → i < count → getD (now (colours .exit)) i 0 ≡ findName (now (book .entry)) c (nameIn (now (sheet .entry)) (g .colours) (getD (g .cells) i 0))) ⌝ }
 {
     let mut i = 0;
     while i < count {
-        numbers[i] = number_of(book, c, sheet, g, i);
+        colours[i] = number_of(book, c, sheet, g, i);
         i += 1;
     }
 }
 
 // The entries of the first so many cells, by the masks of their colours.
-pub fn paint_cells(rules: &[u32], cells: &[u8], count: usize, work: &mut [u32])
-    requires { ⌜ (length (now rules) ≡ 1265) × (count ≤ length (now cells)) × (count ≤ length (now work)) × ((i : ℕ) → i < count → getD (now cells) i 0 < 65) ⌝ }
-    ensures { λ _. ⌜ Begun (now (rules .entry)) (now (cells .entry)) count (now (work .entry)) (now (work .exit)) ⌝ }
+pub fn paint_cells(rules: &[u32], colours: &[u8], count: usize, work: &mut [u32])
+    requires { ⌜ (length (now rules) ≡ 1265) × (count ≤ length (now colours)) × (count ≤ length (now work)) × ((i : ℕ) → i < count → getD (now colours) i 0 < 65) ⌝ }
+    ensures { λ _. ⌜ Begun (now (rules .entry)) (now (colours .entry)) count (now (work .entry)) (now (work .exit)) ⌝ }
 {
     let mut i = 0;
     while i < count {
-        let at = 1200 + cells[i] as usize;
+        let at = 1200 + colours[i] as usize;
         work[i] = rules[at];
         i += 1;
     }

@@ -27,9 +27,9 @@ ghost use Rattle.pieces.specs.Verdict.{verdict, lacking};
 
 // What a filled table tells: 11 where the start motif has no bit at the whole sheet, and else 0 with the derivation in the tree slice, or 14
 // where at some node no rule fits.
-fn judge(f: Family, cells: &[u8], rows: usize, cols: usize, work: &[u32], tree: &mut [u16]) -> u8
-    requires { ⌜ SmallRules f × Ready rows cols (now work) (now cells) × (treeSize (whole rows cols) ≤ length (now tree)) ⌝ }
-    ensures { λ r. ⌜ r ≡ verdict (seen rows cols (now (work .entry)) (now (cells .entry))) (take (f .count) (f .rules)) (f .start) (whole rows cols) (now (tree .entry)) .number ⌝ ∗ ⌜ now (tree .exit) ≡ verdict (seen rows cols (now (work .entry)) (now (cells .entry))) (take (f .count) (f .rules)) (f .start) (whole rows cols) (now (tree .entry)) .numbers ⌝ }
+fn judge(f: Family, colours: &[u8], rows: usize, cols: usize, work: &[u32], tree: &mut [u16]) -> u8
+    requires { ⌜ SmallRules f × Ready rows cols (now work) (now colours) × (treeSize (whole rows cols) ≤ length (now tree)) ⌝ }
+    ensures { λ r. ⌜ r ≡ verdict (seen rows cols (now (work .entry)) (now (colours .entry))) (take (f .count) (f .rules)) (f .start) (whole rows cols) (now (tree .entry)) .number ⌝ ∗ ⌜ now (tree .exit) ≡ verdict (seen rows cols (now (work .entry)) (now (colours .entry))) (take (f .count) (f .rules)) (f .start) (whole rows cols) (now (tree .entry)) .numbers ⌝ }
 {
     let sheet = Piece {
         height: rows,
@@ -41,7 +41,7 @@ fn judge(f: Family, cells: &[u8], rows: usize, cols: usize, work: &[u32], tree: 
         let rules = f.rules;
         let mut row = [0u32; 200];
         row::lay_out(rules, f.count, &mut row);
-        return tree::write_tree(&row[..f.count], f.start, work, cells, rows, cols, tree);
+        return tree::write_tree(&row[..f.count], f.start, work, colours, rows, cols, tree);
     }
     11
 }
@@ -78,17 +78,17 @@ fn fill_and_judge(
     if short != 0 {
         return answer::unblamed(short);
     }
-    let mut cells = [0u8; 144];
+    let mut colours = [0u8; 144];
     cells::number_cells(
         book,
         f.colours,
         bytes,
         g,
         piece::times(rows, cols),
-        &mut cells,
+        &mut colours,
     );
-    table::fill_table(f, &cells, rows, cols, work);
-    answer::unblamed(judge(f, &cells, rows, cols, work, tree))
+    table::fill_table(f, &colours, rows, cols, work);
+    answer::unblamed(judge(f, &colours, rows, cols, work, tree))
 }
 
 // Asks whether the family of a book has a sheet. The work slice gets the table of pieces, and on 0 the tree slice the derivation given.

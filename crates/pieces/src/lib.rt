@@ -6,7 +6,7 @@ mod cut;
 pub mod derive;
 mod masks;
 mod part;
-pub mod piece;
+mod piece;
 mod row;
 mod table;
 mod tree;

@@ -118,13 +118,13 @@ fn fill(work: &mut [u32], rules: &[u32], joins: Joins, m: usize, n: usize)
 }
 
 // The table of a sheet for a family, by the numbers that the colours of its cells have there.
-pub fn fill_table(f: Family, cells: &[u8], m: usize, n: usize, work: &mut [u32])
+pub fn fill_table(f: Family, colours: &[u8], m: usize, n: usize, work: &mut [u32])
     requires { ⌜ SmallRules f × Room m n × (total m n ≤ length (now work)) ⌝ }
-    requires { ⌜ (m * n ≤ length (now cells)) × ((i : ℕ) → i < m * n → getD (now cells) i 0 < 65) ⌝ }
-    ensures { λ _. ⌜ Made f (now (cells .entry)) m n (now (work .entry)) (now (work .exit)) ⌝ }
+    requires { ⌜ (m * n ≤ length (now colours)) × ((i : ℕ) → i < m * n → getD (now colours) i 0 < 65) ⌝ }
+    ensures { λ _. ⌜ Made f (now (colours .entry)) m n (now (work .entry)) (now (work .exit)) ⌝ }
 {
     let mut rules = [0u32; 1265];
     let joins = masks::split(f, &mut rules);
-    cells::paint_cells(&rules, cells, piece::times(m, n), work);
+    cells::paint_cells(&rules, colours, piece::times(m, n), work);
     fill(work, &rules, joins, m, n);
 }

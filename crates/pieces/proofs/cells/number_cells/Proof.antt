@@ -11,10 +11,10 @@ use Rattle.pieces.proofs.cells.number_cells.Statement.{statement}
 use Rattle.pieces.proofs.cells.number_cells.Tie as tie
 
 abbrev Inv-loop : tie.InvT-loop
-Inv-loop book c sheet g count numbers₀ i₀ numbers i = (i ≤ count) × (length numbers ≡ length numbers₀) × ((j : ℕ) → j < i → getD numbers j 0 ≡ findName book c (nameIn sheet (g .colours) (getD (g .cells) j 0)))
+Inv-loop book c sheet g count colours₀ i₀ colours i = (i ≤ count) × (length colours ≡ length colours₀) × ((j : ℕ) → j < i → getD colours j 0 ≡ findName book c (nameIn sheet (g .colours) (getD (g .cells) j 0)))
 
 abbrev μ-loop : tie.MeasureT-loop
-μ-loop book c sheet g count numbers₀ i₀ numbers i = count - i
+μ-loop book c sheet g count colours₀ i₀ colours i = count - i
 
 loop-holds : tie.Need-loop-holds Inv-loop μ-loop
 loop-holds c = (omega arith, refl, λ j h. absurd (omega arith))
@@ -22,8 +22,8 @@ loop-holds c = (omega arith, refl, λ j h. absurd (omega arith))
 number-of-requires : tie.Need-number-of-requires Inv-loop μ-loop
 number-of-requires c κs = (c .before .before .before .before .before .pre .0, omega arith, c .before .before .before .before .before .pre .3 (c .before .loop .i) (c .loop-test .taken))
 
-slice-write-numbers : tie.Need-slice-write-numbers Inv-loop μ-loop
-slice-write-numbers c = omega arith
+slice-write-colours : tie.Need-slice-write-colours Inv-loop μ-loop
+slice-write-colours c = omega arith
 
 add-i : tie.Need-add-i Inv-loop μ-loop
 add-i c = omega arith
@@ -34,7 +34,7 @@ loop-less c = omega arith
 loop-again : tie.Need-loop-again Inv-loop μ-loop
 loop-again c =
     let a = c .before .before .before .before .before .before .args in
-    let l = c .before .before .loop .numbers in
+    let l = c .before .before .loop .colours in
     let i = c .before .before .loop .i in
     let inv = c .before .before .loop .inv in
     let room : i < length l = omega arith in (
@@ -59,7 +59,7 @@ number-cells-spec =
     μ-loop
     loop-holds
     number-of-requires
-    slice-write-numbers
+    slice-write-colours
     add-i
     loop-less
     loop-again

@@ -10,10 +10,10 @@ use Rattle.pieces.proofs.cells.paint_cells.Statement.{statement}
 use Rattle.pieces.proofs.cells.paint_cells.Tie as tie
 
 abbrev Inv-loop : tie.InvT-loop
-Inv-loop rules cells count work₀ i₀ work i = (i ≤ count) × Begun rules cells i work₀ work × (length work ≡ length work₀)
+Inv-loop rules colours count work₀ i₀ work i = (i ≤ count) × Begun rules colours i work₀ work × (length work ≡ length work₀)
 
 abbrev μ-loop : tie.MeasureT-loop
-μ-loop rules cells count work₀ i₀ work i = count - i
+μ-loop rules colours count work₀ i₀ work i = count - i
 
 loop-holds : tie.Need-loop-holds Inv-loop μ-loop
 loop-holds c = (omega arith, begun-start _ _ _, refl)

@@ -7,7 +7,7 @@ use native.Mathlib.Omega.{arith}
 use denote.Ref.{now}
 use lib.ListN.{getD}
 use borrow.Author.Needs.{needs}
-use Rattle.pieces.specs.Masks.{noRule}
+use Rattle.books.specs.Rules.{noRule}
 use Rattle.pieces.specs.Row.{rulesIn}
 use Rattle.pieces.specs.View.{seen}
 use Rattle.pieces.specs.Choice.{least, taken, lowest}

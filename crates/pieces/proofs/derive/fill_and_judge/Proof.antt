@@ -30,14 +30,14 @@ grid s = picture (gridIn (now (s .args .bytes)) (s .args .g))
 abbrev began : tie.After-number-cells → tie.Start
 began k = k .before .before .before .before .before .before .before .before .before
 
-abbrev cells : tie.After-number-cells → List ℕ
-cells k = k .number-cells .last .1 .1 .1 .1 .1 .0
+abbrev colours : tie.After-number-cells → List ℕ
+colours k = k .number-cells .last .1 .1 .1 .1 .1 .0
 
-numbered : (k : tie.After-number-cells) → let a = began k .args in Numbered (now (a .book)) (a .f) (now (a .bytes)) (a .g) (cells k)
+numbered : (k : tie.After-number-cells) → let a = began k .args in Numbered (now (a .book)) (a .f) (now (a .bytes)) (a .g) (colours k)
 numbered k = rw (k .before .before .times .ensures .0) at (k .number-cells .ensures)
 
-cells-long : (k : tie.After-number-cells) → let g = began k .args .g in g .rows * g .cols ≤ length (cells k)
-cells-long k = omega (arith, k .number-cells .kept .1 .1 .1 .1 .1 .0, began k .pre .area-few)
+colours-long : (k : tie.After-number-cells) → let g = began k .args .g in g .rows * g .cols ≤ length (colours k)
+colours-long k = omega (arith, k .number-cells .kept .1 .1 .1 .1 .1 .0, began k .pre .area-few)
 
 enough : (k : tie.After-number-cells) →
     let s = began k in
@@ -81,7 +81,7 @@ fill-table-requires : tie.Need-fill-table-requires
 fill-table-requires c κs =
     let k = c .before .before .before in
     let given = began k .pre in
-    ((small-rules given, room given, enough k .0), (cells-long k, numbers-low given (cells k) (numbered k)))
+    ((small-rules given, room given, enough k .0), (colours-long k, numbers-low given (colours k) (numbered k)))
 
 slice-aggregate-judge : tie.Need-slice-aggregate-judge
 slice-aggregate-judge c = search needs
@@ -92,7 +92,7 @@ judge-requires c κs =
     let k = t .before .before .before .before in
     let given = began k .pre in
     let long = le-trans (enough k .0) (le-of-eq (sym (t .fill-table .kept .1 .1 .1 .1 .0))) in
-    (small-rules given, record { tabled = record { sizes = room given; entries = long }; cells = cells-long k }, enough k .1)
+    (small-rules given, record { tabled = record { sizes = room given; entries = long }; cells = colours-long k }, enough k .1)
 
 unblamed-requires-2 : tie.Need-unblamed-requires-2
 unblamed-requires-2 c κs = search needs

@@ -6,7 +6,7 @@ use borrow.Author.Count.{below-more}
 use borrow.Author.Needs.{needs}
 use lib.ListN.{length, getD, set, length-set}
 use lib.Seq.{getD-set-same, getD-set-other}
-use Rattle.pieces.specs.Masks.{noRule}
+use Rattle.books.specs.Rules.{noRule}
 use Rattle.pieces.specs.Row.{codeOf, LaidOut}
 use Rattle.pieces.proofs.row.lay_out.Statement.{statement}
 use Rattle.pieces.proofs.row.lay_out.Tie as tie
