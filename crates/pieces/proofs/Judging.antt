@@ -30,6 +30,8 @@ use Rattle.books.specs.Held.{contentsIn, gridIn}
 use Rattle.books.specs.Grid.{picture}
 use Rattle.books.specs.declared.family.Family.{Family}
 use Rattle.books.specs.declared.sheet.Sheet.{Sheet}
+use Rattle.books.specs.declared.book.BookRead.{BookRead}
+use Rattle.books.specs.declared.sheet.SheetRead.{SheetRead}
 use Rattle.books.proofs.Deciding.{decided, refused}
 use Rattle.books.proofs.ReadingBooks.{book-lies, book-accepted}
 use Rattle.books.proofs.ReadingSheets.{sheet-lies}
@@ -55,16 +57,16 @@ use Rattle.pieces.proofs.TheTree.{exact-tree}
 use Rattle.pieces.proofs.WholeTable.{book-colours, cell-name, whole-table}
 
 -- a book and a sheet that are accepted are as reading gives them
-pub as-read : (book sheet : List ℕ) → Bytes book → Bytes sheet → bookOf book .fault .number ≡ 0 → sheetOf sheet .fault .number ≡ 0
-    → AsRead book (bookOf book .family) sheet (sheetOf sheet .sheet)
-as-read book sheet hb hs zb zs =
-    record {
+pub as-read : (book sheet : List ℕ) (b : BookRead) (s : SheetRead) → b ≡ bookOf book → s ≡ sheetOf sheet → Bytes book → Bytes sheet
+    → bookOf book .fault .number ≡ 0 → sheetOf sheet .fault .number ≡ 0 → AsRead book (b .family) sheet (s .sheet)
+as-read book sheet b s eb es hb hs zb zs =
+    rw (eb, es) (record {
       book-keeps = book-accepted book hb zb .keeps;
       rules-few = book-lies book zb .rules-few;
       rules-size = book-lies book zb .rules-size;
       sheet-keeps = sheet-accepted sheet hs zs .keeps;
       area-few = sheet-lies sheet zs .area-few;
-    }
+    })
 
 -- ── A slice that holds the table ──
 

@@ -5,13 +5,18 @@ use borrow.Author.Needs.{needs}
 use Rattle.pieces.proofs.derive.dv_derive.Statement.{statement}
 use Rattle.pieces.proofs.derive.dv_derive.Tie as tie
 
+-- After the call: where it began.
+abbrev began : tie.After-derive → tie.Start
+began k = k .before .before .before .before .before .before .before
+
 derive-requires : tie.Need-derive-requires
 derive-requires c κs = search needs
 
 pack-requires : tie.Need-pack-requires
 pack-requires c κs =
-    let a = c .before .before .before .before .before .before .before .before .before .before .before .args in
-    rw (c .before .before .before .before .derive .ensures .0) (derivation-packs (now (a .book)) (now (a .sheet)) (now (a .work)) (now (a .tree)))
+    let k = c .before .before .before .before in
+    let a = began k .args in
+    rw (k .derive .ensures .0) (derivation-packs (now (a .book)) (now (a .sheet)) (now (a .work)) (now (a .tree)))
 
 same-length : tie.Need-same-length
 same-length c = search needs
@@ -20,7 +25,9 @@ same-length-2 : tie.Need-same-length-2
 same-length-2 c = search needs
 
 returns : tie.Need-returns
-returns c = (rw (← c .before .before .before .before .before .derive .ensures .0) (c .pack .ensures), c .before .before .before .before .before .derive .ensures .1)
+returns c =
+    let k = c .before .before .before .before .before in
+    (rw (← k .derive .ensures .0) (c .pack .ensures), k .derive .ensures .1)
 
 pub dv-derive-spec : {M : Type 1} → statement M
 dv-derive-spec =
