@@ -136,10 +136,29 @@ static void compare_combinations_at_limits(void)
     }
 }
 
+// The rules that have the start for their head are copied, so that fewer than 200 come to about that many: all of them
+// have it, or all but one in so many.
+static void compare_copies_at_limits(void)
+{
+    struct family family;
+    struct bytes book;
+    plain_palette(&family.palette, 2, 3, 0);
+    for (unsigned rules = 60; rules <= DV_MOST_RULES; rules++)
+        for (unsigned in = 1; in <= 3; in++) {
+            plain_family(&family, 2, rules);
+            for (unsigned i = in - 1; i < rules && in > 1; i += in)
+                family.rule[i].head = 0;
+            spell_book(&family, &book);
+            for (int combination = 0; combination < COMBINATIONS; combination++)
+                compare_combination((enum combination)combination, &book, &book, ROOMY_OUT, NULL);
+        }
+}
+
 void compare_limits(void)
 {
     compare_books_at_limits();
     compare_numbers_past_counts();
     compare_sheets_at_limits();
     compare_combinations_at_limits();
+    compare_copies_at_limits();
 }
