@@ -1,6 +1,6 @@
 -- A row that was laid out holds the rules again: each of a rule's four numbers has a byte of its own.
 use Prim.Native.Nat.{ℕ, zero, suc, _+_, _*_, _/_, _%_, _≤_, _<_}
-use mathlib.Core.Path.{_≡_, refl, sym, ap, ap₂, _∙_}
+use mathlib.Core.Path.{_≡_, refl, sym, ap, _∙_}
 use mathlib.Core.List.{List, [], _∷_, map}
 use native.Mathlib.Omega.{arith}
 use lib.ListN.{length, getD, take, length-map}
@@ -23,36 +23,23 @@ rule-at [] i h = absurd (omega arith)
 rule-at (n ∷ row) zero h = refl
 rule-at (n ∷ row) (suc i) h = rule-at row i (omega arith)
 
+-- The kind and the two numbers of a body, taken from their bytes.
+taken : (h k x y : ℕ) {n : ℕ} → n ≡ h + 256 * k + 65536 * x + 16777216 * y → h < 32 → k < 3 → x < 64 → y < 64
+    → (n / 256 % 256 ≡ k) × (n / 65536 % 256 ≡ x) × (n / 16777216 ≡ y)
+taken h k x y e a b c d = (omega arith, omega arith, omega arith)
+
 body-again : (h : ℕ) (x : Body) → h < 32 → BodySmall x
     → bodyOf (codeOf h x / 256 % 256) (codeOf h x / 65536 % 256) (codeOf h x / 16777216) ≡ x
 unfolding bodyOf
-body-again h (Colour c) l s = rw (kind, first)
-  where
-    kind : codeOf h (Colour c) / 256 % 256 ≡ 0
-    kind = omega arith
-
-    first : codeOf h (Colour c) / 65536 % 256 ≡ c
-    first = omega arith
-body-again h (Across x y) l (u, v) = rw (kind, first, second)
-  where
-    kind : codeOf h (Across x y) / 256 % 256 ≡ 1
-    kind = omega arith
-
-    first : codeOf h (Across x y) / 65536 % 256 ≡ x
-    first = omega arith
-
-    second : codeOf h (Across x y) / 16777216 ≡ y
-    second = omega arith
-body-again h (Down x y) l (u, v) = rw (kind, first, second)
-  where
-    kind : codeOf h (Down x y) / 256 % 256 ≡ 2
-    kind = omega arith
-
-    first : codeOf h (Down x y) / 65536 % 256 ≡ x
-    first = omega arith
-
-    second : codeOf h (Down x y) / 16777216 ≡ y
-    second = omega arith
+body-again h (Colour c) l s =
+    let (kind, first, second) = taken h 0 c 0 {n = codeOf h (Colour c)} (omega arith) l (omega arith) s (omega arith) in
+    rw (kind, first)
+body-again h (Across x y) l (u, v) =
+    let (kind, first, second) = taken h 1 x y {n = codeOf h (Across x y)} (omega arith) l (omega arith) (omega arith) (omega arith) in
+    rw (kind, first, second)
+body-again h (Down x y) l (u, v) =
+    let (kind, first, second) = taken h 2 x y {n = codeOf h (Down x y)} (omega arith) l (omega arith) (omega arith) (omega arith) in
+    rw (kind, first, second)
 
 head-again : (h : ℕ) (x : Body) → h < 32 → BodySmall x → codeOf h x % 256 ≡ h
 head-again h (Colour c) l s = omega arith

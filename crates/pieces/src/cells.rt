@@ -22,7 +22,7 @@ fn number_of(book: &[u8], c: Colours, sheet: &[u8], g: Sheet, i: usize) -> u8
 }
 
 // The numbers of the first so many cells.
-pub fn number_cells(
+pub(crate) fn number_cells(
     book: &[u8],
     c: Colours,
     sheet: &[u8],
@@ -41,7 +41,7 @@ pub fn number_cells(
 }
 
 // The entries of the first so many cells, by the masks of their colours.
-pub fn paint_cells(rules: &[u32], colours: &[u8], count: usize, work: &mut [u32])
+pub(crate) fn paint_cells(rules: &[u32], colours: &[u8], count: usize, work: &mut [u32])
     requires { ⌜ (length (now rules) ≡ 1265) × (count ≤ length (now colours)) × (count ≤ length (now work)) × ((i : ℕ) → i < count → getD (now colours) i 0 < 65) ⌝ }
     ensures { λ _. ⌜ Begun (now (rules .entry)) (now (colours .entry)) count (now (work .entry)) (now (work .exit)) ⌝ }
 {

@@ -16,7 +16,7 @@ ghost use Rattle.pieces.specs.View.{Tabled, Ready, hasBit, hasColour, se
 ghost use Rattle.pieces.specs.Choice.{covers, joinedAt, offered, choose};
 
 // Nothing, since no rule fits; a colour rule, by its number; or a join, by its number, direction, cut and the motifs of its two parts.
-pub enum Choice {
+pub(crate) enum Choice {
     NoRule,
     Leaf(usize),
     Join(usize, Direction, usize, usize, usize),
@@ -85,7 +85,7 @@ fn offer(
 }
 
 // The rules are tried in their order: the first with the motif for its head that offers something is taken.
-pub fn choose(
+pub(crate) fn choose(
     row: &[u32],
     work: &[u32],
     colours: &[u8],

@@ -8,17 +8,17 @@ ghost use Rattle.pieces.specs.Course.{step, Steps, courseOf};
 
 // The first part's slot rises, each time by less, and the second part's falls, each time by more; both steps change by one number.
 // `second` is a cut behind: before the first cut it is the slot of the whole piece.
-pub struct Course {
-    pub cuts: usize,
-    pub first: usize,
-    pub rise: usize,
-    pub second: usize,
-    pub fall: usize,
-    pub change: usize,
+pub(crate) struct Course {
+    pub(crate) cuts: usize,
+    pub(crate) first: usize,
+    pub(crate) rise: usize,
+    pub(crate) second: usize,
+    pub(crate) fall: usize,
+    pub(crate) change: usize,
 }
 
 // From one cut to the next.
-pub fn next_cut(c: Course) -> Course
+pub(crate) fn next_cut(c: Course) -> Course
     requires { ⌜ Steps c ⌝ }
     ensures { λ r. ⌜ r ≡ step c ⌝ }
 {
@@ -33,7 +33,7 @@ pub fn next_cut(c: Course) -> Course
 }
 
 // The course of the across cuts of a piece in a slot.
-pub fn across_course(m: usize, n: usize, p: Piece, slot: usize) -> Course
+pub(crate) fn across_course(m: usize, n: usize, p: Piece, slot: usize) -> Course
     requires { ⌜ Room m n × Inside m n p × (slot ≡ slotOf m n p) ⌝ }
     ensures { λ r. ⌜ r ≡ courseOf across m n p ⌝ }
 {
@@ -59,7 +59,7 @@ pub fn across_course(m: usize, n: usize, p: Piece, slot: usize) -> Course
 }
 
 // The course of the down cuts of a piece in a slot.
-pub fn down_course(m: usize, n: usize, p: Piece, slot: usize) -> Course
+pub(crate) fn down_course(m: usize, n: usize, p: Piece, slot: usize) -> Course
     requires { ⌜ Room m n × Inside m n p × (slot ≡ slotOf m n p) ⌝ }
     ensures { λ r. ⌜ r ≡ courseOf down m n p ⌝ }
 {

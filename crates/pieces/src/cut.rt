@@ -14,7 +14,7 @@ ghost use Rattle.pieces.specs.View.{Tabled, hasBit};
 ghost use Rattle.pieces.specs.Choice.{works, cutOf};
 
 // Whether a motif has its bit set at a piece. An entry has 32 bits.
-pub fn has(work: &[u32], rows: usize, cols: usize, p: Piece, motif: usize) -> bool
+pub(crate) fn has(work: &[u32], rows: usize, cols: usize, p: Piece, motif: usize) -> bool
     requires { ⌜ Tabled rows cols (now work) × Inside rows cols p ⌝ }
     ensures { λ r. ⌜ r ≡ hasBit rows cols (now (work .entry)) motif p ⌝ }
 {
@@ -50,7 +50,7 @@ fn works(
 }
 
 // The smallest cut that works, or the piece's reach where none does.
-pub fn smallest_cut(
+pub(crate) fn smallest_cut(
     work: &[u32],
     rows: usize,
     cols: usize,

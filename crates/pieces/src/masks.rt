@@ -9,9 +9,9 @@ ghost use Rattle.pieces.specs.Masks.{join, putJoin, putRule, countRule, 
 ghost use Rattle.pieces.specs.Painted.{SmallRules, SplitInto};
 
 // How many joins a family has in each direction.
-pub struct Joins {
-    pub across: usize,
-    pub down: usize,
+pub(crate) struct Joins {
+    pub(crate) across: usize,
+    pub(crate) down: usize,
 }
 
 // The mask of one motif.
@@ -63,7 +63,7 @@ fn put_rule(r: Rule, rules: &mut [u32], joins: Joins) -> Joins
 }
 
 // The masks of all rules of a family, in order.
-pub fn split(f: Family, rules: &mut [u32]) -> Joins
+pub(crate) fn split(f: Family, rules: &mut [u32]) -> Joins
     requires { ⌜ SmallRules f × (now rules ≡ replicate 1265 0) ⌝ }
     ensures { λ r. ⌜ SplitInto f (now (rules .exit)) r ⌝ }
 {

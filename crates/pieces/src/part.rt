@@ -5,13 +5,13 @@ ghost use Prim.Native.Nat.{_+_, _≤_};
 ghost use Rattle.pieces.specs.Direction.{reach, front, back};
 
 // The two ways of joining.
-pub enum Direction {
+pub(crate) enum Direction {
     Across,
     Down,
 }
 
 // How far a piece reaches in a direction: its width, or its height.
-pub fn reach(p: Piece, d: Direction) -> usize
+pub(crate) fn reach(p: Piece, d: Direction) -> usize
     ensures { λ r. ⌜ r ≡ reach d p ⌝ }
 {
     match d {
@@ -21,7 +21,7 @@ pub fn reach(p: Piece, d: Direction) -> usize
 }
 
 // The first k columns, or rows.
-pub fn front(p: Piece, d: Direction, k: usize) -> Piece
+pub(crate) fn front(p: Piece, d: Direction, k: usize) -> Piece
     ensures { λ r. ⌜ r ≡ front d k p ⌝ }
 {
     match d {
@@ -41,7 +41,7 @@ pub fn front(p: Piece, d: Direction, k: usize) -> Piece
 }
 
 // The rest of them. The piece lies on a sheet of at most 24 rows and columns and the cut in the piece, so that nothing wraps.
-pub fn back(p: Piece, d: Direction, k: usize) -> Piece
+pub(crate) fn back(p: Piece, d: Direction, k: usize) -> Piece
     requires { ⌜ (k ≤ reach d p) × (p .top + p .height ≤ 24) × (p .left + p .width ≤ 24) ⌝ }
     ensures { λ r. ⌜ r ≡ back d k p ⌝ }
 {

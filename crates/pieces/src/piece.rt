@@ -4,15 +4,15 @@ ghost use Prim.Native.Nat.{_*_, _≤_, _<_};
 ghost use Rattle.pieces.specs.Pieces.{most, Inside, Room, stretches, total, slotOf, NextTo};
 
 // So many rows and columns, from a top row and a left column on.
-pub struct Piece {
-    pub height: usize,
-    pub width: usize,
-    pub top: usize,
-    pub left: usize,
+pub(crate) struct Piece {
+    pub(crate) height: usize,
+    pub(crate) width: usize,
+    pub(crate) top: usize,
+    pub(crate) left: usize,
 }
 
 // A product of two small numbers.
-pub fn times(a: usize, b: usize) -> usize
+pub(crate) fn times(a: usize, b: usize) -> usize
     requires { ⌜ (a ≤ 600) × (b ≤ 600) ⌝ }
     ensures { λ r. ⌜ (r ≡ a * b) × (r ≤ 360000) ⌝ }
 {
@@ -20,7 +20,7 @@ pub fn times(a: usize, b: usize) -> usize
 }
 
 // The stretches of at most k cells in a row of n cells.
-pub fn stretches_of(n: usize, k: usize) -> usize
+pub(crate) fn stretches_of(n: usize, k: usize) -> usize
     requires { ⌜ (n ≤ most) × (k ≤ n) ⌝ }
     ensures { λ r. ⌜ (r ≡ stretches n k) × (r ≤ 576) ⌝ }
 {
@@ -28,7 +28,7 @@ pub fn stretches_of(n: usize, k: usize) -> usize
 }
 
 // The number of pieces of a sheet.
-pub fn count(m: usize, n: usize) -> usize
+pub(crate) fn count(m: usize, n: usize) -> usize
     requires { ⌜ Room m n ⌝ }
     ensures { λ r. ⌜ (r ≡ total m n) × (r ≤ 360000) ⌝ }
 {
@@ -36,7 +36,7 @@ pub fn count(m: usize, n: usize) -> usize
 }
 
 // Where the table has a piece.
-pub fn slot(m: usize, n: usize, p: Piece) -> usize
+pub(crate) fn slot(m: usize, n: usize, p: Piece) -> usize
     requires { ⌜ Room m n × Inside m n p ⌝ }
     ensures { λ r. ⌜ (r ≡ slotOf m n p) × (r < total m n) ⌝ }
 {
@@ -49,7 +49,7 @@ pub fn slot(m: usize, n: usize, p: Piece) -> usize
 
 // The piece after p in the table: one to the right; at the end of a row, in the next row; after the last row, one column wider; and
 // after the widest, one row taller.
-pub fn next(m: usize, n: usize, p: Piece) -> Piece
+pub(crate) fn next(m: usize, n: usize, p: Piece) -> Piece
     requires { ⌜ Room m n × Inside m n p ⌝ }
     ensures { λ r. ⌜ NextTo m n p r ⌝ }
 {

@@ -34,7 +34,7 @@ fn body_of(kind: u32, x: u8, y: u8) -> Body
 }
 
 // The rule of a number.
-pub fn rule_of(n: u32) -> Rule
+pub(crate) fn rule_of(n: u32) -> Rule
     ensures { λ r. ⌜ r ≡ ruleOf n ⌝ }
 {
     let body = body_of(n / 256 % 256, (n / 65536 % 256) as u8, (n / 16777216) as u8);
@@ -45,7 +45,7 @@ pub fn rule_of(n: u32) -> Rule
 }
 
 // The first rules of a family, laid out in a row.
-pub fn lay_out(rules: [Rule; 200], count: usize, row: &mut [u32])
+pub(crate) fn lay_out(rules: [Rule; 200], count: usize, row: &mut [u32])
     requires { ⌜ (count ≤ 200) × (count ≤ length (now row)) ⌝ }
     ensures { λ _. ⌜ LaidOut rules count (now (row .exit)) ⌝ }
 {

@@ -118,7 +118,7 @@ fn fill(work: &mut [u32], rules: &[u32], joins: Joins, m: usize, n: usize)
 }
 
 // The table of a sheet for a family, by the numbers that the colours of its cells have there.
-pub fn fill_table(f: Family, colours: &[u8], m: usize, n: usize, work: &mut [u32])
+pub(crate) fn fill_table(f: Family, colours: &[u8], m: usize, n: usize, work: &mut [u32])
     requires { ⌜ SmallRules f × Room m n × (total m n ≤ length (now work)) ⌝ }
     requires { ⌜ (m * n ≤ length (now colours)) × ((i : ℕ) → i < m * n → getD (now colours) i 0 < 65) ⌝ }
     ensures { λ _. ⌜ Made f (now (colours .entry)) m n (now (work .entry)) (now (work .exit)) ⌝ }

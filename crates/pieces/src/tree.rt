@@ -19,7 +19,7 @@ ghost use Rattle.pieces.specs.Wrote.{Wrote, outcome};
 ghost use Rattle.pieces.specs.Derivation.{treeAnswer};
 
 // Where the numbers of a tree end, or that at some node of it no rule fits.
-pub enum Written {
+pub(crate) enum Written {
     Upto(usize),
     NoRule,
 }
@@ -115,7 +115,7 @@ fn clear(tree: &mut [u16], n: usize)
 
 // The tree of a start motif at a whole sheet, at the start of the slice, and 0; or 14 where at some node no rule fits, and as many zeros
 // stand for it.
-pub fn write_tree(
+pub(crate) fn write_tree(
     row: &[u32],
     start: usize,
     work: &[u32],

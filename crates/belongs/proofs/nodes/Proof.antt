@@ -10,9 +10,6 @@ use Rattle.books.proofs.ReadingSheets.{sheet-lies, sheet-refused}
 use borrow.Author.Needs.{needs}
 use Rattle.belongs.proofs.nodes.Statement.{statement}
 use Rattle.belongs.proofs.nodes.Tie as tie
-use Rattle.belongs.proofs.nodes.Reads as reads
-use Rattle.belongs.proofs.nodes.Lts as lts
-use Rattle.books.proofs.sheet.read_sheet.Reads as read-sheet-reads
 
 -- a sheet that was read has few cells, and a refused one has none
 few : (s : List ℕ) → sheetOf s .sheet .rows * sheetOf s .sheet .cols ≤ 144
@@ -22,27 +19,21 @@ few s = go (ℕ-discrete (sheetOf s .fault .number) 0)
     go (yes z) = sheet-lies s z .area-few
     go (no n) = rw (sheet-refused s n .none) (omega arith)
 
--- src/main.rt:37:9
 read-sheet-requires : tie.Need-read-sheet-requires
 read-sheet-requires c κs = search needs
 
--- src/main.rt:39:17
 mul-cells : tie.Need-mul-cells
 mul-cells c = let area = rw (← c .before .before .read-sheet .ensures) at (few (now (c .before .before .before .before .args .sheet))) in omega arith
 
--- src/main.rt:41:9
 returns : tie.Need-returns
 returns c = search needs
 
--- src/main.rt:43:5
 mul-result : tie.Need-mul-result
 mul-result c = let area = rw (← c .before .before .before .read-sheet .ensures) at (few (now (c .before .before .before .before .before .args .sheet))) in omega arith
 
--- src/main.rt:43:5
 sub-result : tie.Need-sub-result
 sub-result c = search needs
 
--- src/main.rt:34:1
 returns-2 : tie.Need-returns-2
 returns-2 c = let area = rw (← c .before .before .before .read-sheet .ensures) at (few (now (c .before .before .before .before .before .args .sheet))) in omega arith
 

@@ -49,8 +49,11 @@ slice-aggregate-result c = search needs
 
 returns : tie.Need-returns
 returns c =
-    let s = now (c .before .before .before .before .before .before .before .before .args .book) in
-    simp (shown-there s (c .before .before .before .before .before .before .before .before .args .number) (rw (c .before .before .before .before .before .before .read-book .ensures) at (c .before .before .before .if1 .taken)), ← c .before .before .before .before .before .before .read-book .ensures, add-sub-cancel-left)
+    let t = c .before .before .before in
+    let b = t .before .before .before in
+    let a = b .before .before .args in
+    let read = b .read-book .ensures in
+    simp (shown-there (now (a .book)) (a .number) (rw read at (t .if1 .taken)), ← read, add-sub-cancel-left)
 
 returns-2 : tie.Need-returns-2
 returns-2 c =

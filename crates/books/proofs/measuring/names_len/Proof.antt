@@ -49,14 +49,20 @@ spelled-len-requires : tie.Need-spelled-len-requires Inv-loop μ-loop
 spelled-len-requires c κs = tt
 
 -- the part that is measured is the name at the loop's place
-part-named : (c : tie.After-spelled-len Inv-loop μ-loop) → now (c .before .front .result) ≡ nameIn (now (c .before .before .before .before .before .before .before .before .args .s)) (c .before .before .before .before .before .before .before .before .args .t2) (c .before .before .before .before .before .before .loop .i)
+part-named : (c : tie.After-spelled-len Inv-loop μ-loop) →
+    let t = c .before .before .before .before .before .before in
+    let a = t .before .before .args in
+    now (c .before .front .result) ≡ nameIn (now (a .s)) (a .t2) (t .loop .i)
 part-named c = rw (← c .before .before .tail .ensures) (c .before .front .ensures)
 
 -- and is no longer than a byte can say
 part-few : (c : tie.After-spelled-len Inv-loop μ-loop) → length (now (c .before .front .result)) ≤ 255
 part-few c =
-    let byte : Fits w8 (getD (c .before .before .before .before .before .before .before .before .args .t2 .lens) (c .before .before .before .before .before .before .loop .i) 0) = search needs in
-    omega (arith, ap length (part-named c), take-few (getD (c .before .before .before .before .before .before .before .before .args .t2 .lens) (c .before .before .before .before .before .before .loop .i) 0) (drop (getD (c .before .before .before .before .before .before .before .before .args .t2 .starts) (c .before .before .before .before .before .before .loop .i) 0) (now (c .before .before .before .before .before .before .before .before .args .s))))
+    let t = c .before .before .before .before .before .before in
+    let a = t .before .before .args in
+    let i = t .loop .i in
+    let byte : Fits w8 (getD (a .t2 .lens) i 0) = search needs in
+    omega (arith, ap length (part-named c), take-few (getD (a .t2 .lens) i 0) (drop (getD (a .t2 .starts) i 0) (now (a .s))))
 
 add-sum : tie.Need-add-sum Inv-loop μ-loop
 add-sum c = omega (arith, spell-few (length (now (c .before .front .result))), part-few c)

@@ -37,11 +37,15 @@ enum-known-n c = search needs
 
 add-t14 : tie.Need-add-t14
 add-t14 c =
-    let s = now (c .before .before .before .before .before .before .before .before .before .before .args .s) in
-    let g = number-in s _ 1 40 _ _ (sym (c .before .before .before .before .before .before .before .before .read-in .ensures) ∙ c .before .before .before .before .before .before .r2 .given .1) in
-    let b = name-bad (now (c .before .before .before .before .tail .result)) _ _ (sym (c .before .before .before .read-name .ensures) ∙ c .before .n .given .1) in
-    let l : length (now (c .before .before .before .before .tail .result)) ≡ length s - c .before .before .before .before .before .before .r2 .given .0 .1 .0 = ap length (c .before .before .before .before .tail .ensures) ∙ length-drop _ s in
-    omega (arith, c .before .before .before .before .before .before .before .before .before .before .good)
+    let t = c .before .before .before .before in
+    let r = t .before .before in
+    let start = r .before .before .before .before in
+    let s = now (start .args .s) in
+    let text = now (t .tail .result) in
+    let g = number-in s _ 1 40 _ _ (sym (r .before .before .read-in .ensures) ∙ r .r2 .given .1) in
+    let b = name-bad text _ _ (sym (c .before .before .before .read-name .ensures) ∙ c .before .n .given .1) in
+    let l : length text ≡ length s - r .r2 .given .0 .1 .0 = ap length (t .tail .ensures) ∙ length-drop _ s in
+    omega (arith, start .good)
 
 returns : tie.Need-returns
 unfolding colourAt
@@ -49,15 +53,24 @@ returns c = simp (sym (c .before .before .before .read-in .ensures) ∙ c .befor
 
 returns-2 : tie.Need-returns-2
 unfolding colourAt
-returns-2 c = simp ((sym (c .before .before .before .before .before .before .before .read-in .ensures) ∙ c .before .before .before .before .before .r2 .given .1), ← c .before .before .before .tail .ensures, ← c .before .before .read-name .ensures, c .enum-told .given .1)
+returns-2 c =
+    let t = c .before .before .before in
+    let r = t .before .before in
+    simp ((sym (r .before .before .read-in .ensures) ∙ r .r2 .given .1), ← t .tail .ensures, ← c .before .before .read-name .ensures, c .enum-told .given .1)
 
 returns-3 : tie.Need-returns-3
 unfolding colourAt
-returns-3 c = simp ((sym (c .before .before .before .before .before .before .before .read-in .ensures) ∙ c .before .before .before .before .before .r2 .given .1), ← c .before .before .before .tail .ensures, ← c .before .before .read-name .ensures, c .enum-told2 .given .1)
+returns-3 c =
+    let t = c .before .before .before in
+    let r = t .before .before in
+    simp ((sym (r .before .before .read-in .ensures) ∙ r .r2 .given .1), ← t .tail .ensures, ← c .before .before .read-name .ensures, c .enum-told2 .given .1)
 
 returns-4 : tie.Need-returns-4
 unfolding colourAt
-returns-4 c = simp ((sym (c .before .before .before .before .before .before .before .before .read-in .ensures) ∙ c .before .before .before .before .before .before .r2 .given .1), ← c .before .before .before .before .tail .ensures, ← c .before .before .before .read-name .ensures, c .before .n .given .1)
+returns-4 c =
+    let t = c .before .before .before .before in
+    let r = t .before .before in
+    simp ((sym (r .before .before .read-in .ensures) ∙ r .r2 .given .1), ← t .tail .ensures, ← c .before .before .before .read-name .ensures, c .before .n .given .1)
 
 pub read-colour-spec : {M : Type 1} → statement M
 read-colour-spec =

@@ -39,9 +39,11 @@ find-name-requires c κs = search needs
 
 cast-result : tie.Need-cast-result
 cast-result c =
-    let a = c .before .before .before .before .before .before .before .before .args in
+    let s = c .before .before .before .before .before .before .before .before in
+    let a = s .args in
     let name = take (getD (a .t4 .colours .lens) (getD (a .t4 .cells) (a .i) 0) 0) (now (c .before .tail .result)) in
-    omega (arith, c .find-name .ensures, find-place (now (a .book)) (a .c) name (c .before .before .before .before .before .before .before .before .pre .0), place-le (namesIn (now (a .book)) (a .c)) name, names-count (now (a .book)) (a .c), c .before .before .before .before .before .before .before .before .pre .0)
+    let found = find-place (now (a .book)) (a .c) name (s .pre .0) in
+    omega (arith, c .find-name .ensures, found, place-le (namesIn (now (a .book)) (a .c)) name, names-count (now (a .book)) (a .c), s .pre .0)
 
 returns : tie.Need-returns
 returns c = rw (← c .before .tail .ensures) (c .find-name .ensures)

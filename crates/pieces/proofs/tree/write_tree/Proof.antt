@@ -6,6 +6,10 @@ use Rattle.pieces.proofs.Writing.{wrote-found, wrote-lost}
 use Rattle.pieces.proofs.tree.write_tree.Statement.{statement}
 use Rattle.pieces.proofs.tree.write_tree.Tie as tie
 
+-- After the tree was tried: where the call began.
+abbrev began : tie.After-pick-node → tie.Start
+began k = k .before .before .before .before .before .before
+
 pick-node-requires : tie.Need-pick-node-requires
 pick-node-requires c κs = search needs
 
@@ -23,7 +27,7 @@ mul-clear c = search needs
 
 sub-clear : tie.Need-sub-clear
 sub-clear c =
-    let size = c .before .before .before .before .before .before .before .before .before .before .before .before .pre .1 .tabled .sizes in
+    let size = began (c .before .before .before .before .before .before) .pre .1 .tabled .sizes in
     omega (arith, c .times .ensures .0, area-pos _ _ _ (whole-inside _ _ (size .rows-some) (size .cols-some)))
 
 mul-clear-2 : tie.Need-mul-clear-2
