@@ -24,3 +24,4 @@ pub mod SpellingDrafts
 pub mod Packing
 pub mod Showing
 pub mod Settled
+pub mod Ordering

@@ -18,3 +18,4 @@ pub mod Wrote
 pub mod Draft
 pub mod Answer
 pub mod Calls
+pub mod Order

@@ -6,6 +6,7 @@ pub mod calls;
 mod cells;
 pub mod family;
 mod measuring;
+pub mod order;
 pub mod rule;
 mod rules;
 pub mod sheet;

@@ -5,7 +5,7 @@ use crate::number;
 use crate::number::Fault;
 use crate::number::Read;
 ghost use mathlib.Core.Path.{_≡_};
-ghost use Prim.Native.Nat.{_≤_};
+ghost use Prim.Native.Nat.{_≤_, _<_};
 ghost use lib.ListN.{take};
 ghost use Rattle.names.specs.Colours.{nameIn, findName, colourAt, noColours, refusedColours, coloursFrom, coloursOf};
 
@@ -69,6 +69,16 @@ pub fn find_name(s: &[u8], c: Colours, name: &[u8], len: usize) -> usize
         j += 1;
     }
     n
+}
+
+// The same for the name of colour i in a list over t.
+pub fn find_in(s: &[u8], c: Colours, t: &[u8], d: Colours, i: usize) -> usize
+    requires { ⌜ i < 64 ⌝ }
+    ensures { λ r. ⌜ r ≡ findName (now (s .entry)) c (nameIn (now (t .entry)) d i) ⌝ }
+{
+    let start = d.starts[i] as usize;
+    let len = d.lens[i] as usize;
+    find_name(s, c, name::tail(t, start), len)
 }
 
 // A length 1 to 40, then a name of that many bytes.

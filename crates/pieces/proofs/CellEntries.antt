@@ -78,7 +78,7 @@ module _ (book : List ℕ) (f : Family) (keeps : Keeps (contentsIn book f)) (all
     abbrev number : ℕ
     number = findName book (f .colours) (q .cell 0 0)
 
-    painted : (a : ℕ) → bit (paintersOf f number) a ≡ 1 → (a < b .motifs) × Derives b a q
+    painted : (a : ℕ) → bit (paintersOf (f .rules) (f .count) number) a ≡ 1 → (a < b .motifs) × Derives b a q
     unfolding paintersOf
     painted a o =
         let v = gathered-has (f .count) (painterAt (f .rules) number) a o in
@@ -95,7 +95,7 @@ module _ (book : List ℕ) (f : Family) (keeps : Keeps (contentsIn book f)) (all
         same : (r : Rule) {k : ℕ} {x : Body} → k ≡ r .head → r .body ≡ x → r ≡ record { head = k; body = x }
         same r e g = λ j. record { head = sym e j; body = g j }
 
-    paints : (a : ℕ) → Derives b a q → bit (paintersOf f number) a ≡ 1
+    paints : (a : ℕ) → Derives b a q → bit (paintersOf (f .rules) (f .count) number) a ≡ 1
     unfolding paintersOf
     paints a (paint c h hr hc e) =
         let v = member-at (b .rules) noRule h in
@@ -108,10 +108,10 @@ module _ (book : List ℕ) (f : Family) (keeps : Keeps (contentsIn book f)) (all
     paints a (join across l r k h hk hs u v) = absurd (omega arith)
     paints a (join down l r k h hk hs u v) = absurd (omega arith)
 
-    pub painters-entry : paintersOf f number ≡ entry b q
+    pub painters-entry : paintersOf (f .rules) (f .count) number ≡ entry b q
     unfolding paintersOf
     painters-entry =
-        same-bits (b .motifs) (paintersOf f number) (entry b q)
+        same-bits (b .motifs) (paintersOf (f .rules) (f .count) number) (entry b q)
         (gathered-lt (b .motifs) (f .count) (painterAt (f .rules) number) (λ i h. painter-lt (b .motifs) number _ (getD (f .rules) i noRule .body) (keeps .sound .rules-fit _ (rule-in i h) .head-fits)))
         (entry-lt b q)
-        (λ a h. same-bit (paintersOf f number) (entry b q) a (λ o. derives-entry b q a h (painted a o .1)) (λ o. paints a (entry-derives b q a o)))
+        (λ a h. same-bit (paintersOf (f .rules) (f .count) number) (entry b q) a (λ o. derives-entry b q a h (painted a o .1)) (λ o. paints a (entry-derives b q a o)))

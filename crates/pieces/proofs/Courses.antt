@@ -61,22 +61,25 @@ first-next down {m} {n} {p} k i h =
 with-own : (n w : ℕ) → 1 ≤ w → stretches n w ≡ stretches n (w - 1) + (n - (w - 1))
 with-own n w h = let e : w - 1 + 1 ≡ w = omega arith in ap (stretches n) (sym e) ∙ stretches-next n (w - 1)
 
+-- what k + 1 of w cells leave is one less than what k leave; and by how much it falls short of n
+one-less : (w k : ℕ) → k + 1 < w → w - k - 1 ≡ w - (k + 1) - 1 + 1
+one-less w k h = omega arith
+
+from-end : (n w k : ℕ) → k + 1 < w → w ≤ n → n + 2 + k - w ≡ n - (w - (k + 1) - 1)
+from-end n w k h l = omega arith
+
 pub rest-next : (d : Dir) {m n : ℕ} {p : Piece} (k : ℕ) → Inside m n p → k + 1 < extent d p
     → slotOf m n (restPart d (k + 1) p) + (cells d m n + 2 + k - extent d p) * change d m n p ≡ slotOf m n (restPart d k p) + shorter d n p
 unfolding slotOf
 rest-next across {m} {n} {p} k i h =
     let x = p .width - (k + 1) - 1 in
-    let a : p .width - k - 1 ≡ x + 1 = omega arith in
-    let b : n + 2 + k - p .width ≡ n - x = omega arith in
     let e : p .left + (k + 1) ≡ p .left + k + 1 = omega arith in
-    rw (a, b, e)
+    rw (one-less (p .width) k h, from-end n (p .width) k h (omega arith), e)
     (omega (arith, wider m n (p .height - 1) x (p .top) (p .left + k) (omega arith), righter m n (p .height - 1) x (p .top) (p .left + k)))
 rest-next down {m} {n} {p} k i h =
     let x = p .height - (k + 1) - 1 in
-    let a : p .height - k - 1 ≡ x + 1 = omega arith in
-    let b : m + 2 + k - p .height ≡ m - x = omega arith in
     let e : p .top + (k + 1) ≡ p .top + k + 1 = omega arith in
-    rw (a, b, e)
+    rw (one-less (p .height) k h, from-end m (p .height) k h (omega arith), e)
     (omega
     (arith, taller m n x (p .width - 1) (p .top + k) (p .left) (omega arith), lower m n x (p .width - 1) (p .top + k) (p .left), with-own n (p .width) (i .wide)))
 

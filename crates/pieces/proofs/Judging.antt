@@ -17,33 +17,24 @@ use Rattle.names.proofs.Picking.{pick-ind}
 use Rattle.names.proofs.Tests.{lt-or-le}
 use Rattle.names.proofs.Finding.{find-place}
 use Rattle.names.proofs.ReadingColours.{names-count}
-use Rattle.names.proofs.SpellingNumbers.{Bytes}
 use Rattle.books.specs.Contents.{Contents}
 use Rattle.books.specs.Picture.{Picture}
 use Rattle.books.specs.Derives.{Derives}
 use Rattle.books.specs.Decide.{derives?}
-use Rattle.books.specs.Book.{bookOf}
-use Rattle.books.specs.Sheet.{sheetOf}
 use Rattle.books.specs.Answer.{plain}
 use Rattle.books.specs.declared.answer.Answer.{Answer}
 use Rattle.books.specs.Held.{contentsIn, gridIn}
 use Rattle.books.specs.Grid.{picture}
 use Rattle.books.specs.declared.family.Family.{Family}
 use Rattle.books.specs.declared.sheet.Sheet.{Sheet}
-use Rattle.books.specs.declared.book.BookRead.{BookRead}
-use Rattle.books.specs.declared.sheet.SheetRead.{SheetRead}
 use Rattle.books.proofs.Deciding.{decided, refused}
-use Rattle.books.proofs.ReadingBooks.{book-lies, book-accepted}
-use Rattle.books.proofs.ReadingSheets.{sheet-lies}
-use Rattle.books.proofs.SpellingSheets.{sheet-accepted}
 use Rattle.pieces.specs.declared.piece.Piece.{Piece}
 use Rattle.pieces.specs.Pieces.{piece, pieces, Inside, slotOf, total}
-use Rattle.pieces.specs.Area.{whole}
+use Rattle.pieces.specs.Area.{whole, treeSize}
 use Rattle.pieces.specs.Table.{bit, cut, entry, table}
 use Rattle.pieces.specs.View.{Exact, hasBit, seen}
 use Rattle.pieces.specs.Tree.{tree, treeOf}
 use Rattle.pieces.specs.Wrote.{found, outcome}
-use Rattle.pieces.specs.Painted.{AsRead, Numbered}
 use Rattle.pieces.specs.Settled.{Made}
 use Rattle.pieces.specs.Verdict.{Verdict, verdict, lacking}
 use Rattle.pieces.specs.Derivation.{Derivation, leaving, entriesNeeded, numbersNeeded, filled, Holds, treeAnswer, judged, roomed}
@@ -54,19 +45,7 @@ use Rattle.pieces.proofs.TableEntries.{getD-map}
 use Rattle.pieces.proofs.Cutting.{whole-inside, cut-whole}
 use Rattle.pieces.proofs.ExactViews.{seen-exact}
 use Rattle.pieces.proofs.TheTree.{exact-tree}
-use Rattle.pieces.proofs.WholeTable.{book-colours, cell-name, whole-table}
-
--- a book and a sheet that are accepted are as reading gives them
-pub as-read : (book sheet : List ℕ) (b : BookRead) (s : SheetRead) → b ≡ bookOf book → s ≡ sheetOf sheet → Bytes book → Bytes sheet
-    → bookOf book .fault .number ≡ 0 → sheetOf sheet .fault .number ≡ 0 → AsRead book (b .family) sheet (s .sheet)
-as-read book sheet b s eb es hb hs zb zs =
-    rw (eb, es) (record {
-      book-keeps = book-accepted book hb zb .keeps;
-      rules-few = book-lies book zb .rules-few;
-      rules-size = book-lies book zb .rules-size;
-      sheet-keeps = sheet-accepted sheet hs zs .keeps;
-      area-few = sheet-lies sheet zs .area-few;
-    })
+use Rattle.pieces.proofs.WholeTable.{AsRead, Numbered, book-colours, cell-name, whole-table}
 
 -- ── A slice that holds the table ──
 
@@ -172,7 +151,7 @@ module _ {book : List ℕ} {f : Family} {bytes : List ℕ} {g : Sheet} (given : 
 
 -- A table that was made is judged as the definition has it.
 module _ {book : List ℕ} {f : Family} {bytes : List ℕ} {g : Sheet} (given : AsRead book f bytes g) (cells before after : List ℕ)
-    (numbered : Numbered book f bytes g cells) (made : Made f cells (g .rows) (g .cols) before after) (same : length before ≡ length after)
+    (numbered : Numbered book f bytes g cells) (made : Made (f .rules) (f .count) cells (g .rows) (g .cols) before after) (same : length before ≡ length after)
     (enough : total (g .rows) (g .cols) ≤ length before) (tree-slice : List ℕ) where
   abbrev contents : Contents
   contents = contentsIn book f
@@ -195,6 +174,16 @@ module _ {book : List ℕ} {f : Family} {bytes : List ℕ} {g : Sheet} (given : 
 
 -- ── The room ──
 
+-- slices that lack nothing are long enough
+pub nothing-lacks : (m n entries numbers : ℕ) → lacking m n entries numbers ≡ 0 → (total m n ≤ entries) × (treeSize (whole m n) ≤ numbers)
+unfolding lacking
+nothing-lacks m n entries numbers z = go (decLt entries (total m n)) (decLt numbers (treeSize (whole m n)))
+  where
+    go : Dec (entries < total m n) → Dec (numbers < treeSize (whole m n)) → (total m n ≤ entries) × (treeSize (whole m n) ≤ numbers)
+    go (yes e) d = let no : _≡_ {A = ℕ} 9 0 = simp (lt-ltb _ _ e) at z in absurd (omega arith)
+    go (no e) (yes d) = let no : _≡_ {A = ℕ} 10 0 = simp (le-ltb entries (total m n) (omega arith), lt-ltb _ _ d) at z in absurd (omega arith)
+    go (no e) (no d) = (omega arith, omega arith)
+
 module _ (b : Contents) (p : Picture) (entries numbers : List ℕ) where
   abbrev lack : ℕ
   lack = lacking (p .rows) (p .cols) (length entries) (length numbers)
@@ -209,13 +198,8 @@ module _ (b : Contents) (p : Picture) (entries numbers : List ℕ) where
       go (no e) (yes d) = simp (le-ltb (length entries) (entriesNeeded p) (omega arith), lt-ltb _ _ d)
       go (no e) (no d) = absurd (n (simp (le-ltb (length entries) (entriesNeeded p) (omega arith), le-ltb (length numbers) (numbersNeeded p) (omega arith))))
 
-  pub roomed-enough : lack ≡ 0
-      → (entriesNeeded p ≤ length entries) × (numbersNeeded p ≤ length numbers) × (roomed b p entries numbers ≡ judged b p (filled b p entries) numbers)
-  unfolding roomed lacking
-  roomed-enough z = go (decLt (length entries) (entriesNeeded p)) (decLt (length numbers) (numbersNeeded p))
-    where
-      go : Dec (length entries < entriesNeeded p) → Dec (length numbers < numbersNeeded p)
-          → (entriesNeeded p ≤ length entries) × (numbersNeeded p ≤ length numbers) × (roomed b p entries numbers ≡ judged b p (filled b p entries) numbers)
-      go (yes e) d = let no : _≡_ {A = ℕ} 9 0 = simp (lt-ltb _ _ e) at z in absurd (omega arith)
-      go (no e) (yes d) = let no : _≡_ {A = ℕ} 10 0 = simp (le-ltb (length entries) (entriesNeeded p) (omega arith), lt-ltb _ _ d) at z in absurd (omega arith)
-      go (no e) (no d) = (omega arith, omega arith, simp (le-ltb (length entries) (entriesNeeded p) (omega arith), le-ltb (length numbers) (numbersNeeded p) (omega arith)))
+  pub roomed-enough : lack ≡ 0 → roomed b p entries numbers ≡ judged b p (filled b p entries) numbers
+  unfolding roomed
+  roomed-enough z =
+      let enough = nothing-lacks (p .rows) (p .cols) (length entries) (length numbers) z in
+      simp (le-ltb (length entries) (entriesNeeded p) (enough .0), le-ltb (length numbers) (numbersNeeded p) (enough .1))

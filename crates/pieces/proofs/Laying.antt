@@ -267,12 +267,13 @@ laying-step rs rules after j k i l old e g =
       long = ap length g ∙ length-put rules j (r .head) (r .body) ∙ old .long;
     }
 
-pub laying-end : (f : Family) (rules : List ℕ) (j : Joins) → Laying (f .rules) rules j (f .count) → SplitInto f rules j
+pub laying-end : (rs : List Rule) (count : ℕ) (rules : List ℕ) (j : Joins) → Laying rs rules j count → SplitInto rs count rules j
 unfolding paintersOf
-laying-end f rules j v = record { serves = v .served; painters = v .painters }
+laying-end rs count rules j v = record { serves = v .served; painters = v .painters }
 
-pub split-few : (f : Family) (rules : List ℕ) (j : Joins) → SmallRules f → SplitInto f rules j → (j .across ≤ 200) × (j .down ≤ 200)
-split-few f rules j small split =
-    let n = length-take (f .count) (f .rules) in
-    let few : (d : Dir) → countOf j d ≤ 200 = λ d. omega (arith, serves-few _ (masksOf rules) (countOf j) d (split .serves), n, min-le-left (f .count) (length (f .rules)), small .few) in
+pub split-few : (rs : List Rule) (count : ℕ) (rules : List ℕ) (j : Joins) → SmallRules rs count → SplitInto rs count rules j
+    → (j .across ≤ 200) × (j .down ≤ 200)
+split-few rs count rules j small split =
+    let n = length-take count rs in
+    let few : (d : Dir) → countOf j d ≤ 200 = λ d. omega (arith, serves-few _ (masksOf rules) (countOf j) d (split .serves), n, min-le-left count (length rs), small .few) in
     (few across, few down)

@@ -23,7 +23,6 @@ pub mod Fitting
 pub mod Choosing
 pub mod TreeSteps
 pub mod Writing
-pub mod Rows
 pub mod Nodes
 pub mod Giving
 pub mod TreeGiven
@@ -31,4 +30,5 @@ pub mod ExactViews
 pub mod TheTree
 pub mod Judging
 pub mod DerivationAnswers
+pub mod Orders
 pub mod Demand2

@@ -6,7 +6,7 @@ use native.Mathlib.Omega.{arith}
 use borrow.Author.Count.{below-more}
 use lib.ListN.{length, getD, set}
 use lib.Seq.{getD-set-same, getD-set-other}
-use Rattle.books.specs.declared.family.Family.{Family}
+use Rattle.books.specs.declared.rule.Rule.{Rule}
 use Rattle.pieces.specs.Masks.{masksOf, countOf}
 use Rattle.pieces.specs.Painted.{Begun, SplitInto}
 use Rattle.pieces.specs.Pieces.{total}
@@ -27,10 +27,10 @@ begun-step rules cells before t i room old =
     }
 
 -- The masks of the colours at the cells, and the recurrence behind them, make the table.
-pub made : (f : Family) (rules cells : List ℕ) (j : Joins) (m n count : ℕ) (before begun after : List ℕ) → SplitInto f rules j
+pub made : (rs : List Rule) (few : ℕ) (rules cells : List ℕ) (j : Joins) (m n count : ℕ) (before begun after : List ℕ) → SplitInto rs few rules j
     → Begun rules cells count before begun → count ≡ m * n → Filled (plan m n rules j) begun after → m * n ≤ total m n
-    → ((i : ℕ) → i < m * n → getD cells i 0 < 65) → Made f cells m n before after
-made f rules cells j m n count before begun after split cellwise e filled few low =
+    → ((i : ℕ) → i < m * n → getD cells i 0 < 65) → Made rs few cells m n before after
+made rs few rules cells j m n count before begun after split cellwise e filled fit low =
     record {
       masks = masksOf rules;
       count = countOf j;

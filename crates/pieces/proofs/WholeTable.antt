@@ -11,9 +11,10 @@ use Rattle.names.proofs.Finding.{find-place}
 use Rattle.names.proofs.Places.{place-le}
 use Rattle.names.proofs.ReadingColours.{names-count, name-at}
 use Rattle.books.specs.Contents.{Contents}
-use Rattle.books.specs.Grid.{picture}
+use Rattle.books.specs.Grid.{GridKeeps, picture}
 use Rattle.books.specs.Held.{contentsIn, gridIn}
-use Rattle.books.specs.Keeps.{BodyFits}
+use Rattle.books.specs.Keeps.{Keeps, BodyFits}
+use Rattle.books.specs.Order.{numberOf}
 use Rattle.books.specs.Picture.{Picture}
 use Rattle.books.specs.declared.family.Family.{Family}
 use Rattle.books.specs.declared.sheet.Sheet.{Sheet}
@@ -21,13 +22,25 @@ use Rattle.books.specs.declared.rule.Body.{Body}
 use Rattle.books.specs.declared.rule.Body.the-variants.{Colour, Across, Down}
 use Rattle.pieces.specs.Masks.{BodySmall}
 use Rattle.books.specs.Rules.{noRule}
-use Rattle.pieces.specs.Painted.{AsRead, Numbered, SmallRules, paintersOf}
+use Rattle.pieces.specs.Painted.{SmallRules, paintersOf}
 use Rattle.pieces.specs.Pieces.{piece, Room, total}
 use Rattle.pieces.specs.Settled.{Made}
 use Rattle.pieces.specs.Table.{cut, entry, table}
 use Rattle.pieces.proofs.CellEntries.{rule-in, painters-entry}
 use Rattle.pieces.proofs.CellsFirst.{cell-before, cells-few}
 use Rattle.pieces.proofs.SettledTable.{settled-table}
+
+-- what reading gives of a book and of a sheet
+pub record AsRead (book : List ℕ) (f : Family) (bytes : List ℕ) (g : Sheet) : Type 0 where
+  pub book-keeps : Keeps (contentsIn book f)
+  pub rules-few : f .count ≤ 200
+  pub rules-size : length (f .rules) ≡ 200
+  pub sheet-keeps : GridKeeps (gridIn bytes g)
+
+-- the number that the colour of each cell has in the book
+abbrev pub Numbered : List ℕ → Family → List ℕ → Sheet → List ℕ → Type 0
+Numbered book f bytes g numbers =
+    (i : ℕ) → i < g .rows * g .cols → getD numbers i 0 ≡ numberOf book (f .colours) bytes (g .colours) (getD (g .cells) i 0)
 
 -- ---- a rule of a book with at most 32 motifs and 64 colours
 
@@ -45,7 +58,7 @@ module _ {book : List ℕ} {f : Family} {bytes : List ℕ} {g : Sheet} (read : A
   all-rules : f .count ≤ length (f .rules)
   all-rules = omega (arith, read .rules-few, read .rules-size)
 
-  pub small-rules : SmallRules f
+  pub small-rules : SmallRules (f .rules) (f .count)
   small-rules =
       let k = read .book-keeps in
       record {
@@ -66,9 +79,6 @@ module _ {book : List ℕ} {f : Family} {bytes : List ℕ} {g : Sheet} (read : A
   cell-low : (i : ℕ) → i < g .rows * g .cols → getD (g .cells) i 0 < g .colours .count
   cell-low i h =
       omega (arith, cell-at i h, names-count bytes (g .colours), read .sheet-keeps .cells-fit i (omega (arith, read .sheet-keeps .cells-all)))
-
-  pub cells-low : (i : ℕ) → i < g .rows * g .cols → getD (g .cells) i 0 < 64
-  cells-low i h = omega (arith, cell-low i h, read .sheet-keeps .colours-ok .few, names-count bytes (g .colours))
 
   -- ---- the cells
 
@@ -91,10 +101,10 @@ module _ {book : List ℕ} {f : Family} {bytes : List ℕ} {g : Sheet} (read : A
         omega (arith, numbered i h, find-place book (f .colours) n book-colours, place-le (namesIn book (f .colours)) n, names-count book (f .colours), book-colours)
 
     -- The motifs that paint a cell's number are those that derive the cell.
-    painted-entry : (r c : ℕ) → r < g .rows → c < g .cols → paintersOf f (getD cells (r * g .cols + c) 0) ≡ entry b (cut p (piece 1 1 r c))
+    painted-entry : (r c : ℕ) → r < g .rows → c < g .cols → paintersOf (f .rules) (f .count) (getD cells (r * g .cols + c) 0) ≡ entry b (cut p (piece 1 1 r c))
     painted-entry r c hr hc =
-        ap (paintersOf f) (numbered (r * g .cols + c) (cell-before (g .rows) (g .cols) r c hr hc))
-        ∙ ap (λ (n : Name). paintersOf f (findName book (f .colours) n)) (sym (ap₂ (p .cell) (none r) (none c) ∙ cell-name r c hr hc))
+        ap (paintersOf (f .rules) (f .count)) (numbered (r * g .cols + c) (cell-before (g .rows) (g .cols) r c hr hc))
+        ∙ ap (λ (n : Name). paintersOf (f .rules) (f .count) (findName book (f .colours) n)) (sym (ap₂ (p .cell) (none r) (none c) ∙ cell-name r c hr hc))
         ∙ painters-entry book f (read .book-keeps) all-rules (cut p (piece 1 1 r c)) refl refl
       where
         none : (x : ℕ) → x + 0 ≡ x
@@ -102,7 +112,7 @@ module _ {book : List ℕ} {f : Family} {bytes : List ℕ} {g : Sheet} (read : A
 
     -- ---- the whole
 
-    pub whole-table : (before after : List ℕ) → Made f cells (g .rows) (g .cols) before after → length before ≡ length after
+    pub whole-table : (before after : List ℕ) → Made (f .rules) (f .count) cells (g .rows) (g .cols) before after → length before ≡ length after
         → total (g .rows) (g .cols) ≤ length before → after ≡ table b p ++ drop (total (g .rows) (g .cols)) before
     whole-table before after made same enough =
         let n = total (g .rows) (g .cols) in

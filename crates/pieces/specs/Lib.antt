@@ -8,7 +8,6 @@ pub mod Settled
 pub mod Table
 pub mod Direction
 pub mod Area
-pub mod Row
 pub mod View
 pub mod Given
 pub mod Choice

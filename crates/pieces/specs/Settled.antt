@@ -5,7 +5,7 @@ use mathlib.Core.List.{List}
 use lib.Bits.{bitOr}
 use lib.ListN.{getD, take}
 use Rattle.books.specs.Picture.{Dir, across, down}
-use Rattle.books.specs.declared.family.Family.{Family}
+use Rattle.books.specs.declared.rule.Rule.{Rule}
 use Rattle.pieces.specs.Pieces.{Inside, total, slotOf}
 use Rattle.pieces.specs.Parts.{extent, firstPart, restPart}
 use Rattle.pieces.specs.Joined.{gathered, joined}
@@ -49,12 +49,12 @@ pub record Filled (j : Plan) (before after : List ℕ) : Type 0 where
   pub cells : (i : ℕ) → i < j .rows * j .cols → getD after i 0 ≡ getD before i 0
   pub rest : (i : ℕ) → total (j .rows) (j .cols) ≤ i → getD after i 0 ≡ getD before i 0
 
--- a table that was made for a family and the numbers of a sheet's cells: a cell has the motifs that paint it, and every other piece the entry
+-- a table that was made for the first so many rules and the numbers of a sheet's cells: a cell has the motifs that paint it, and every other piece the entry
 -- that those of its parts give
-pub record Made (f : Family) (colours : List ℕ) (m n : ℕ) (before after : List ℕ) : Type 0 where
+pub record Made (rs : List Rule) (few : ℕ) (colours : List ℕ) (m n : ℕ) (before after : List ℕ) : Type 0 where
   pub masks : Dir → List ℕ
   pub count : Dir → ℕ
-  pub serves : Serves (take (f .count) (f .rules)) masks count
+  pub serves : Serves (take few rs) masks count
   pub settled : Settled (record { rows = m; cols = n; masks = masks; count = count }) (total m n) after
-  pub painted : (i : ℕ) → i < m * n → getD after i 0 ≡ paintersOf f (getD colours i 0)
+  pub painted : (i : ℕ) → i < m * n → getD after i 0 ≡ paintersOf rs few (getD colours i 0)
   pub rest : (i : ℕ) → total m n ≤ i → getD after i 0 ≡ getD before i 0

@@ -1,17 +1,16 @@
 // What is taken at a piece and its motif: the lowest-numbered rule that fits, and for a join the smallest cut that works.
 // The row has the rules of the book, and colours has for each cell the number of its colour there; the rest is as for the cuts.
-use crate::cut::smallest_cut;
+use crate::cut::works;
 use crate::part::Direction;
 use crate::part::reach;
 use crate::piece::Piece;
 use crate::piece::times;
-use crate::row::rule_of;
 use books::rule::Body;
+use books::rule::Rule;
 ghost use mathlib.Core.Path.{_≡_};
 ghost use Prim.Native.Nat.{_*_, _≤_};
-ghost use lib.ListN.{length};
+ghost use lib.ListN.{length, take};
 ghost use Rattle.pieces.specs.Pieces.{Inside, Room};
-ghost use Rattle.pieces.specs.Row.{rulesIn};
 ghost use Rattle.pieces.specs.View.{Tabled, Ready, hasBit, hasColour, seen};
 ghost use Rattle.pieces.specs.Choice.{covers, joinedAt, offered, choose};
 
@@ -19,7 +18,7 @@ ghost use Rattle.pieces.specs.Choice.{covers, joinedAt, offered, choose}
 pub(crate) enum Choice {
     NoRule,
     Leaf(usize),
-    Join(usize, Direction, usize, usize, usize),
+    Join(usize, Direction, usize, u8, u8),
 }
 
 // Whether a piece is one cell of a colour.
@@ -36,7 +35,7 @@ fn covers(colours: &[u8], rows: usize, cols: usize, p: Piece, colour: u8) -> boo
     false
 }
 
-// A join, by its number, with its smallest cut; nothing where no cut works.
+// A join, by its number, at the smallest cut that works; nothing where none does.
 fn join_at(
     work: &[u32],
     rows: usize,
@@ -50,11 +49,13 @@ fn join_at(
     requires { ⌜ Tabled rows cols (now work) × Inside rows cols p ⌝ }
     ensures { λ x. ⌜ x ≡ joinedAt (hasBit rows cols (now (work .entry))) p i d l r ⌝ }
 {
-    let first = l as usize;
-    let second = r as usize;
-    let k = smallest_cut(work, rows, cols, p, d, first, second);
-    if k < reach(p, d) {
-        return Choice::Join(i, d, k, first, second);
+    let end = reach(p, d);
+    let mut k = 1;
+    while k < end {
+        if works(work, rows, cols, p, d, l, r, k) {
+            return Choice::Join(i, d, k, l, r);
+        }
+        k += 1;
     }
     Choice::NoRule
 }
@@ -86,23 +87,22 @@ fn offer(
 
 // The rules are tried in their order: the first with the motif for its head that offers something is taken.
 pub(crate) fn choose(
-    row: &[u32],
+    rules: [Rule; 200],
+    count: usize,
     work: &[u32],
     colours: &[u8],
     rows: usize,
     cols: usize,
     p: Piece,
-    motif: usize,
+    motif: u8,
 ) -> Choice
-    requires { ⌜ Ready rows cols (now work) (now colours) × Inside rows cols p ⌝ }
-    ensures { λ x. ⌜ x ≡ choose (seen rows cols (now (work .entry)) (now (colours .entry))) (rulesIn (now (row .entry))) motif p ⌝ }
+    requires { ⌜ (count ≤ 200) × Ready rows cols (now work) (now colours) × Inside rows cols p ⌝ }
+    ensures { λ x. ⌜ x ≡ choose (seen rows cols (now (work .entry)) (now (colours .entry))) (take count rules) motif p ⌝ }
 {
-    let end = row.len();
     let mut i = 0;
-    while i < end {
-        let rule = rule_of(row[i]);
-        let head = rule.head as usize;
-        if head == motif {
+    while i < count {
+        let rule = rules[i];
+        if rule.head == motif {
             let body = rule.body;
             let choice = offer(work, colours, rows, cols, p, i, body);
             match choice {

@@ -3,7 +3,6 @@
 use crate::part::Direction;
 use crate::part::back;
 use crate::part::front;
-use crate::part::reach;
 use crate::piece::Piece;
 use crate::piece::slot;
 ghost use mathlib.Core.Path.{_≡_};
@@ -14,7 +13,7 @@ ghost use Rattle.pieces.specs.View.{Tabled, hasBit};
 ghost use Rattle.pieces.specs.Choice.{works, cutOf};
 
 // Whether a motif has its bit set at a piece. An entry has 32 bits.
-pub(crate) fn has(work: &[u32], rows: usize, cols: usize, p: Piece, motif: usize) -> bool
+pub(crate) fn has(work: &[u32], rows: usize, cols: usize, p: Piece, motif: u8) -> bool
     requires { ⌜ Tabled rows cols (now work) × Inside rows cols p ⌝ }
     ensures { λ r. ⌜ r ≡ hasBit rows cols (now (work .entry)) motif p ⌝ }
 {
@@ -27,14 +26,14 @@ pub(crate) fn has(work: &[u32], rows: usize, cols: usize, p: Piece, motif: usize
 }
 
 // Whether both parts of a cut have their bits.
-fn works(
+pub(crate) fn works(
     work: &[u32],
     rows: usize,
     cols: usize,
     p: Piece,
     d: Direction,
-    l: usize,
-    r: usize,
+    l: u8,
+    r: u8,
     k: usize,
 ) -> bool
     requires { ⌜ Tabled rows cols (now work) × Inside rows cols p × (1 ≤ k) × (k < reach d p) ⌝ }
@@ -47,28 +46,4 @@ fn works(
     } else {
         false
     }
-}
-
-// The smallest cut that works, or the piece's reach where none does.
-pub(crate) fn smallest_cut(
-    work: &[u32],
-    rows: usize,
-    cols: usize,
-    p: Piece,
-    d: Direction,
-    l: usize,
-    r: usize,
-) -> usize
-    requires { ⌜ Tabled rows cols (now work) × Inside rows cols p ⌝ }
-    ensures { λ k. ⌜ k ≡ cutOf (hasBit rows cols (now (work .entry))) d l r p ⌝ }
-{
-    let end = reach(p, d);
-    let mut k = 1;
-    while k < end {
-        if works(work, rows, cols, p, d, l, r, k) {
-            return k;
-        }
-        k += 1;
-    }
-    k
 }

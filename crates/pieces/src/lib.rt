@@ -7,6 +7,5 @@ pub mod derive;
 mod masks;
 mod part;
 mod piece;
-mod row;
 mod table;
 mod tree;

@@ -1,10 +1,10 @@
 // A family's rules as masks: a motif is worth 2 to the power of its number.
-use books::family::Family;
 use books::rule::Body;
 use books::rule::Rule;
 ghost use mathlib.Core.Path.{_≡_};
 ghost use Prim.Native.Nat.{_+_, _^_, _<_};
-ghost use lib.ListN.{length, replicate};
+ghost use lib.Bits.{bitOr};
+ghost use lib.ListN.{length, getD, replicate, set};
 ghost use Rattle.pieces.specs.Masks.{join, putJoin, putRule, countRule, Small};
 ghost use Rattle.pieces.specs.Painted.{SmallRules, SplitInto};
 
@@ -62,16 +62,15 @@ fn put_rule(r: Rule, rules: &mut [u32], joins: Joins) -> Joins
     }
 }
 
-// The masks of all rules of a family, in order.
-pub(crate) fn split(f: Family, rules: &mut [u32]) -> Joins
-    requires { ⌜ SmallRules f × (now rules ≡ replicate 1265 0) ⌝ }
-    ensures { λ r. ⌜ SplitInto f (now (rules .exit)) r ⌝ }
+// The masks of the first rules of a family, in order.
+pub(crate) fn split(family: [Rule; 200], count: usize, rules: &mut [u32]) -> Joins
+    requires { ⌜ SmallRules family count × (now rules ≡ replicate 1265 0) ⌝ }
+    ensures { λ r. ⌜ SplitInto family count (now (rules .exit)) r ⌝ }
 {
     let mut joins = Joins { across: 0, down: 0 };
     let mut i = 0;
-    let n = f.count;
-    while i < n {
-        let r = f.rules[i];
+    while i < count {
+        let r = family[i];
         joins = put_rule(r, rules, joins);
         i += 1;
     }

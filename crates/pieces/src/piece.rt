@@ -1,6 +1,7 @@
 // A piece of a sheet, and its place in the table.
 ghost use mathlib.Core.Path.{_≡_};
 ghost use Prim.Native.Nat.{_*_, _≤_, _<_};
+ghost use Rattle.pieces.specs.Area.{whole, treeSize};
 ghost use Rattle.pieces.specs.Pieces.{most, Inside, Room, stretches, total, slotOf, NextTo};
 
 // So many rows and columns, from a top row and a left column on.
@@ -33,6 +34,14 @@ pub(crate) fn count(m: usize, n: usize) -> usize
     ensures { λ r. ⌜ (r ≡ total m n) × (r ≤ 360000) ⌝ }
 {
     times(stretches_of(m, m), stretches_of(n, n))
+}
+
+// How many numbers the tree of a sheet has: two a node.
+pub(crate) fn numbers(m: usize, n: usize) -> usize
+    requires { ⌜ Room m n ⌝ }
+    ensures { λ r. ⌜ r ≡ treeSize (whole m n) ⌝ }
+{
+    2 * (2 * times(m, n) - 1)
 }
 
 // Where the table has a piece.

@@ -6,10 +6,10 @@ use crate::masks;
 use crate::masks::Joins;
 use crate::piece;
 use crate::piece::Piece;
-use books::family::Family;
+use books::rule::Rule;
 ghost use mathlib.Core.Path.{_≡_};
 ghost use Prim.Native.Nat.{ℕ, _≤_, _<_, _*_};
-ghost use lib.ListN.{length, getD};
+ghost use lib.ListN.{length, getD, take};
 ghost use Rattle.pieces.specs.Pieces.{Inside, Room, slotOf, total};
 ghost use Rattle.pieces.specs.Course.{Runs};
 ghost use Rattle.pieces.specs.Joined.{firing, joined, along};
@@ -117,14 +117,21 @@ fn fill(work: &mut [u32], rules: &[u32], joins: Joins, m: usize, n: usize)
     }
 }
 
-// The table of a sheet for a family, by the numbers that the colours of its cells have there.
-pub(crate) fn fill_table(f: Family, colours: &[u8], m: usize, n: usize, work: &mut [u32])
-    requires { ⌜ SmallRules f × Room m n × (total m n ≤ length (now work)) ⌝ }
+// The table of a sheet for the first rules of a family, by the numbers that the colours of its cells have there.
+pub(crate) fn fill_table(
+    family: [Rule; 200],
+    count: usize,
+    colours: &[u8],
+    m: usize,
+    n: usize,
+    work: &mut [u32],
+)
+    requires { ⌜ SmallRules family count × Room m n × (total m n ≤ length (now work)) ⌝ }
     requires { ⌜ (m * n ≤ length (now colours)) × ((i : ℕ) → i < m * n → getD (now colours) i 0 < 65) ⌝ }
-    ensures { λ _. ⌜ Made f (now (colours .entry)) m n (now (work .entry)) (now (work .exit)) ⌝ }
+    ensures { λ _. ⌜ Made family count (now (colours .entry)) m n (now (work .entry)) (now (work .exit)) ⌝ }
 {
     let mut rules = [0u32; 1265];
-    let joins = masks::split(f, &mut rules);
+    let joins = masks::split(family, count, &mut rules);
     cells::paint_cells(&rules, colours, piece::times(m, n), work);
     fill(work, &rules, joins, m, n);
 }

@@ -1,22 +1,23 @@
 // The derivation given: the tree of a sheet, written from the table of its pieces, whatever the table holds.
-// The row of the rules and the colours of the cells are as for the choice at a piece.
+// The first `count` rules stand, and the colours of the cells are as for the choice at a piece.
 use crate::choice::Choice;
 use crate::choice::choose;
+use crate::cut::has;
 use crate::part::back;
 use crate::part::front;
 use crate::piece::Piece;
-use crate::piece::times;
+use crate::piece::numbers;
+use books::rule::Rule;
 ghost use mathlib.Core.Path.{_≡_};
 ghost use mathlib.Core.List.{[], _∷_, _++_};
 ghost use Prim.Native.Nat.{_+_, _≤_, _<_};
 ghost use lib.ListN.{length, take, drop, replicate};
 ghost use Rattle.pieces.specs.Pieces.{Inside};
 ghost use Rattle.pieces.specs.Area.{whole, treeSize};
-ghost use Rattle.pieces.specs.Row.{rulesIn};
 ghost use Rattle.pieces.specs.View.{Ready, seen};
 ghost use Rattle.pieces.specs.Tree.{both, treeOf};
-ghost use Rattle.pieces.specs.Wrote.{Wrote, outcome};
-ghost use Rattle.pieces.specs.Derivation.{treeAnswer};
+ghost use Rattle.pieces.specs.Wrote.{Wrote};
+ghost use Rattle.pieces.specs.Verdict.{verdict};
 
 // Where the numbers of a tree end, or that at some node of it no rule fits.
 pub(crate) enum Written {
@@ -36,20 +37,21 @@ fn put_node(tree: &mut [u16], at: usize, rule: usize, cut: usize)
 // The tree of a motif at a piece, from a place on: its rule and cut, and then its parts.
 // There is room for it, and at most 200 rules keep its numbers small.
 fn pick_node(
-    row: &[u32],
+    rules: [Rule; 200],
+    count: usize,
     work: &[u32],
     colours: &[u8],
     rows: usize,
     cols: usize,
     p: Piece,
-    motif: usize,
+    motif: u8,
     tree: &mut [u16],
     at: usize,
 ) -> Written
-    requires { ⌜ Ready rows cols (now work) (now colours) × Inside rows cols p × (length (now row) ≤ 200) × (at + treeSize p ≤ length (now tree)) ⌝ }
-    ensures { λ r. ⌜ Wrote (now (tree .entry)) (now (tree .exit)) at (treeSize p) (treeOf (seen rows cols (now (work .entry)) (now (colours .entry))) (rulesIn (now (row .entry))) motif p) r ⌝ }
+    requires { ⌜ Ready rows cols (now work) (now colours) × Inside rows cols p × (count ≤ 200) × (at + treeSize p ≤ length (now tree)) ⌝ }
+    ensures { λ r. ⌜ Wrote (now (tree .entry)) (now (tree .exit)) at (treeSize p) (treeOf (seen rows cols (now (work .entry)) (now (colours .entry))) (take count rules) motif p) r ⌝ }
 {
-    let choice = choose(row, work, colours, rows, cols, p, motif);
+    let choice = choose(rules, count, work, colours, rows, cols, p, motif);
     match choice {
         Choice::NoRule => Written::NoRule,
         Choice::Leaf(i) => {
@@ -58,17 +60,16 @@ fn pick_node(
         }
         Choice::Join(i, d, k, l, r) => {
             put_node(tree, at, i, k);
-            let first = front(p, d, k);
-            let rest = back(p, d, k);
             write_parts(
-                row,
+                rules,
+                count,
                 work,
                 colours,
                 rows,
                 cols,
-                first,
+                front(p, d, k),
                 l,
-                rest,
+                back(p, d, k),
                 r,
                 tree,
                 at + 2,
@@ -79,25 +80,37 @@ fn pick_node(
 
 // The trees of the two parts of a join, the second behind the first.
 fn write_parts(
-    row: &[u32],
+    rules: [Rule; 200],
+    count: usize,
     work: &[u32],
     colours: &[u8],
     rows: usize,
     cols: usize,
     first: Piece,
-    l: usize,
+    l: u8,
     rest: Piece,
-    r: usize,
+    r: u8,
     tree: &mut [u16],
     at: usize,
 ) -> Written
-    requires { ⌜ Ready rows cols (now work) (now colours) × Inside rows cols first × Inside rows cols rest × (length (now row) ≤ 200) × (at + (treeSize first + treeSize rest) ≤ length (now tree)) ⌝ }
-    ensures { λ x. ⌜ Wrote (now (tree .entry)) (now (tree .exit)) at (treeSize first + treeSize rest) (both (treeOf (seen rows cols (now (work .entry)) (now (colours .entry))) (rulesIn (now (row .entry))) l first) (treeOf (seen rows cols (now (work .entry)) (now (colours .entry))) (rulesIn (now (row .entry))) r rest)) x ⌝ }
+    requires { ⌜ Ready rows cols (now work) (now colours) × Inside rows cols first × Inside rows cols rest × (count ≤ 200) × (at + (treeSize first + treeSize rest) ≤ length (now tree)) ⌝ }
+    ensures { λ x. ⌜ Wrote (now (tree .entry)) (now (tree .exit)) at (treeSize first + treeSize rest) (both (treeOf (seen rows cols (now (work .entry)) (now (colours .entry))) (take count rules) l first) (treeOf (seen rows cols (now (work .entry)) (now (colours .entry))) (take count rules) r rest)) x ⌝ }
 {
-    let done = pick_node(row, work, colours, rows, cols, first, l, tree, at);
+    let done = pick_node(rules, count, work, colours, rows, cols, first, l, tree, at);
     match done {
         Written::NoRule => Written::NoRule,
-        Written::Upto(next) => pick_node(row, work, colours, rows, cols, rest, r, tree, next),
+        Written::Upto(next) => pick_node(
+            rules,
+            count,
+            work,
+            colours,
+            rows,
+            cols,
+            rest,
+            r,
+            tree,
+            next,
+        ),
     }
 }
 
@@ -113,32 +126,48 @@ fn clear(tree: &mut [u16], n: usize)
     }
 }
 
-// The tree of a start motif at a whole sheet, at the start of the slice, and 0; or 14 where at some node no rule fits, and as many zeros
-// stand for it.
-pub(crate) fn write_tree(
-    row: &[u32],
-    start: usize,
+// What a filled table tells of a whole sheet: 11 where the start motif has no bit there; else 0, with its tree at the start of the slice, or
+// 14 where at some node no rule fits, and as many zeros stand for it.
+pub(crate) fn judge(
+    rules: [Rule; 200],
+    count: usize,
+    start: u8,
     work: &[u32],
     colours: &[u8],
     rows: usize,
     cols: usize,
     tree: &mut [u16],
 ) -> u8
-    requires { ⌜ (length (now row) ≤ 200) × Ready rows cols (now work) (now colours) × (treeSize (whole rows cols) ≤ length (now tree)) ⌝ }
-    ensures { λ r. ⌜ (r ≡ treeAnswer (treeOf (seen rows cols (now (work .entry)) (now (colours .entry))) (rulesIn (now (row .entry))) start (whole rows cols)) .number) × (now (tree .exit) ≡ outcome (treeSize (whole rows cols)) (now (tree .entry)) (treeOf (seen rows cols (now (work .entry)) (now (colours .entry))) (rulesIn (now (row .entry))) start (whole rows cols))) ⌝ }
+    requires { ⌜ (count ≤ 200) × Ready rows cols (now work) (now colours) × (treeSize (whole rows cols) ≤ length (now tree)) ⌝ }
+    ensures { λ r. ⌜ r ≡ verdict (seen rows cols (now (work .entry)) (now (colours .entry))) (take count rules) start (whole rows cols) (now (tree .entry)) .number ⌝ ∗ ⌜ now (tree .exit) ≡ verdict (seen rows cols (now (work .entry)) (now (colours .entry))) (take count rules) start (whole rows cols) (now (tree .entry)) .numbers ⌝ }
 {
-    let p = Piece {
+    let sheet = Piece {
         height: rows,
         width: cols,
         top: 0,
         left: 0,
     };
-    let done = pick_node(row, work, colours, rows, cols, p, start, tree, 0);
-    match done {
-        Written::Upto(_) => 0,
-        Written::NoRule => {
-            clear(tree, 2 * (2 * times(rows, cols) - 1));
-            14
+    if has(work, rows, cols, sheet, start) {
+        let done = pick_node(
+            rules,
+            count,
+            work,
+            colours,
+            rows,
+            cols,
+            sheet,
+            start,
+            tree,
+            0,
+        );
+        match done {
+            Written::Upto(_) => 0,
+            Written::NoRule => {
+                clear(tree, numbers(rows, cols));
+                14
+            }
         }
+    } else {
+        11
     }
 }

@@ -1,10 +1,9 @@
--- The entry of a piece stands at its slot, and an entry, below 2 to the power 32, has no bit from the 32nd on.
 use lib.ListN.{getD}
-use borrow.Author.Needs.{needs}
 use Rattle.pieces.specs.Pieces.{slotOf}
 use Rattle.pieces.specs.View.{hasBit}
 use Rattle.pieces.specs.Table.{bit}
 use Rattle.pieces.proofs.Bits.{bit-high}
+use borrow.Author.Needs.{needs}
 use Rattle.pieces.proofs.cut.has.Statement.{statement}
 use Rattle.pieces.proofs.cut.has.Tie as tie
 
@@ -16,9 +15,6 @@ mul-result c = search needs
 
 shared-slice-read-result : tie.Need-shared-slice-read-result
 shared-slice-read-result c = search needs
-
-cast-result : tie.Need-cast-result
-cast-result c = search needs
 
 shr-result : tie.Need-shr-result
 shr-result c = search needs
@@ -37,11 +33,4 @@ returns-2 c =
 pub has-spec : {M : Type 1} → statement M
 has-spec =
     tie.close
-    (tie.spec
-    slot-requires
-    mul-result
-    shared-slice-read-result
-    cast-result
-    shr-result
-    returns
-    returns-2)
+    (tie.spec slot-requires mul-result shared-slice-read-result shr-result returns returns-2)

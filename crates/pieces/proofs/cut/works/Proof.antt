@@ -1,12 +1,11 @@
--- The second part is looked at only where the first has its bit.
 use mathlib.Core.Path.{_≡_, sym, _∙_}
 use mathlib.Core.Bool.{true, false}
-use borrow.Author.Needs.{needs}
 use Rattle.pieces.specs.Direction.{front}
 use Rattle.pieces.specs.View.{hasBit}
 use Rattle.pieces.specs.Choice.{works}
 use Rattle.pieces.proofs.Least.{and-on, and-off}
 use Rattle.pieces.proofs.Cutting.{front-inside, back-inside}
+use borrow.Author.Needs.{needs}
 use Rattle.pieces.proofs.cut.works.Statement.{statement}
 use Rattle.pieces.proofs.cut.works.Tie as tie
 

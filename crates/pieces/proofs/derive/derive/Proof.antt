@@ -1,63 +1,95 @@
--- The faults are answered in their order; a book and a sheet that are accepted are as reading gives them.
-use mathlib.Core.Path.{_≡_, refl, ap, _∙_}
+-- An order with a fault is answered with it, one for which a slice is too short with that, and else what the table tells is the answer.
+use mathlib.Core.Path.{_≡_, refl, sym, ap, _∙_}
+use Prim.Native.Nat.{_≤_}
+use native.Mathlib.Nat.{le-trans, le-of-eq}
+use lib.ListN.{length}
 use denote.Ref.{now}
-use Rattle.books.specs.Book.{bookOf}
-use Rattle.books.specs.Answer.{blaming}
-use Rattle.books.specs.declared.book.BookRead.{BookRead}
-use Rattle.books.specs.declared.sheet.SheetRead.{SheetRead}
-use Rattle.pieces.proofs.DerivationAnswers.{book-first, sheet-second, then-room}
-use Rattle.pieces.proofs.Judging.{as-read}
+use Rattle.names.proofs.SpellingNumbers.{Bytes}
+use Rattle.books.specs.Answer.{plain}
+use Rattle.pieces.specs.Area.{whole, treeSize}
+use Rattle.pieces.specs.Pieces.{total}
+use Rattle.pieces.proofs.Judging.{nothing-lacks}
+use Rattle.pieces.proofs.Orders.{Ordered, refused, ordered, lacks, told}
 use borrow.Author.Needs.{needs}
 use Rattle.pieces.proofs.derive.derive.Statement.{statement}
 use Rattle.pieces.proofs.derive.derive.Tie as tie
 
--- After the book was read: where the call began.
-abbrev began : tie.After-read-book → tie.Start
+-- After the order was read: where the call began.
+abbrev began : tie.After-read-order → tie.Start
 began k = k .before .before .before .before .before
 
--- After the sheet was read, where the book was accepted.
-abbrev book-read : tie.After-read-sheet → tie.After-read-book
-book-read k = k .before .before .before .before
+-- After an order with no fault was held to the slices' lengths: where it was read, and what it gives.
+abbrev order-read : tie.After-lack → tie.After-read-order
+order-read l = l .before .before .before .before
 
-book-accepted : (k : tie.After-read-sheet) → bookOf (now (began (book-read k) .args .book)) .fault .number ≡ 0
-book-accepted k = rw (book-read k .read-book .ensures) at (k .before .if1 .left)
+book-bytes : (k : tie.After-read-order) → Bytes (now (began k .args .book))
+book-bytes k i = k .before .before .before .before .shared-slice-known .given i .fits
 
-read-book-requires : tie.Need-read-book-requires
-read-book-requires c κs = search needs
+sheet-bytes : (k : tie.After-read-order) → Bytes (now (began k .args .sheet))
+sheet-bytes k i = k .before .before .before .shared-slice-known2 .given i .fits
 
-blame-requires : tie.Need-blame-requires
-blame-requires c κs = search needs
+kept : (l : tie.After-lack) → Ordered (order-read l .read-order .result)
+kept l = let k = order-read l in ordered _ _ (k .read-order .ensures) (book-bytes k) (sheet-bytes k) (l .before .if1 .left)
+
+-- After the table was filled: where the slices' lengths were tested, and that they suffice.
+abbrev tested : tie.After-fill-table → tie.After-lack
+tested t = t .before .before .before .before .before .before
+
+enough : (l : tie.After-lack) → l .lack .result ≡ 0 →
+    let o = order-read l .read-order .result in
+    let a = began (order-read l) .args in
+    (total (o .rows) (o .cols) ≤ length (now (a .work))) × (treeSize (whole (o .rows) (o .cols)) ≤ length (now (a .tree)))
+enough l z = nothing-lacks _ _ _ _ (sym (l .lack .ensures) ∙ z)
+
+read-order-requires : tie.Need-read-order-requires
+read-order-requires c κs = search needs
 
 returns : tie.Need-returns
 returns c =
-    let k = c .before .before .before .before in
+    let k = c .before .before .before in
     let a = began k .args in
-    let read = k .read-book .ensures in
-    rw (book-first (now (a .book)) (now (a .sheet)) (now (a .work)) (now (a .tree)) (rw read at (c .before .if1 .taken)))
-    (c .blame .ensures ∙ ap (λ (r : BookRead). blaming 1 (r .fault)) read, (refl, refl))
+    rw (refused _ _ (k .read-order .ensures) (now (a .work)) (now (a .tree)) (c .if1 .taken)) (refl, (refl, refl))
 
-read-sheet-requires : tie.Need-read-sheet-requires
-read-sheet-requires c κs = search needs
+lack-requires : tie.Need-lack-requires
+lack-requires c κs =
+    let k = c .before .before .before in
+    ordered _ _ (k .read-order .ensures) (book-bytes k) (sheet-bytes k) (c .if1 .left) .sizes
 
-blame-requires-2 : tie.Need-blame-requires-2
-blame-requires-2 c κs = search needs
+unblamed-requires : tie.Need-unblamed-requires
+unblamed-requires c κs = search needs
 
 returns-2 : tie.Need-returns-2
 returns-2 c =
-    let k = c .before .before .before .before in
-    let a = began (book-read k) .args in
-    let read = k .read-sheet .ensures in
-    rw (sheet-second (now (a .book)) (now (a .sheet)) (now (a .work)) (now (a .tree)) (book-accepted k) (rw read at (c .before .if2 .taken)))
-    (c .blame2 .ensures ∙ ap (λ (r : SheetRead). blaming 2 (r .fault)) read, (refl, refl))
+    let l = c .before .before in
+    let k = order-read l in
+    let a = began k .args in
+    rw (lacks _ _ (k .read-order .ensures) (book-bytes k) (sheet-bytes k) (l .before .if1 .left) (now (a .work)) (now (a .tree))
+    (λ z. c .before .if2 .taken (l .lack .ensures ∙ z)))
+    (c .unblamed .ensures ∙ ap plain (l .lack .ensures), (refl, refl))
 
-fill-and-judge-requires : tie.Need-fill-and-judge-requires
-fill-and-judge-requires c κs =
-    let t = c .before .before .before .before in
-    let k = t .before .before .before in
-    let l = book-read k .before .before .before in
-    let sheet-accepted = rw (k .read-sheet .ensures) at (t .if2 .left) in
-    as-read _ _ _ _ (book-read k .read-book .ensures) (k .read-sheet .ensures) (λ i. l .before .shared-slice-known .given i .fits)
-    (λ i. l .shared-slice-known2 .given i .fits) (book-accepted k) sheet-accepted
+slice-aggregate-fill-table : tie.Need-slice-aggregate-fill-table
+slice-aggregate-fill-table c = search needs
+
+fill-table-requires : tie.Need-fill-table-requires
+fill-table-requires c κs =
+    let z = c .before .before .before .before in
+    let o = kept (z .before) in
+    ((o .rules-small, o .sizes, enough (z .before) (z .if2 .left) .0), (o .cells-all, o .cells-low))
+
+slice-aggregate-judge : tie.Need-slice-aggregate-judge
+slice-aggregate-judge c = sym (kept (tested (c .before .before .before .before)) .cells-room)
+
+judge-requires : tie.Need-judge-requires
+judge-requires c κs =
+    let t = c .before .before .before .before .before in
+    let l = tested t in
+    let o = kept l in
+    let room = enough l (t .before .before .before .before .before .if2 .left) in
+    let long = le-trans (room .0) (le-of-eq (sym (t .fill-table .kept .1 .1 .1 .1 .1 .0))) in
+    (o .rules-small .few, record { tabled = record { sizes = o .sizes; entries = long }; cells = o .cells-all }, room .1)
+
+unblamed-requires-2 : tie.Need-unblamed-requires-2
+unblamed-requires-2 c κs = search needs
 
 same-length : tie.Need-same-length
 same-length c = search needs
@@ -67,24 +99,30 @@ same-length-2 c = search needs
 
 returns-3 : tie.Need-returns-3
 returns-3 c =
+    let j = c .before .before .before .judge in
     let t = c .before .before .before .before .before .before .before .before .before in
-    let k = t .before .before .before in
-    let a = began (book-read k) .args in
-    let read2 = k .read-sheet .ensures in
-    rw (then-room (now (a .book)) (now (a .sheet)) (now (a .work)) (now (a .tree)) (book-accepted k) (rw read2 at (t .if2 .left)), ← book-read k .read-book .ensures, ← read2)
-    (c .before .before .before .before .fill-and-judge .ensures)
+    let l = tested t in
+    let k = order-read l in
+    let a = began k .args in
+    let none = sym (l .lack .ensures) ∙ t .before .before .before .before .before .if2 .left in
+    rw (told _ _ (k .read-order .ensures) (book-bytes k) (sheet-bytes k) (l .before .if1 .left) (now (a .work)) (now (a .tree)) none _ (t .fill-table .ensures)
+    (sym (t .fill-table .kept .1 .1 .1 .1 .1 .0)))
+    (c .unblamed2 .ensures ∙ ap plain (j .ensures .0), (refl, j .ensures .1))
 
 pub derive-spec : {M : Type 1} → statement M
 derive-spec =
     tie.close
     (tie.spec
-    read-book-requires
-    blame-requires
+    read-order-requires
     returns
-    read-sheet-requires
-    blame-requires-2
+    lack-requires
+    unblamed-requires
     returns-2
-    fill-and-judge-requires
+    slice-aggregate-fill-table
+    fill-table-requires
+    slice-aggregate-judge
+    judge-requires
+    unblamed-requires-2
     same-length
     same-length-2
     returns-3)

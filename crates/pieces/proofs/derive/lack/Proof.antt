@@ -1,6 +1,5 @@
 -- The two tests are those of the definition.
-use native.Mathlib.Nat.{mul-le-mul}
-use native.Mathlib.Omega.{arith}
+
 use borrow.Author.Tests.{lt-ltb, le-ltb}
 use Rattle.pieces.specs.Verdict.{lacking}
 use borrow.Author.Needs.{needs}
@@ -14,36 +13,22 @@ returns : tie.Need-returns
 unfolding lacking
 returns c = rw (lt-ltb _ _ (rw (c .before .count .ensures .0) at (c .if1 .taken)))
 
-times-requires : tie.Need-times-requires
-times-requires c κs = search needs
-
-mul-if2 : tie.Need-mul-if2
-mul-if2 c = search needs
-
-sub-if2 : tie.Need-sub-if2
-sub-if2 c =
-    let s = c .before .before .before in
-    let some = mul-le-mul (s .pre .rows-some) (s .pre .cols-some) in
-    omega (arith, c .times .ensures .0)
-
-mul-if2-2 : tie.Need-mul-if2-2
-mul-if2-2 c = search needs
+numbers-requires : tie.Need-numbers-requires
+numbers-requires c κs = search needs
 
 returns-2 : tie.Need-returns-2
 unfolding lacking
 returns-2 c =
     let enough = rw (c .before .before .before .count .ensures .0) at (c .before .before .if1 .left) in
-    let short = rw (c .before .times .ensures .0) at (c .if2 .taken) in
+    let short = rw (c .before .numbers .ensures) at (c .if2 .taken) in
     rw (le-ltb _ _ enough, lt-ltb _ _ short)
 
 returns-3 : tie.Need-returns-3
 unfolding lacking
 returns-3 c =
     let work = rw (c .before .before .before .count .ensures .0) at (c .before .before .if1 .left) in
-    let tree = rw (c .before .times .ensures .0) at (c .if2 .left) in
+    let tree = rw (c .before .numbers .ensures) at (c .if2 .left) in
     rw (le-ltb _ _ work, le-ltb _ _ tree)
 
 pub lack-spec : {M : Type 1} → statement M
-lack-spec =
-    tie.close
-    (tie.spec count-requires returns times-requires mul-if2 sub-if2 mul-if2-2 returns-2 returns-3)
+lack-spec = tie.close (tie.spec count-requires returns numbers-requires returns-2 returns-3)

@@ -1,4 +1,3 @@
--- The masks are laid out rule by rule.
 use mathlib.Core.Path.{_≡_, ap, subst}
 use Prim.Native.Nat.{_-_, _≤_}
 use native.Mathlib.Omega.{arith}
@@ -9,10 +8,10 @@ use Rattle.pieces.proofs.masks.split.Statement.{statement}
 use Rattle.pieces.proofs.masks.split.Tie as tie
 
 abbrev Inv-loop : tie.InvT-loop
-Inv-loop rules₀ f joins₀ i₀ n rules joins i = (i ≤ n) × Laying (f .rules) rules joins i
+Inv-loop count rules₀ family joins₀ i₀ rules joins i = (i ≤ count) × Laying family rules joins i
 
 abbrev μ-loop : tie.MeasureT-loop
-μ-loop rules₀ f joins₀ i₀ n rules joins i = n - i
+μ-loop count rules₀ family joins₀ i₀ rules joins i = count - i
 
 loop-holds : tie.Need-loop-holds Inv-loop μ-loop
 loop-holds c = (omega arith, laying-start _ _ (c .before .pre .1))
@@ -20,8 +19,8 @@ loop-holds c = (omega arith, laying-start _ _ (c .before .pre .1))
 mul-r : tie.Need-mul-r Inv-loop μ-loop
 mul-r c = search needs
 
-element-copy-out-r : tie.Need-element-copy-out-r Inv-loop μ-loop
-element-copy-out-r c = search needs
+array-copy-out-r : tie.Need-array-copy-out-r Inv-loop μ-loop
+array-copy-out-r c = search needs
 
 put-rule-requires : tie.Need-put-rule-requires Inv-loop μ-loop
 put-rule-requires c κs =
@@ -46,8 +45,8 @@ same-length c = omega (arith, c .before .loop .inv .1 .long, ap length (c .befor
 
 returns : tie.Need-returns Inv-loop μ-loop
 returns c =
-    let e : c .before .loop .i ≡ c .before .before .before .args .t1 .count = omega arith in
-    laying-end _ _ _ (subst (Laying _ _ _) e (c .before .loop .inv .1))
+    let e : c .before .loop .i ≡ c .before .before .before .args .count = omega arith in
+    laying-end _ _ _ _ (subst (Laying _ _ _) e (c .before .loop .inv .1))
 
 pub split-spec : {M : Type 1} → statement M
 split-spec =
@@ -57,7 +56,7 @@ split-spec =
     μ-loop
     loop-holds
     mul-r
-    element-copy-out-r
+    array-copy-out-r
     put-rule-requires
     add-i
     loop-less

@@ -36,11 +36,11 @@ add-t8 c =
 
 returns : tie.Need-returns
 unfolding back
-returns c = cc
+returns c = rw (c .before .before .enum-told .given .1)
 
 returns-2 : tie.Need-returns-2
 unfolding back
-returns-2 c = cc
+returns-2 c = rw (c .before .before .enum-told2 .given .1)
 
 pub back-spec : {M : Type 1} → statement M
 back-spec =

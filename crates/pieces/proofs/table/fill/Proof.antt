@@ -42,7 +42,7 @@ entry-of-requires c κs =
     let s = t .before .before .before .before .before .before in
     let f = t .loop .inv in
     let less = lt-of-lt-of-le (c .before .loop-test .taken) (le-of-eq (t .before .before .before .count .ensures .0)) in
-    ((s .pre .0 .0, f .inside less, sym (f .here), omega (arith, f .sized, s .pre .0)), s .pre .1)
+    ((s .pre .0 .0, f .inside less, sym (f .here), rw (f .sized) (s .pre .0 .1)), s .pre .1)
 
 mul-work : tie.Need-mul-work Inv-loop μ-loop
 mul-work c =

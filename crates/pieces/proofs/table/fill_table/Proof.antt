@@ -26,7 +26,7 @@ paint-cells-requires c κs =
     let s = c .before .before .before .before .before .before .before .before in
     let e = c .before .times .ensures .0 in
     let few = cells-few _ _ (s .pre .0 .1 .rows-some) (s .pre .0 .1 .cols-some) in
-    (c .before .before .before .before .split .kept .1 .0, rw e (s .pre .1 .0), omega (arith, e, few, s .pre .0 .2), rw e (s .pre .1 .1))
+    (c .before .before .before .before .split .kept .1 .1 .0, rw e (s .pre .1 .0), omega (arith, e, few, s .pre .0 .2), rw e (s .pre .1 .1))
 
 slice-aggregate-fill : tie.Need-slice-aggregate-fill
 slice-aggregate-fill c = search needs
@@ -36,8 +36,8 @@ fill-requires c κs =
     let t = c .before .before .before .before in
     let v = t .before .before .before .before .before in
     let s = v .before .before .before .before in
-    let few = split-few _ _ _ (s .pre .0 .0) (v .split .ensures) in
-    ((s .pre .0 .1, le-trans (s .pre .0 .2) (le-of-eq (sym (t .paint-cells .kept .1 .1 .1 .0)))), (v .split .kept .1 .0, few .0, few .1))
+    let few = split-few _ _ _ _ (s .pre .0 .0) (v .split .ensures) in
+    ((s .pre .0 .1, le-trans (s .pre .0 .2) (le-of-eq (sym (t .paint-cells .kept .1 .1 .1 .0)))), (v .split .kept .1 .1 .0, few .0, few .1))
 
 same-length : tie.Need-same-length
 same-length c = search needs
@@ -47,7 +47,7 @@ returns c =
     let t = c .before .before .before .before .before .before .before in
     let v = t .before .before .before .before .before in
     let s = v .before .before .before .before in
-    made _ _ _ _ _ _ _ _ _ _ (v .split .ensures) (t .paint-cells .ensures) (t .before .before .times .ensures .0) (c .before .before .fill .ensures)
+    made _ _ _ _ _ _ _ _ _ _ _ (v .split .ensures) (t .paint-cells .ensures) (t .before .before .times .ensures .0) (c .before .before .fill .ensures)
     (cells-few _ _ (s .pre .0 .1 .rows-some) (s .pre .0 .1 .cols-some)) (s .pre .1 .1)
 
 pub fill-table-spec : {M : Type 1} → statement M

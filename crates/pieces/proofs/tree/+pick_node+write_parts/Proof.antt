@@ -3,17 +3,16 @@
 use Prim.Native.Nat.{ℕ, _+_, _-_, _*_, _≤_, _<_}
 use mathlib.Core.Path.{refl}
 use native.Mathlib.Omega.{arith}
-use lib.ListN.{length}
+use lib.ListN.{length, take}
+use lib.Seq.{length-take-le}
 use denote.Ref.{now}
 use borrow.Author.Needs.{needs}
 use borrow.Fn.Kinds.{In}
 use borrow.Fn.PlainCycle.{Measures, is, falls, and}
 use Rattle.pieces.specs.declared.choice.Choice.the-variants.{NoRule}
 use Rattle.pieces.specs.Area.{area}
-use Rattle.pieces.specs.Row.{rulesIn}
 use Rattle.pieces.specs.Wrote.{Wrote}
 use Rattle.pieces.proofs.Cutting.{area-pos}
-use Rattle.pieces.proofs.Rows.{length-rules}
 use Rattle.pieces.proofs.TreeSteps.{tree-length}
 use Rattle.pieces.proofs.Nodes.{Chose, JoinFits, room-some, leaf-small, join-fits, tree-of}
 use Rattle.pieces.proofs.Writing.{wrote-node, wrote-stop, wrote-next, wrote-both}
@@ -30,26 +29,26 @@ use Rattle.pieces.proofs.part.back.Reads as back-reads
 use Rattle.pieces.proofs.part.front.Reads as front-reads
 use Rattle.pieces.proofs.tree.put_node.Reads as put-node-reads
 
-abbrev μ-pick-node : Measures 4 pick-node-kinds.ps ℕ
-μ-pick-node κs a = 2 * area (a .1 .1 .1 .1 .1 .0)
+abbrev μ-pick-node : Measures 3 pick-node-kinds.ps ℕ
+μ-pick-node κs a = 2 * area (a .1 .1 .1 .1 .1 .1 .0)
 
-abbrev μ-write-parts : Measures 4 write-parts-kinds.ps ℕ
-μ-write-parts κs a = 2 * (area (a .1 .1 .1 .1 .1 .0) + area (a .1 .1 .1 .1 .1 .1 .1 .0)) - 1
+abbrev μ-write-parts : Measures 3 write-parts-kinds.ps ℕ
+μ-write-parts κs a = 2 * (area (a .1 .1 .1 .1 .1 .1 .0) + area (a .1 .1 .1 .1 .1 .1 .1 .1 .0)) - 1
 
-abbrev pick-node-at : ℕ → In 4 pick-node-kinds.ps
-pick-node-at t = and 4 pick-node-kinds.ps (is 4 pick-node-kinds.ps μ-pick-node t) pick-node.Pre
+abbrev pick-node-at : ℕ → In 3 pick-node-kinds.ps
+pick-node-at t = and 3 pick-node-kinds.ps (is 3 pick-node-kinds.ps μ-pick-node t) pick-node.Pre
 
-abbrev pick-node-below : ℕ → In 4 pick-node-kinds.ps
+abbrev pick-node-below : ℕ → In 3 pick-node-kinds.ps
 pick-node-below t =
-    and 4 pick-node-kinds.ps (falls 4 pick-node-kinds.ps _<_ μ-pick-node t) pick-node.Pre
+    and 3 pick-node-kinds.ps (falls 3 pick-node-kinds.ps _<_ μ-pick-node t) pick-node.Pre
 
-abbrev write-parts-at : ℕ → In 4 write-parts-kinds.ps
+abbrev write-parts-at : ℕ → In 3 write-parts-kinds.ps
 write-parts-at t =
-    and 4 write-parts-kinds.ps (is 4 write-parts-kinds.ps μ-write-parts t) write-parts.Pre
+    and 3 write-parts-kinds.ps (is 3 write-parts-kinds.ps μ-write-parts t) write-parts.Pre
 
-abbrev write-parts-below : ℕ → In 4 write-parts-kinds.ps
+abbrev write-parts-below : ℕ → In 3 write-parts-kinds.ps
 write-parts-below t =
-    and 4 write-parts-kinds.ps (falls 4 write-parts-kinds.ps _<_ μ-write-parts t) write-parts.Pre
+    and 3 write-parts-kinds.ps (falls 3 write-parts-kinds.ps _<_ μ-write-parts t) write-parts.Pre
 
 -- what the members call: each other only below the measure t
 abbrev picks : ℕ → pick-node-lts.Claims
@@ -75,14 +74,16 @@ module _ (t : ℕ) where
   Choosing = pick-node-lts.After-choose (picks t) (pick-node-at t) pick-node.Post
 
   abbrev node : Choosing → pick-node-lts.Start (picks t) (pick-node-at t) pick-node.Post
-  node k = k .before .before .before .before .before
+  node k = k .before .before .before .before
 
   known : (k : Choosing) →
       let a = node k .args in
-      Chose (a .rows) (a .cols) (now (a .work)) (now (a .colours)) (rulesIn (now (a .row))) (a .motif) (a .p) (k .choose .result)
+      Chose (a .rows) (a .cols) (now (a .work)) (now (a .colours)) (take (a .count) (a .rules)) (a .motif) (a .p) (k .choose .result)
   known k =
       let g = node k .pre .1 in
-      record { ready = g .0; in-sheet = g .1; few = rw (length-rules _) (g .2); choice = k .choose .ensures }
+      let a = node k .args in
+      let long = length-take-le (a .count) (a .rules) (omega (arith, g .2)) in
+      record { ready = g .0; in-sheet = g .1; few = omega (arith, long, g .2); choice = k .choose .ensures }
 
   room : (k : Choosing) → let a = node k .args in a .at + 2 ≤ length (now (a .tree))
   room k = let g = node k .pre .1 in omega (arith, g .3, room-some _ _ _ (g .1))
@@ -114,8 +115,8 @@ module _ (t : ℕ) where
       let k = c .before .before .before .before in
       (room k, leaf-small (known k) _ (c .before .before .choice .given .1), search needs)
 
-  pick-node-add-t23 : pick-node-lts.Need-add-t23 (picks t) (pick-node-at t) pick-node.Post
-  pick-node-add-t23 c = search needs
+  pick-node-add-t22 : pick-node-lts.Need-add-t22 (picks t) (pick-node-at t) pick-node.Post
+  pick-node-add-t22 c = search needs
 
   pick-node-enum-known-choice-2 : pick-node-lts.Need-enum-known-choice-2 (picks t) (pick-node-at t) pick-node.Post
   pick-node-enum-known-choice-2 c = search needs
@@ -184,11 +185,11 @@ module _ (t : ℕ) where
 
   -- after the first part: where the parts began
   abbrev began : write-parts-lts.After-pick-node (parts t) (write-parts-at t) write-parts.Post → Began
-  began k = k .before .before .before .before .before .before
+  began k = k .before .before .before .before .before
 
   write-parts-pick-node-requires : write-parts-lts.Need-pick-node-requires (parts t) (write-parts-at t) write-parts.Post
   write-parts-pick-node-requires c κs =
-      let s = c .before .before .before .before .before in
+      let s = c .before .before .before .before in
       let g = s .pre .1 in
       (omega (arith, s .pre .0, cells s), (g .0, g .1, g .3, omega (arith, g .4)))
 
@@ -205,7 +206,7 @@ module _ (t : ℕ) where
       let g = s .pre .1 in
       let f = k .pick-node in
       let next = wrote-next _ _ _ _ _ _ (tree-length _ _ _ _ _ _ (g .1)) (rw (c .before .before .done .given .1) at (f .ensures)) in
-      let long = f .kept .1 .1 .1 .1 .1 .1 .1 .0 in
+      let long = f .kept .1 .1 .1 .1 .1 .1 .1 .1 .0 in
       (omega (arith, s .pre .0, cells s), (g .0, g .2, g .3, omega (arith, g .4, next, long)))
 
   write-parts-same-length : write-parts-lts.Need-same-length (parts t) (write-parts-at t) write-parts.Post
@@ -237,7 +238,7 @@ pub +pick-node+write-parts-spec : {M : Type 1} → statement M
     (pick-node-enum-told t)
     (pick-node-enum-known-choice t)
     (pick-node-put-node-requires t)
-    (pick-node-add-t23 t)
+    (pick-node-add-t22 t)
     (pick-node-enum-known-choice-2 t)
     (pick-node-put-node-requires-2 t)
     (pick-node-front-requires t)

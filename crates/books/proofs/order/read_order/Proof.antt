@@ -1,0 +1,51 @@
+-- What was read fits what the cells' numbering asks, refused or not, and the start motif fits a byte; the parts are those of the definition.
+use mathlib.Core.Path.{sym, subst}
+use native.Mathlib.Omega.{arith}
+use denote.Ref.{now}
+use Rattle.books.specs.declared.sheet.SheetRead.{SheetRead}
+use Rattle.books.proofs.Ordering.{book-start, CellsFit, sheet-cells, order-made}
+use Rattle.books.proofs.ReadingBooks.{book-places}
+use borrow.Author.Needs.{needs}
+use Rattle.books.proofs.order.read_order.Statement.{statement}
+use Rattle.books.proofs.order.read_order.Tie as tie
+
+read-book-requires : tie.Need-read-book-requires
+read-book-requires c κs = search needs
+
+read-sheet-requires : tie.Need-read-sheet-requires
+read-sheet-requires c κs = search needs
+
+number-cells-requires : tie.Need-number-cells-requires
+number-cells-requires c κs =
+    let a = c .before .before .before .before .before .before .before .args in
+    let b = c .before .before .before .before .read-book .ensures in
+    let s = c .before .before .before .read-sheet .ensures in
+    let (area, all, fit) = subst (λ (r : SheetRead). CellsFit (r .sheet)) (sym s) (sheet-cells (now (a .sheet))) in
+    (rw b (book-places (now (a .book)) .few), area, all, fit)
+
+first-fault-requires : tie.Need-first-fault-requires
+first-fault-requires c κs = search needs
+
+cast-t10 : tie.Need-cast-t10
+cast-t10 c =
+    let b = c .before .before .before .before .before .before .before in
+    omega (arith, rw (← b .read-book .ensures) at (book-start (now (b .before .before .before .args .book))))
+
+returns : tie.Need-returns
+returns c =
+    let s = c .before .before .before .before .before .before in
+    let a = s .before .before .before .before .args in
+    let b = s .before .read-book .ensures in
+    let numbered = c .before .before .number-cells .ensures in
+    order-made (now (a .book)) (now (a .sheet)) _ _ _ _ b (s .read-sheet .ensures) (c .before .first-fault .ensures) numbered
+
+pub read-order-spec : {M : Type 1} → statement M
+read-order-spec =
+    tie.close
+    (tie.spec
+    read-book-requires
+    read-sheet-requires
+    number-cells-requires
+    first-fault-requires
+    cast-t10
+    returns)

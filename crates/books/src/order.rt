@@ -1,0 +1,76 @@
+// An order: a book and a sheet that are read together, the sheet's cells by the numbers that their colours have in the book.
+use crate::answer::Answer;
+use crate::answer::blame;
+use crate::book::read_book;
+use crate::rule::Rule;
+use crate::sheet::Sheet;
+use crate::sheet::read_sheet;
+use crate::size::ROOM;
+use names::colours::Colours;
+use names::colours::find_in;
+use names::number::Fault;
+ghost use mathlib.Core.Path.{_≡_};
+ghost use Prim.Native.Nat.{ℕ, _*_, _≤_, _<_};
+ghost use lib.ListN.{length, getD};
+ghost use Rattle.books.specs.Size.{room};
+ghost use Rattle.books.specs.Order.{numbersOf, firstFault, orderOf};
+
+// The answer is that of the fault, the book's before the sheet's, or 0. The first `count` rules stand, and the first rows times columns cells;
+// a cell whose colour the book lacks has the count of the book's colours.
+pub struct Order {
+    pub answer: Answer,
+    pub rules: [Rule; 200],
+    pub count: usize,
+    pub start: u8,
+    pub rows: usize,
+    pub cols: usize,
+    pub cells: [u8; ROOM],
+}
+
+// The book's fault, and else the sheet's.
+fn first_fault(f: Fault, e: Fault) -> Answer
+    ensures { λ r. ⌜ r ≡ firstFault f e ⌝ }
+{
+    if f.number != 0 {
+        return blame(1, f);
+    }
+    blame(2, e)
+}
+
+// The number of each cell's colour in the book.
+fn number_cells(book: &[u8], c: Colours, sheet: &[u8], g: Sheet) -> [u8; ROOM]
+    requires { ⌜ (c .count ≤ 64) × (g .rows * g .cols ≤ room) × (length (g .cells) ≡ room)
+        × ((i : ℕ) → i < g .rows * g .cols → getD (g .cells) i 0 < 64) ⌝ }
+    ensures { λ r. ⌜ r ≡ numbersOf (now (book .entry)) c (now (sheet .entry)) g ⌝ }
+{
+    let count = g.rows * g.cols;
+    let d = g.colours;
+    let mut numbers = [0u8; ROOM];
+    for i in 0..count {
+        let cell = g.cells[i] as usize;
+        numbers[i] = find_in(book, c, sheet, d, cell) as u8;
+    }
+    numbers
+}
+
+// Reads a book and a sheet.
+pub fn read_order(book: &[u8], sheet: &[u8]) -> Order
+    ensures { λ r. ⌜ r ≡ orderOf (now (book .entry)) (now (sheet .entry)) ⌝ }
+{
+    let b = read_book(book);
+    let s = read_sheet(sheet);
+    let f = b.family;
+    let g = s.sheet;
+    let rules = f.rules;
+    let cells = number_cells(book, f.colours, sheet, g);
+    let answer = first_fault(b.fault, s.fault);
+    Order {
+        answer,
+        rules,
+        count: f.count,
+        start: f.start as u8,
+        rows: g.rows,
+        cols: g.cols,
+        cells,
+    }
+}
