@@ -2,7 +2,6 @@
 // The row has the rules of the book, and colours has for each cell the number of its colour there; the rest is as for the cuts.
 use crate::cut::works;
 use crate::part::Direction;
-use crate::part::reach;
 use crate::piece::Piece;
 use crate::piece::times;
 use books::rule::Body;
@@ -11,6 +10,7 @@ ghost use mathlib.Core.Path.{_≡_};
 ghost use Prim.Native.Nat.{_*_, _≤_};
 ghost use lib.ListN.{length, take};
 ghost use Rattle.pieces.specs.Pieces.{Inside, Room};
+ghost use Rattle.pieces.specs.Direction.{reach};
 ghost use Rattle.pieces.specs.View.{Tabled, Ready, hasBit, hasColour, seen};
 ghost use Rattle.pieces.specs.Choice.{covers, joinedAt, offered, choose};
 
@@ -35,7 +35,7 @@ fn covers(colours: &[u8], rows: usize, cols: usize, p: Piece, colour: u8) -> boo
     false
 }
 
-// A join, by its number, at the smallest cut that works; nothing where none does.
+// A join, by its number, at the smallest cut that works; nothing where none does. The piece reaches to `end` in the direction.
 fn join_at(
     work: &[u32],
     rows: usize,
@@ -43,13 +43,13 @@ fn join_at(
     p: Piece,
     i: usize,
     d: Direction,
+    end: usize,
     l: u8,
     r: u8,
 ) -> Choice
-    requires { ⌜ Tabled rows cols (now work) × Inside rows cols p ⌝ }
+    requires { ⌜ Tabled rows cols (now work) × Inside rows cols p × (end ≡ reach d p) ⌝ }
     ensures { λ x. ⌜ x ≡ joinedAt (hasBit rows cols (now (work .entry))) p i d l r ⌝ }
 {
-    let end = reach(p, d);
     let mut k = 1;
     while k < end {
         if works(work, rows, cols, p, d, l, r, k) {
@@ -80,8 +80,8 @@ fn offer(
             }
             Choice::NoRule
         }
-        Body::Across(l, r) => join_at(work, rows, cols, p, i, Direction::Across, l, r),
-        Body::Down(u, v) => join_at(work, rows, cols, p, i, Direction::Down, u, v),
+        Body::Across(l, r) => join_at(work, rows, cols, p, i, Direction::Across, p.width, l, r),
+        Body::Down(u, v) => join_at(work, rows, cols, p, i, Direction::Down, p.height, u, v),
     }
 }
 

@@ -1,8 +1,7 @@
 // The cuts of a piece, by the bits of the table. The sheet has so many rows and columns, and work is the table of its pieces: each function
 // asks that it is long enough for the sheet, and that the piece lies on it.
 use crate::part::Direction;
-use crate::part::back;
-use crate::part::front;
+use crate::part::parts_of;
 use crate::piece::Piece;
 use crate::piece::slot;
 ghost use mathlib.Core.Path.{_≡_};
@@ -39,10 +38,9 @@ pub(crate) fn works(
     requires { ⌜ Tabled rows cols (now work) × Inside rows cols p × (1 ≤ k) × (k < reach d p) ⌝ }
     ensures { λ x. ⌜ x ≡ works (hasBit rows cols (now (work .entry))) d l r p k ⌝ }
 {
-    let first = front(p, d, k);
-    if has(work, rows, cols, first, l) {
-        let rest = back(p, d, k);
-        has(work, rows, cols, rest, r)
+    let parts = parts_of(p, d, k);
+    if has(work, rows, cols, parts.first, l) {
+        has(work, rows, cols, parts.rest, r)
     } else {
         false
     }

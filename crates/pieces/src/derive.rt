@@ -30,9 +30,8 @@ pub fn derive(book: &[u8], sheet: &[u8], work: &mut [u32], tree: &mut [u16]) -> 
     ensures { λ r. ⌜ r ≡ derivation (now (book .entry)) (now (sheet .entry)) (now (work .entry)) (now (tree .entry)) .answer ⌝ ∗ ⌜ now (work .exit) ≡ derivation (now (book .entry)) (now (sheet .entry)) (now (work .entry)) (now (tree .entry)) .entries ⌝ ∗ ⌜ now (tree .exit) ≡ derivation (now (book .entry)) (now (sheet .entry)) (now (work .entry)) (now (tree .entry)) .numbers ⌝ }
 {
     let o = order::read_order(book, sheet);
-    let a = o.answer;
-    if a.number != 0 {
-        return a;
+    if o.answer.number != 0 {
+        return o.answer;
     }
     let short = lack(o.rows, o.cols, work.len(), tree.len());
     if short != 0 {

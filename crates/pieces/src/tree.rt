@@ -3,8 +3,8 @@
 use crate::choice::Choice;
 use crate::choice::choose;
 use crate::cut::has;
-use crate::part::back;
-use crate::part::front;
+use crate::part::Parts;
+use crate::part::parts_of;
 use crate::piece::Piece;
 use crate::piece::numbers;
 use books::rule::Rule;
@@ -67,9 +67,8 @@ fn pick_node(
                 colours,
                 rows,
                 cols,
-                front(p, d, k),
+                parts_of(p, d, k),
                 l,
-                back(p, d, k),
                 r,
                 tree,
                 at + 2,
@@ -86,17 +85,27 @@ fn write_parts(
     colours: &[u8],
     rows: usize,
     cols: usize,
-    first: Piece,
+    parts: Parts,
     l: u8,
-    rest: Piece,
     r: u8,
     tree: &mut [u16],
     at: usize,
 ) -> Written
-    requires { ⌜ Ready rows cols (now work) (now colours) × Inside rows cols first × Inside rows cols rest × (count ≤ 200) × (at + (treeSize first + treeSize rest) ≤ length (now tree)) ⌝ }
-    ensures { λ x. ⌜ Wrote (now (tree .entry)) (now (tree .exit)) at (treeSize first + treeSize rest) (both (treeOf (seen rows cols (now (work .entry)) (now (colours .entry))) (take count rules) l first) (treeOf (seen rows cols (now (work .entry)) (now (colours .entry))) (take count rules) r rest)) x ⌝ }
+    requires { ⌜ Ready rows cols (now work) (now colours) × Inside rows cols (parts .first) × Inside rows cols (parts .rest) × (count ≤ 200) × (at + (treeSize (parts .first) + treeSize (parts .rest)) ≤ length (now tree)) ⌝ }
+    ensures { λ x. ⌜ Wrote (now (tree .entry)) (now (tree .exit)) at (treeSize (parts .first) + treeSize (parts .rest)) (both (treeOf (seen rows cols (now (work .entry)) (now (colours .entry))) (take count rules) l (parts .first)) (treeOf (seen rows cols (now (work .entry)) (now (colours .entry))) (take count rules) r (parts .rest))) x ⌝ }
 {
-    let done = pick_node(rules, count, work, colours, rows, cols, first, l, tree, at);
+    let done = pick_node(
+        rules,
+        count,
+        work,
+        colours,
+        rows,
+        cols,
+        parts.first,
+        l,
+        tree,
+        at,
+    );
     match done {
         Written::NoRule => Written::NoRule,
         Written::Upto(next) => pick_node(
@@ -106,7 +115,7 @@ fn write_parts(
             colours,
             rows,
             cols,
-            rest,
+            parts.rest,
             r,
             tree,
             next,

@@ -1,5 +1,5 @@
 -- A colour is held to the one cell of the piece, and a join to its smallest cut.
-use mathlib.Core.Path.{sym, _∙_}
+use mathlib.Core.Path.{refl, sym, _∙_}
 use Rattle.pieces.specs.Direction.{reach}
 use Rattle.pieces.specs.Choice.{fits, chosen, joinedAt, offered}
 use borrow.Author.Needs.{needs}
@@ -20,13 +20,15 @@ enum-known-body-2 : tie.Need-enum-known-body-2
 enum-known-body-2 c = search needs
 
 join-at-requires : tie.Need-join-at-requires
-join-at-requires c κs = search needs
+unfolding reach
+join-at-requires c κs = let given = c .before .before .before .before .before .pre in (given .0 .tabled, given .1, refl)
 
 enum-known-body-3 : tie.Need-enum-known-body-3
 enum-known-body-3 c = search needs
 
 join-at-requires-2 : tie.Need-join-at-requires-2
-join-at-requires-2 c κs = search needs
+unfolding reach
+join-at-requires-2 c κs = let given = c .before .before .before .before .before .pre in (given .0 .tabled, given .1, refl)
 
 returns-2 : tie.Need-returns-2
 unfolding offered fits chosen

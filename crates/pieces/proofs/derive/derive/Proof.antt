@@ -20,7 +20,7 @@ began k = k .before .before .before .before .before
 
 -- After an order with no fault was held to the slices' lengths: where it was read, and what it gives.
 abbrev order-read : tie.After-lack → tie.After-read-order
-order-read l = l .before .before .before .before
+order-read l = l .before .before .before
 
 book-bytes : (k : tie.After-read-order) → Bytes (now (began k .args .book))
 book-bytes k i = k .before .before .before .before .shared-slice-known .given i .fits
@@ -48,11 +48,11 @@ returns : tie.Need-returns
 returns c =
     let k = c .before .before .before in
     let a = began k .args in
-    rw (refused _ _ (k .read-order .ensures) (now (a .work)) (now (a .tree)) (c .if1 .taken)) (refl, (refl, refl))
+    rw (refused _ _ (k .read-order .ensures) (now (a .work)) (now (a .tree)) (c .before .if1 .taken)) (refl, (refl, refl))
 
 lack-requires : tie.Need-lack-requires
 lack-requires c κs =
-    let k = c .before .before .before in
+    let k = c .before .before in
     ordered _ _ (k .read-order .ensures) (book-bytes k) (sheet-bytes k) (c .if1 .left) .sizes
 
 unblamed-requires : tie.Need-unblamed-requires

@@ -25,15 +25,14 @@ use Rattle.pieces.proofs.tree.write_parts.Reads as write-parts
 use Rattle.pieces.proofs.tree.write_parts.Kinds as write-parts-kinds
 use Rattle.pieces.proofs.tree.+pick_node+write_parts.Lts-write_parts as write-parts-lts
 use Rattle.pieces.proofs.choice.choose.Reads as choose-reads
-use Rattle.pieces.proofs.part.back.Reads as back-reads
-use Rattle.pieces.proofs.part.front.Reads as front-reads
+use Rattle.pieces.proofs.part.parts_of.Reads as parts-of-reads
 use Rattle.pieces.proofs.tree.put_node.Reads as put-node-reads
 
 abbrev μ-pick-node : Measures 3 pick-node-kinds.ps ℕ
 μ-pick-node κs a = 2 * area (a .1 .1 .1 .1 .1 .1 .0)
 
 abbrev μ-write-parts : Measures 3 write-parts-kinds.ps ℕ
-μ-write-parts κs a = 2 * (area (a .1 .1 .1 .1 .1 .1 .0) + area (a .1 .1 .1 .1 .1 .1 .1 .1 .0)) - 1
+μ-write-parts κs a = let parts = a .1 .1 .1 .1 .1 .1 .0 in 2 * (area (parts .first) + area (parts .rest)) - 1
 
 abbrev pick-node-at : ℕ → In 3 pick-node-kinds.ps
 pick-node-at t = and 3 pick-node-kinds.ps (is 3 pick-node-kinds.ps μ-pick-node t) pick-node.Pre
@@ -57,10 +56,8 @@ picks t = (
   choose-reads.Learnt,
   put-node-reads.Asked,
   put-node-reads.Learnt,
-  front-reads.Asked,
-  front-reads.Learnt,
-  back-reads.Asked,
-  back-reads.Learnt,
+  parts-of-reads.Asked,
+  parts-of-reads.Learnt,
   write-parts-below t,
   write-parts.Post,
 )
@@ -126,29 +123,26 @@ module _ (t : ℕ) where
       let j = join (c .before) in
       (room (choosing (c .before)), j .rule-small, j .cut-small)
 
-  pick-node-front-requires : pick-node-lts.Need-front-requires (picks t) (pick-node-at t) pick-node.Post
-  pick-node-front-requires c κs = search needs
-
-  pick-node-back-requires : pick-node-lts.Need-back-requires (picks t) (pick-node-at t) pick-node.Post
-  pick-node-back-requires c κs =
-      let k = c .before .before .before .before .before in
+  pick-node-parts-of-requires : pick-node-lts.Need-parts-of-requires (picks t) (pick-node-at t) pick-node.Post
+  pick-node-parts-of-requires c κs =
+      let k = c .before .before .before .before in
       let g = node (choosing k) .pre .1 in
       (omega (arith, join k .inside), omega (arith, g .1, g .0 .tabled), omega (arith, g .1, g .0 .tabled))
 
   pick-node-add-write-parts : pick-node-lts.Need-add-write-parts (picks t) (pick-node-at t) pick-node.Post
   pick-node-add-write-parts c =
-      let k = choosing (c .before .before .before .before .before .before .before) in
+      let k = choosing (c .before .before .before .before .before .before) in
       omega (arith, node k .good, room k)
 
   pick-node-write-parts-requires : pick-node-lts.Need-write-parts-requires (picks t) (pick-node-at t) pick-node.Post
   pick-node-write-parts-requires c κs =
-      let k = c .before .before .before .before .before .before .before in
+      let k = c .before .before .before .before .before .before in
       let s = node (choosing k) in
       let g = s .pre .1 in
       let j = join k in
       let p = j .of-parts in
-      let long = c .before .before .before .before .before .put-node2 .kept .0 in
-      rw (c .before .before .front .ensures, c .before .back .ensures)
+      let long = c .before .before .before .before .put-node2 .kept .0 in
+      rw (c .before .parts-of .ensures)
       (omega (arith, s .pre .0, p), (g .0, p .front-in, p .back-in, g .2, omega (arith, g .3, j .rooms, long)))
 
   pick-node-returns : pick-node-lts.Need-returns (picks t) (pick-node-at t) pick-node.Post
@@ -169,18 +163,18 @@ module _ (t : ℕ) where
 
   pick-node-returns-3 : pick-node-lts.Need-returns-3 (picks t) (pick-node-at t) pick-node.Post
   pick-node-returns-3 c =
-      let f = c .before .before .before .before .before in
+      let f = c .before .before .before .before in
       let n = f .before .before .before in
       let k = n .before .before in
       let tree = tree-of (known (choosing k)) _ (k .before .choice2 .given .1) in
-      let behind = rw (f .front .ensures, c .before .before .before .before .back .ensures) at (c .before .before .write-parts .ensures) in
+      let behind = rw (f .parts-of .ensures) at (c .before .before .write-parts .ensures) in
       rw (tree, join k .rooms) (wrote-node _ _ _ _ _ _ _ _ _ (room (choosing k)) (n .put-node2 .ensures) behind)
 
   -- where the parts begin, both have cells
   abbrev Began : Type 0
   Began = write-parts-lts.Start (parts t) (write-parts-at t) write-parts.Post
 
-  cells : (s : Began) → let a = s .args in (1 ≤ area (a .first)) × (1 ≤ area (a .rest))
+  cells : (s : Began) → let a = s .args in (1 ≤ area (a .parts .first)) × (1 ≤ area (a .parts .rest))
   cells s = let g = s .pre .1 in (area-pos _ _ _ (g .1), area-pos _ _ _ (g .2))
 
   -- after the first part: where the parts began
@@ -241,8 +235,7 @@ pub +pick-node+write-parts-spec : {M : Type 1} → statement M
     (pick-node-add-t22 t)
     (pick-node-enum-known-choice-2 t)
     (pick-node-put-node-requires-2 t)
-    (pick-node-front-requires t)
-    (pick-node-back-requires t)
+    (pick-node-parts-of-requires t)
     (pick-node-add-write-parts t)
     (pick-node-write-parts-requires t)
     (pick-node-returns t)
