@@ -8,7 +8,7 @@ ghost use Prim.Native.Nat.{_≤_};
 ghost use Rattle.books.specs.Rules.{colourAt, joinAt, bodyAt};
 
 // A body and the place after it, or the fault.
-pub enum BodyRead {
+pub(crate) enum BodyRead {
     Whole(Body, usize),
     Refused(Fault),
 }
@@ -50,7 +50,7 @@ fn read_join(s: &[u8], at: usize, kind: usize, motifs: usize) -> BodyRead
 }
 
 // A kind, and what it carries.
-pub fn read_body(s: &[u8], at: usize, motifs: usize, colours: usize) -> BodyRead
+pub(crate) fn read_body(s: &[u8], at: usize, motifs: usize, colours: usize) -> BodyRead
     requires { ⌜ (motifs ≤ 32) × (colours ≤ 64) ⌝ }
     ensures { λ r. ⌜ r ≡ bodyAt (now (s .entry)) at motifs colours ⌝ }
 {

@@ -9,10 +9,10 @@ ghost use Rattle.books.specs.Size.{room};
 ghost use Rattle.books.specs.Cells.{refusedCells, cellsOf};
 
 // Cells that were read, 0 past the last, with the place after them; refused ones are all 0 and have the place 0.
-pub struct CellsRead {
-    pub fault: Fault,
-    pub cells: [u8; ROOM],
-    pub next: usize,
+pub(crate) struct CellsRead {
+    pub(crate) fault: Fault,
+    pub(crate) cells: [u8; ROOM],
+    pub(crate) next: usize,
 }
 
 fn refused_cells(f: Fault) -> CellsRead
@@ -26,7 +26,7 @@ fn refused_cells(f: Fault) -> CellsRead
 }
 
 // So many cells from a place on, each the number of one of so many colours.
-pub fn read_cells(s: &[u8], from: usize, colours: usize, count: usize) -> CellsRead
+pub(crate) fn read_cells(s: &[u8], from: usize, colours: usize, count: usize) -> CellsRead
     requires { ⌜ (colours ≤ 64) × (count ≤ room) ⌝ }
     ensures { λ r. ⌜ r ≡ cellsOf (now (s .entry)) colours from count ⌝ }
 {

@@ -88,7 +88,7 @@ fn figures_len(motifs: usize, start: usize, count: usize) -> usize
     number::spelled_len(motifs) + (number::spelled_len(start) + number::spelled_len(count))
 }
 
-pub fn book_len(first: &[u8], second: &[u8], d: Draft) -> usize
+pub(crate) fn book_len(first: &[u8], second: &[u8], d: Draft) -> usize
     requires { ⌜ Ready d ⌝ }
     ensures { λ r. ⌜ r ≡ length (spellBook (draftIn (now (first .entry)) (now (second .entry)) d)) ⌝ }
 {

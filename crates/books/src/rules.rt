@@ -17,10 +17,10 @@ enum RuleRead {
 }
 
 // The rules with the place after them; refused ones are the fixed rules and the place 0.
-pub struct RulesRead {
-    pub fault: Fault,
-    pub rules: [Rule; 200],
-    pub next: usize,
+pub(crate) struct RulesRead {
+    pub(crate) fault: Fault,
+    pub(crate) rules: [Rule; 200],
+    pub(crate) next: usize,
 }
 
 // What stands in the place of a rule that is none.
@@ -34,7 +34,7 @@ fn no_rule() -> Rule
 }
 
 // The rules of a family that has none.
-pub fn no_rules() -> [Rule; 200]
+pub(crate) fn no_rules() -> [Rule; 200]
     ensures { λ r. ⌜ r ≡ noRules ⌝ }
 {
     let rule = no_rule();
@@ -78,7 +78,13 @@ fn read_rule(s: &[u8], at: usize, motifs: usize, colours: usize) -> RuleRead
 }
 
 // So many rules from a place on.
-pub fn read_rules(s: &[u8], from: usize, motifs: usize, colours: usize, count: usize) -> RulesRead
+pub(crate) fn read_rules(
+    s: &[u8],
+    from: usize,
+    motifs: usize,
+    colours: usize,
+    count: usize,
+) -> RulesRead
     requires { ⌜ (motifs ≤ 32) × (colours ≤ 64) × (count ≤ 200) ⌝ }
     ensures { λ r. ⌜ r ≡ rulesAt (now (s .entry)) from motifs colours count ⌝ }
 {
