@@ -1,9 +1,6 @@
 // The colours of two lent books in one list: those of the first, then those of the second that the first lacks by name, in their order.
 use names::colours;
 use names::colours::Colours;
-use names::name;
-ghost use mathlib.Core.Path.{_≡_};
-ghost use Rattle.names.specs.Colours.{withColour};
 ghost use Rattle.families.specs.Merges.{Lists, Merges};
 
 // The colours that follow those of the first book, as parts of the second, and the number of each of the second's colours in the whole list.
@@ -21,12 +18,12 @@ pub(crate) fn merge(first: &[u8], f: Colours, second: &[u8], g: Colours) -> Merg
     let own = f.count;
     let count = g.count;
     for i in 0..count {
-        let start = g.starts[i];
-        let len = g.lens[i];
-        let found = colours::find_name(first, f, name::tail(second, start as usize), len as usize);
+        let found = colours::find_in(first, f, second, g, i);
         if found < own {
             numbers[i] = found as u8;
         } else {
+            let start = g.starts[i];
+            let len = g.lens[i];
             let last = more.count;
             numbers[i] = (own + last) as u8;
             more.starts[last] = start;

@@ -9,7 +9,7 @@ ghost use Prim.Native.Nat.{_≤_, _<_};
 ghost use Rattle.pieces.specs.Pieces.{Inside};
 ghost use Rattle.pieces.specs.Direction.{reach};
 ghost use Rattle.pieces.specs.View.{Tabled, hasBit};
-ghost use Rattle.pieces.specs.Choice.{works, cutOf};
+ghost use Rattle.pieces.specs.Choice.{works};
 
 // Whether a motif has its bit set at a piece. An entry has 32 bits.
 pub(crate) fn has(work: &[u32], rows: usize, cols: usize, p: Piece, motif: u8) -> bool

@@ -3,8 +3,7 @@ use books::rule::Body;
 use books::rule::Rule;
 ghost use mathlib.Core.Path.{_≡_};
 ghost use Prim.Native.Nat.{_+_, _^_, _<_};
-ghost use lib.Bits.{bitOr};
-ghost use lib.ListN.{length, getD, replicate, set};
+ghost use lib.ListN.{length, replicate};
 ghost use Rattle.pieces.specs.Masks.{join, putJoin, putRule, countRule, Small};
 ghost use Rattle.pieces.specs.Painted.{SmallRules, SplitInto};
 

@@ -9,7 +9,7 @@ use crate::piece::Piece;
 use books::rule::Rule;
 ghost use mathlib.Core.Path.{_≡_};
 ghost use Prim.Native.Nat.{ℕ, _≤_, _<_, _*_};
-ghost use lib.ListN.{length, getD, take};
+ghost use lib.ListN.{length, getD};
 ghost use Rattle.pieces.specs.Pieces.{Inside, Room, slotOf, total};
 ghost use Rattle.pieces.specs.Course.{Runs};
 ghost use Rattle.pieces.specs.Joined.{firing, joined, along};

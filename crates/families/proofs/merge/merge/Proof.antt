@@ -2,10 +2,7 @@
 use Prim.Native.Nat.{_-_}
 use mathlib.Core.Path.{_≡_, refl}
 use mathlib.Core.Logic.{⊎-elim}
-use denote.Ref.{now}
-use Rattle.names.specs.Colours.{nameIn, findName}
 use native.Mathlib.Omega.{arith}
-use borrow.Author.Needs.{needs}
 use Rattle.families.proofs.MergingLists.{SoFar, so-far-none, so-far-held, so-far-new, so-far-all}
 use Rattle.families.proofs.merge.merge.Statement.{statement}
 use Rattle.families.proofs.merge.merge.Tie as tie
@@ -22,6 +19,15 @@ no-colours-requires c κs = tt
 loop-holds : tie.Need-loop-holds Inv-loop μ-loop
 loop-holds c = rw (c .no-colours .ensures) (so-far-none _ _ _ _ (c .before .before .before .pre .0) (c .before .before .before .pre .1) _ refl)
 
+find-in-requires : tie.Need-find-in-requires Inv-loop μ-loop
+find-in-requires c κs = omega arith
+
+cast-numbers : tie.Need-cast-numbers Inv-loop μ-loop
+cast-numbers c = omega arith
+
+array-write-numbers : tie.Need-array-write-numbers Inv-loop μ-loop
+array-write-numbers c = omega arith
+
 mul-start : tie.Need-mul-start Inv-loop μ-loop
 mul-start c = omega arith
 
@@ -30,24 +36,6 @@ element-copy-out-start c = omega arith
 
 element-copy-out-len : tie.Need-element-copy-out-len Inv-loop μ-loop
 element-copy-out-len c = omega arith
-
-cast-tail : tie.Need-cast-tail Inv-loop μ-loop
-cast-tail c = search needs
-
-tail-requires : tie.Need-tail-requires Inv-loop μ-loop
-tail-requires c κs = tt
-
-cast-find-name : tie.Need-cast-find-name Inv-loop μ-loop
-cast-find-name c = search needs
-
-find-name-requires : tie.Need-find-name-requires Inv-loop μ-loop
-find-name-requires c κs = tt
-
-cast-numbers : tie.Need-cast-numbers Inv-loop μ-loop
-cast-numbers c = omega arith
-
-array-write-numbers : tie.Need-array-write-numbers Inv-loop μ-loop
-array-write-numbers c = omega arith
 
 add-numbers : tie.Need-add-numbers Inv-loop μ-loop
 add-numbers c = omega arith
@@ -78,15 +66,16 @@ loop-less c = omega arith
 
 loop-again : tie.Need-loop-again Inv-loop μ-loop
 loop-again c =
-    let a = c .before .before .before .before .before .before .before .before .before .before .args in
-    let p = c .before .before .before .before .before .before .before .before .before .before .pre in
-    let l = c .before .before .before .before .before .before .loop in
-    let less = c .before .before .before .before .before .loop-test .taken in
-    let found : c .before .find-name .result ≡ findName (now (a .first)) (a .f) (nameIn (now (a .second)) (a .t4) (l .i)) =
-    rw (← c .before .before .tail .ensures) (c .before .find-name .ensures) in
+    let t = c .before .before in
+    let l = t .before .loop in
+    let s = t .before .before .before .before .before in
+    let a = s .args in
+    let p = s .pre in
+    let less = t .loop-test .taken in
+    let found = c .before .find-in .ensures in
     ⊎-elim
     (λ w. rw (w .1, w .2, found) (so-far-held _ (a .f) _ (a .t4) (p .0) (p .1) (l .i) _ _ less (l .inv) (rw found at (w .0 .taken))))
-    (λ w. rw (w .1, w .2) (so-far-new _ (a .f) _ (a .t4) (p .0) (p .1) (l .i) _ _ less (l .inv) (rw found at (w .0 .left))))
+    (λ w. rw (w .3, w .4) (so-far-new _ (a .f) _ (a .t4) (p .0) (p .1) (l .i) _ _ less (l .inv) (rw found at (w .0 .left))))
     (c .if1 .came)
 
 returns : tie.Need-returns Inv-loop μ-loop
@@ -105,15 +94,12 @@ merge-spec =
     μ-loop
     no-colours-requires
     loop-holds
+    find-in-requires
+    cast-numbers
+    array-write-numbers
     mul-start
     element-copy-out-start
     element-copy-out-len
-    cast-tail
-    tail-requires
-    cast-find-name
-    find-name-requires
-    cast-numbers
-    array-write-numbers
     add-numbers
     cast-numbers-2
     array-write-numbers-2

@@ -1,3 +1,4 @@
+-- The entry of a piece stands at its slot, and an entry, below 2 to the power 32, has no bit from the 32nd on.
 use lib.ListN.{getD}
 use Rattle.pieces.specs.Pieces.{slotOf}
 use Rattle.pieces.specs.View.{hasBit}

@@ -1,3 +1,4 @@
+-- The masks are laid out rule by rule.
 use mathlib.Core.Path.{_≡_, ap, subst}
 use Prim.Native.Nat.{_-_, _≤_}
 use native.Mathlib.Omega.{arith}
