@@ -1,6 +1,6 @@
 -- What callers use of a rule's body that was read: it fits the counts, lies within the input, and stands there as it is spelled; a refusal
 -- names what it blames. The kind is read first, and then what it carries.
-use Prim.Native.Nat.{ℕ, _+_, _-_, _<_, _≤_}
+use Prim.Native.Nat.{ℕ, _+_, _<_, _≤_}
 use mathlib.Core.Path.{_≡_}
 use mathlib.Core.List.{List, _++_}
 use native.Mathlib.Omega.{arith}

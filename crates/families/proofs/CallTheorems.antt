@@ -1,7 +1,7 @@
 -- What each of the eight calls makes, from the bytes of the lent books to the bytes written: where it answers 0, so many bytes of the slice are a book that holds
 -- exactly what the combination of the lent books should hold. Its contents are the combination's, and its spelling is read back.
-use Prim.Native.Nat.{ℕ, _≤_, _<_, _/_, _%_, _^_}
-use mathlib.Core.Path.{_≡_, refl, sym, _∙_, ap, subst}
+use Prim.Native.Nat.{ℕ, _/_, _%_, _^_}
+use mathlib.Core.Path.{_≡_, sym, _∙_, ap, subst}
 use mathlib.Core.List.{List}
 use mathlib.Core.Logic.{_↔_, _⊎_}
 use native.Mathlib.Omega.{arith}
@@ -15,7 +15,7 @@ use Rattle.books.specs.Derives.{Family}
 use Rattle.books.specs.Keeps.{Sound, Keeps}
 use Rattle.books.specs.Picture.{Picture, across, down}
 use Rattle.books.specs.SpellBook.{spellBook}
-use Rattle.books.specs.Answer.{packed, Packs}
+use Rattle.books.specs.Answer.{Packs}
 use Rattle.books.proofs.ReadingBooks.{BookSpelled, book-accepted}
 use Rattle.books.proofs.LongestBook.{spelling-bytes}
 use Rattle.books.proofs.SpellingBooks.{book-read-back}
@@ -27,7 +27,7 @@ use Rattle.families.specs.Limits.{WithinLimits}
 use Rattle.families.specs.Outcome.{Outcome, made, onOne, onSecond, onTwo, Leaves}
 use Rattle.families.specs.NewBook.{bookIn, Held, NewBook}
 use Rattle.families.proofs.Keeping.{joined-keeps, either-of-keeps, repeated-keeps, transposed-keeps, swapping-keeps}
-use Rattle.families.proofs.Outcomes.{Wrote, made-wrote, made-packs, lent-went, lent-packs, front-put, beyond-put}
+use Rattle.families.proofs.Outcomes.{made-wrote, made-packs, lent-went, lent-packs, front-put, beyond-put}
 use Rattle.families.proofs.Theorems.{either-of-holds, beside-holds, above-holds, run-holds, stack-holds, mirrored-holds, flipped-holds, transposed-holds, mirrored-again, flipped-again, transposed-again}
 
 -- the number 0 and the count, as the host reads them off a call's answer

@@ -1,37 +1,29 @@
 -- Contents are drafted where they are within the limits. One book repeated or changed has its own colours and, with the copies and the joining rule, or changed
 -- one by one, its own rules.
-use Prim.Native.Nat.{ℕ, _+_, _≤_, _<_}
-use mathlib.Core.Path.{_≡_, refl, sym, _∙_, ap}
+use Prim.Native.Nat.{ℕ, _+_, _≤_}
+use mathlib.Core.Path.{_≡_, refl, sym, _∙_}
 use mathlib.Core.Bool.{true, false, true≢false}
-use mathlib.Core.List.{List, [], _∷_, _++_, map, append-assoc, append-nil, List·Memᴰ, List·Memᴰ·head, List·Memᴰ·tail}
+use mathlib.Core.List.{List, [], _∷_, _++_, append-assoc, append-nil}
 use native.Mathlib.Omega.{arith}
-use lib.ListN.{length, getD, length-append, length-map}
-use Rattle.names.specs.Name.{Name, place}
+use lib.ListN.{length, length-append}
 use Rattle.names.specs.Colours.{namesIn, noColours}
 use Rattle.names.specs.declared.colours.Colours.{Colours}
-use Rattle.names.proofs.ReadingColours.{names-count, name-at}
+use Rattle.names.proofs.ReadingColours.{names-count}
 use Rattle.books.specs.Contents.{Contents}
 use Rattle.books.specs.Held.{contentsIn}
-use Rattle.books.specs.Keeps.{BodyFits, RuleFits, Keeps}
 use Rattle.books.specs.Picture.{Dir, joins}
 use Rattle.books.specs.declared.family.Family.{Family}
 use Rattle.books.specs.declared.rule.Rule.{Rule}
 use Rattle.books.specs.declared.rule.Body.{Body}
-use Rattle.books.specs.declared.rule.Body.the-variants.{Colour, Across, Down}
-use Rattle.families.specs.Merged.{merged}
-use Rattle.families.specs.Merges.{Merges}
-use Rattle.families.specs.Combine.{moved, renumbered, raised, copies, joined, either-of, repeated, rebodied}
+use Rattle.families.specs.Combine.{copies, repeated, rebodied}
 use Rattle.families.specs.Counts.{headed}
-use Rattle.families.specs.Gathered.{standing, followed, raisedBy, changed, Rows}
-use Rattle.families.specs.Lent.{rulesOf, Sized, Lent}
+use Rattle.families.specs.Gathered.{standing, followed, changed, Rows}
+use Rattle.families.specs.Lent.{rulesOf, Sized}
 use Rattle.families.specs.Within.{few?, within?}
 use Rattle.families.specs.Combined.{repeatedRules}
 use Rattle.families.specs.Made.{draftedAs, tooMuch, Makes}
 use Rattle.families.specs.declared.gathering.Rules.{Rules}
-use Rattle.families.specs.declared.merge.Merged.{Merged}
-use Rattle.families.proofs.Fitting.{RulesFit, fit-more}
-use Rattle.families.proofs.Copying.{copies-raised}
-use Rattle.families.proofs.Counting.{copies-length, joined-length, either-of-length, repeated-length, rebodied-length}
+use Rattle.families.proofs.Counting.{copies-length, repeated-length, rebodied-length}
 use Rattle.families.proofs.Testing.{within-limits, within-counts}
 use Rattle.families.proofs.AddingRules.{Stands, stands-count, followed-stands, changed-stands}
 

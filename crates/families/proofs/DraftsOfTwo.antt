@@ -2,17 +2,16 @@
 -- numbers in the merged list, and the new ones follow.
 use Prim.Native.Nat.{ℕ, _+_, _≤_, _<_}
 use mathlib.Core.Path.{_≡_, refl, sym, _∙_, ap}
-use mathlib.Core.Bool.{true, false, true≢false}
-use mathlib.Core.List.{List, [], _∷_, _++_, map, append-assoc, append-nil, List·Memᴰ, List·Memᴰ·head, List·Memᴰ·tail}
+use mathlib.Core.Bool.{true}
+use mathlib.Core.List.{List, [], _∷_, _++_, map, append-assoc, List·Memᴰ, List·Memᴰ·head, List·Memᴰ·tail}
 use native.Mathlib.Omega.{arith}
-use lib.ListN.{length, getD, length-append, length-map}
-use Rattle.names.specs.Name.{Name, place}
-use Rattle.names.specs.Colours.{namesIn, noColours}
-use Rattle.names.specs.declared.colours.Colours.{Colours}
+use lib.ListN.{length, getD, length-append}
+use Rattle.names.specs.Name.{place}
+use Rattle.names.specs.Colours.{namesIn}
 use Rattle.names.proofs.ReadingColours.{names-count, name-at}
 use Rattle.books.specs.Contents.{Contents}
 use Rattle.books.specs.Held.{contentsIn}
-use Rattle.books.specs.Keeps.{BodyFits, RuleFits, Keeps}
+use Rattle.books.specs.Keeps.{BodyFits}
 use Rattle.books.specs.Picture.{Dir, joins}
 use Rattle.books.specs.declared.family.Family.{Family}
 use Rattle.books.specs.declared.rule.Rule.{Rule}
@@ -20,19 +19,17 @@ use Rattle.books.specs.declared.rule.Body.{Body}
 use Rattle.books.specs.declared.rule.Body.the-variants.{Colour, Across, Down}
 use Rattle.families.specs.Merged.{merged}
 use Rattle.families.specs.Merges.{Merges}
-use Rattle.families.specs.Combine.{moved, renumbered, raised, copies, joined, either-of, repeated, rebodied}
+use Rattle.families.specs.Combine.{moved, renumbered, raised, copies, joined, either-of}
 use Rattle.families.specs.Counts.{headed}
-use Rattle.families.specs.Gathered.{standing, followed, raisedBy, changed, Rows}
-use Rattle.families.specs.Lent.{rulesOf, Sized, Lent}
+use Rattle.families.specs.Gathered.{standing, followed, raisedBy}
+use Rattle.families.specs.Lent.{rulesOf, Lent}
 use Rattle.families.specs.Within.{few?, within?}
 use Rattle.families.specs.Combined.{raisedRules, bothRules, joinedRules, eitherRules}
-use Rattle.families.specs.Made.{draftedAs, tooMuch, Makes}
-use Rattle.families.specs.declared.gathering.Rules.{Rules}
+use Rattle.families.specs.Made.{draftedAs, Makes}
 use Rattle.families.specs.declared.merge.Merged.{Merged}
-use Rattle.families.proofs.Fitting.{RulesFit, fit-more}
-use Rattle.families.proofs.Counting.{copies-length, joined-length, either-of-length, repeated-length, rebodied-length}
-use Rattle.families.proofs.Testing.{within-limits, within-counts}
-use Rattle.families.proofs.Drafts.{drafted-makes, exceeding-makes}
+use Rattle.families.proofs.Counting.{copies-length, joined-length, either-of-length}
+use Rattle.families.proofs.Testing.{within-counts}
+use Rattle.families.proofs.Drafts.{drafted-makes}
 use Rattle.families.proofs.AddingRules.{Stands, stands-count, followed-stands, changed-stands, changed-count, headed-raised}
 
 map-agrees : (h k : Rule → Rule) (rs : List Rule) → ((r : Rule) → List·Memᴰ r rs → h r ≡ k r) → map h rs ≡ map k rs

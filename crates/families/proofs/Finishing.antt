@@ -1,12 +1,12 @@
 -- What was made is finished as its contents are: a draft within the limits is a draft of them, its spelling is short, and the writer answers 0 or 13 as it
 -- finds room for it.
-use Prim.Native.Nat.{ℕ, _+_, _≤_, _<_, _^_}
-use mathlib.Core.Path.{_≡_, refl, sym, _∙_, ap, subst}
+use Prim.Native.Nat.{ℕ, _+_, _<_, _^_}
+use mathlib.Core.Path.{_≡_, sym, _∙_, ap, subst}
 use mathlib.Core.Bool.{Bool, true, false}
 use mathlib.Core.List.{List}
 use mathlib.Core.Logic.{⊎-elim}
 use native.Mathlib.Omega.{arith}
-use lib.Dec.{leb, eqb}
+use lib.Dec.{leb}
 use lib.ListN.{length}
 use borrow.Author.Tests.{leb-false}
 use Rattle.names.specs.Pick.{pick}
@@ -15,21 +15,17 @@ use Rattle.names.proofs.Picking.{pick-ind}
 use Rattle.names.proofs.Tests.{true-or-false}
 use Rattle.names.proofs.Putting.{put-out}
 use Rattle.books.specs.Contents.{Contents}
-use Rattle.books.specs.Held.{contentsIn}
-use Rattle.books.specs.Book.{bookOf}
-use Rattle.books.specs.Draft.{draftIn, writtenBook}
+use Rattle.books.specs.Draft.{writtenBook}
 use Rattle.books.specs.SpellBook.{spellBook}
 use Rattle.books.specs.Keeps.{Keeps}
-use Rattle.books.specs.Answer.{plain, blaming, packed, Packs}
-use Rattle.books.specs.declared.answer.Answer.{Answer}
+use Rattle.books.specs.Answer.{plain, Packs}
 use Rattle.books.specs.declared.writing.Written.{Written}
 use Rattle.books.proofs.Packing.{plain-packs}
 use Rattle.books.proofs.LongestBook.{spelling-length}
-use Rattle.families.specs.Combine.{beside}
 use Rattle.families.specs.Limits.{WithinLimits}
 use Rattle.families.specs.Within.{within?}
 use Rattle.families.specs.Made.{Makes}
-use Rattle.families.specs.Outcome.{Outcome, refused, written, made, lent, Leaves}
+use Rattle.families.specs.Outcome.{Outcome, written, made, Leaves}
 use Rattle.families.specs.Calls.{paired, alone, finished, Finishes}
 use Rattle.families.specs.declared.making.Made.{Made}
 use Rattle.families.specs.declared.answering.Pairing.{Pairing}

@@ -1,10 +1,9 @@
 -- An outcome with number 0 comes only from accepted books, contents within the limits and a slice with room, and then the contents' spelling stands at the front
 -- of the slice; every outcome packs into one number.
 use Prim.Native.Nat.{ℕ, _+_, _≤_, _<_, _^_}
-use mathlib.Core.Path.{_≡_, refl, sym, _∙_, ap, subst}
-use mathlib.Core.Bool.{Bool, true, false}
+use mathlib.Core.Path.{_≡_, refl, sym, _∙_, ap}
+use mathlib.Core.Bool.{Bool}
 use mathlib.Core.List.{List, _++_}
-use mathlib.Core.Logic.{_↔_}
 use native.Mathlib.Omega.{arith}
 use lib.Dec.{leb, eqb}
 use lib.ListN.{length, take, drop}
@@ -13,7 +12,7 @@ use borrow.Author.Tests.{leb-true, eqb-true, eqb-false}
 use Rattle.names.specs.Pick.{pick}
 use Rattle.names.specs.Put.{put}
 use Rattle.names.proofs.Picking.{pick-ind}
-use Rattle.names.proofs.Putting.{put-in, put-length}
+use Rattle.names.proofs.Putting.{put-in}
 use Rattle.books.specs.Contents.{Contents}
 use Rattle.books.specs.Held.{contentsIn}
 use Rattle.books.specs.Book.{bookOf}

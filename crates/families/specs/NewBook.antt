@@ -1,5 +1,5 @@
 -- What a call that answers 0 has written: a new book at the front of the output slice, and nothing beyond it.
-use Prim.Native.Nat.{ℕ, _≤_}
+use Prim.Native.Nat.{ℕ}
 use mathlib.Core.Path.{_≡_}
 use mathlib.Core.List.{List}
 use mathlib.Core.Logic.{_↔_}

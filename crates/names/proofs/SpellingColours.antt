@@ -1,6 +1,6 @@
 -- All names that keep the rules have exactly one accepted spelling as a colour list, and reading it gives them back: each name is spelled
 -- by its length and its bytes, and each of the two is read back at its place.
-use Prim.Native.Nat.{ℕ, zero, suc, _+_, _-_, _<_, _≤_}
+use Prim.Native.Nat.{ℕ, zero, suc, _+_, _<_, _≤_}
 use mathlib.Core.Path.{_≡_, refl, subst, sym, ap, _∙_}
 use mathlib.Core.Logic.{⊎-elim}
 use mathlib.Core.Bool.{Bool, true, false}

@@ -16,7 +16,6 @@ use Rattle.books.specs.Sheet.{sheetOf}
 use Rattle.books.specs.Answer.{plain, blaming, Packs}
 use Rattle.books.specs.Held.{contentsIn, gridIn}
 use Rattle.books.specs.Grid.{picture}
-use Rattle.books.specs.declared.answer.Answer.{Answer}
 use Rattle.books.proofs.Packing.{plain-packs, book-placed, sheet-placed}
 use Rattle.pieces.specs.Tree.{tree}
 use Rattle.pieces.specs.Derivation.{Derivation, leaving, entriesNeeded, numbersNeeded, treeAnswer, judged, roomed, derivation}

@@ -11,12 +11,11 @@ use borrow.Author.Tests.{eqb-false, lt-ltb, le-ltb}
 use native.Mathlib.Decide.{decLt}
 use lib.ListN.{length, getD, take, drop, length-append, length-drop, length-map}
 use lib.Seq.{take-at, take-all, getD-take}
-use Rattle.names.specs.Colours.{nameIn, namesIn, findName}
+use Rattle.names.specs.Colours.{namesIn}
 use Rattle.names.specs.Name.{place}
 use Rattle.names.proofs.Picking.{pick-ind}
 use Rattle.names.proofs.Tests.{lt-or-le}
 use Rattle.names.proofs.Finding.{find-place}
-use Rattle.names.proofs.ReadingColours.{names-count}
 use Rattle.books.specs.Contents.{Contents}
 use Rattle.books.specs.Picture.{Picture}
 use Rattle.books.specs.Derives.{Derives}

@@ -24,10 +24,10 @@ use Rattle.books.proofs.Ordering.{number-at, numbers-all, order-fine, order-fau
 use Rattle.books.proofs.ReadingBooks.{book-lies, book-accepted}
 use Rattle.books.proofs.ReadingSheets.{sheet-lies}
 use Rattle.books.proofs.SpellingSheets.{sheet-accepted}
-use Rattle.pieces.specs.Area.{whole, treeSize}
+use Rattle.pieces.specs.Area.{whole}
 use Rattle.pieces.specs.Derivation.{leaving, derivation}
 use Rattle.pieces.specs.Painted.{SmallRules}
-use Rattle.pieces.specs.Pieces.{Room, total}
+use Rattle.pieces.specs.Pieces.{Room}
 use Rattle.pieces.specs.Settled.{Made}
 use Rattle.pieces.specs.Verdict.{Verdict, verdict, lacking}
 use Rattle.pieces.specs.View.{seen}

@@ -1,6 +1,6 @@
 -- Where a view is exact, the tree of a derived piece is the derivation given. A rule fits exactly where it can derive the piece, so that the
 -- lowest rule and the smallest cut are those of the tree, and each part of the cut is derived, and so has its tree.
-use Prim.Native.Nat.{ℕ, zero, suc, _+_, _-_, _≤_, _<_}
+use Prim.Native.Nat.{ℕ, zero, suc, _+_, _≤_, _<_}
 use mathlib.Core.Path.{_≡_, refl, sym, _∙_, ap₂}
 use mathlib.Core.Bool.{true, false, true≢false}
 use mathlib.Core.List.{List, [], _∷_, _++_}

@@ -27,7 +27,7 @@ use Rattle.pieces.specs.Pieces.{piece, Room, total}
 use Rattle.pieces.specs.Settled.{Made}
 use Rattle.pieces.specs.Table.{cut, entry, table}
 use Rattle.pieces.proofs.CellEntries.{rule-in, painters-entry}
-use Rattle.pieces.proofs.CellsFirst.{cell-before, cells-few}
+use Rattle.pieces.proofs.CellsFirst.{cell-before}
 use Rattle.pieces.proofs.SettledTable.{settled-table}
 
 -- what reading gives of a book and of a sheet

@@ -1,6 +1,5 @@
 -- Along the two courses are all cuts of the piece.
 use mathlib.Core.Path.{sym, ap, ap₂, _∙_}
-use mathlib.Core.List.{List}
 use native.Mathlib.Omega.{arith}
 use lib.Bits.{bitOr}
 use lib.ListN.{drop, length-drop}
