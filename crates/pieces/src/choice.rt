@@ -1,5 +1,5 @@
 // What is taken at a piece and its motif: the lowest-numbered rule that fits, and for a join the smallest cut that works.
-// The row has the rules of the book, and colours has for each cell the number of its colour there; the rest is as for the cuts.
+// The first `count` rules stand, and colours has for each cell the number of its colour in the book; the rest is as for the cuts.
 use crate::cut::works;
 use crate::part::Direction;
 use crate::piece::Piece;

@@ -1,6 +1,7 @@
 -- The loop tries one cut after the other: the least cut from k on is the least of all, and a cut that works lies in the piece.
 use Prim.Native.Nat.{_-_, _≤_}
 use mathlib.Core.Path.{_≡_, sym, _∙_}
+use native.Mathlib.Omega.{arith}
 use borrow.Author.Needs.{needs}
 use borrow.Author.Tests.{lt-ltb, le-ltb}
 use Rattle.pieces.specs.View.{hasBit}
@@ -44,8 +45,9 @@ loop-less c = search needs
 
 loop-again : tie.Need-loop-again Inv-loop μ-loop
 loop-again c =
-    let passed = least-passed _ _ _ (c .before .before .loop-test .taken) (sym (c .before .works .ensures) ∙ c .if1 .left) in
-    (search needs, search needs, sym passed ∙ c .before .before .before .loop .inv .2)
+    let l = c .before .before .before in
+    let inside = c .before .before .loop-test .taken in
+    (omega (arith, l .loop .inv .0), omega (arith, inside), sym (least-passed _ _ _ inside (sym (c .before .works .ensures) ∙ c .if1 .left)) ∙ l .loop .inv .2)
 
 returns-2 : tie.Need-returns-2 Inv-loop μ-loop
 unfolding joinedAt
