@@ -110,7 +110,7 @@ module _ (t : ℕ) where
   pick-node-put-node-requires : pick-node-lts.Need-put-node-requires (picks t) (pick-node-at t) pick-node.Post
   pick-node-put-node-requires c κs =
       let k = c .before .before .before .before in
-      (room k, leaf-small (known k) _ (c .before .before .choice .given .1), search needs)
+      (room k, omega (arith, leaf-small (known k) _ (c .before .before .choice .given .1)), search needs)
 
   pick-node-add-t22 : pick-node-lts.Need-add-t22 (picks t) (pick-node-at t) pick-node.Post
   pick-node-add-t22 c = search needs
