@@ -71,7 +71,7 @@ pub fn find_name(s: &[u8], c: Colours, name: &[u8], len: usize) -> usize
     n
 }
 
-// The same for the name of colour i in a list over t.
+// The same for the name of colour i in a list over t. The crates above take i from below the count of a list that was read.
 pub fn find_in(s: &[u8], c: Colours, t: &[u8], d: Colours, i: usize) -> usize
     requires { ⌜ i < 64 ⌝ }
     ensures { λ r. ⌜ r ≡ findName (now (s .entry)) c (nameIn (now (t .entry)) d i) ⌝ }

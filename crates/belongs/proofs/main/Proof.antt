@@ -28,7 +28,9 @@ array-share-prefix-book : tie.Need-array-share-prefix-book
 array-share-prefix-book c = search needs
 
 slice-aggregate-derive : tie.Need-slice-aggregate-derive
-slice-aggregate-derive c = sym (length-take-le (c .before .before .before .before .before .before .load .result) (c .before .before .before .before .before .before .load .last .1 .0) (omega (arith, c .before .before .before .before .before .before .load .ensures, c .before .before .before .before .before .before .load .kept .1 .0)))
+slice-aggregate-derive c =
+    let l = c .before .before .before .before .before .before .load in
+    sym (length-take-le (l .result) (l .last .1 .0) (omega (arith, l .ensures, l .kept .1 .0)))
 
 array-share-prefix-sheet : tie.Need-array-share-prefix-sheet
 array-share-prefix-sheet c = search needs
@@ -55,7 +57,9 @@ array-share-prefix-sheet-2 : tie.Need-array-share-prefix-sheet-2
 array-share-prefix-sheet-2 c = search needs
 
 slice-aggregate-nodes : tie.Need-slice-aggregate-nodes
-slice-aggregate-nodes c = sym (length-take-le (c .before .before .before .before .before .before .before .before .before .before .before .before .before .load2 .result) (c .before .before .before .before .before .before .before .before .before .before .before .before .before .load2 .last .1 .0) (omega (arith, c .before .before .before .before .before .before .before .before .before .before .before .before .before .load2 .ensures, c .before .before .before .before .before .before .before .before .before .before .before .before .before .load2 .kept .1 .0)))
+slice-aggregate-nodes c =
+    let l = c .before .before .before .before .before .before .before .before .before .before .before .before .before .load2 in
+    sym (length-take-le (l .result) (l .last .1 .0) (omega (arith, l .ensures, l .kept .1 .0)))
 
 nodes-requires : tie.Need-nodes-requires
 nodes-requires c κs = search needs

@@ -34,7 +34,10 @@ returns c =
     (simp (lt-leb _ _ small), sym (put-out _ 0 _ (omega (arith, small))))
 
 write-colours-requires : tie.Need-write-colours-requires
-write-colours-requires c κs = (c .before .before .before .before .before .before .before .before .before .before .pre .colours-few, c .before .before .before .before .before .before .before .before .before .before .pre .more-few, omega (arith, room (c .before .before .before .before .before)))
+write-colours-requires c κs =
+    let k = c .before .before .before .before .before in
+    let given = k .before .before .before .before .before .pre in
+    (given .colours-few, given .more-few, omega (arith, room k))
 
 write-figures-requires : tie.Need-write-figures-requires
 write-figures-requires c κs =

@@ -60,17 +60,24 @@ loop-less c = omega arith
 
 loop-again : tie.Need-loop-again Inv-loop μ-loop
 loop-again c =
-    let a = c .before .before .before .before .before .before .before .before .before .before .before .before .before .before .before .before .args in
-    let part = now (c .before .before .before .before .before .before .before .before .front .result) in
-    let name : part ≡ nameIn (now (a .s)) (a .t2) (c .before .before .before .before .before .before .before .before .before .before .before .before .before .loop .i) = rw (← c .before .before .before .before .before .before .before .before .before .tail .ensures) (c .before .before .before .before .before .before .before .before .front .ensures) in
-    let left = spellNames (namesFrom (now (a .s)) (a .t2) (c .before .before .before .before .before .before .before .before .before .before .before .before .before .loop .i + 1) (a .t2 .count - (c .before .before .before .before .before .before .before .before .before .before .before .before .before .loop .i + 1))) in
-    let still = rw (← name) at (rw (names-on (now (a .s)) (a .t2) (a .t2 .count) (c .before .before .before .before .before .before .before .before .before .before .before .before .before .loop .i) (c .before .before .before .before .before .before .before .before .before .before .before .before .loop-test .taken)) at (c .before .before .before .before .before .before .before .before .before .before .before .before .before .loop .inv .1)) in
+    let k = c .before .before in
+    let w = k .before .before .before .before in
+    let f = w .before .before in
+    let t = f .before .before .before .before in
+    let l = t .before in
+    let s = l .before .before .before in
+    let room = s .pre .1 in
+    let a = s .args in
+    let part = now (f .front .result) in
+    let name : part ≡ nameIn (now (a .s)) (a .t2) (l .loop .i) = rw (← f .before .tail .ensures) (f .front .ensures) in
+    let left = spellNames (namesFrom (now (a .s)) (a .t2) (l .loop .i + 1) (a .t2 .count - (l .loop .i + 1))) in
+    let still = rw (← name) at (rw (names-on (now (a .s)) (a .t2) (a .t2 .count) (l .loop .i) (t .loop-test .taken)) at (l .loop .inv .1)) in
     let sum = length-append (spellNumber (length part)) (part ++ left) in
     let rest = length-append part left in
-    let one = wrote (spellNumber (length part)) (c .before .before .before .before .before .before .write-number .ensures .0) (c .before .before .before .before .before .before .write-number .ensures .1) (omega (arith, still .place, still .sized, c .before .before .before .before .before .before .before .before .before .before .before .before .before .before .before .before .pre .1)) in
-    let then = still-less (c .before .before .before .before .before .before .before .before .before .before .before .before .before .before .before .before .pre .1) still one in
-    let two = wrote part (rw take-length at (c .before .before .copy-name .ensures .0)) (rw take-length at (c .before .before .copy-name .ensures .1)) (omega (arith, then .place, then .sized, c .before .before .before .before .before .before .before .before .before .before .before .before .before .before .before .before .pre .1)) in
-    (omega arith, still-less (c .before .before .before .before .before .before .before .before .before .before .before .before .before .before .before .before .pre .1) then two)
+    let one = wrote (spellNumber (length part)) (w .write-number .ensures .0) (w .write-number .ensures .1) (omega (arith, still .place, still .sized, room)) in
+    let then = still-less room still one in
+    let two = wrote part (rw take-length at (k .copy-name .ensures .0)) (rw take-length at (k .copy-name .ensures .1)) (omega (arith, then .place, then .sized, room)) in
+    (omega arith, still-less room then two)
 
 same-length : tie.Need-same-length Inv-loop μ-loop
 same-length c = c .before .loop .inv .1 .sized

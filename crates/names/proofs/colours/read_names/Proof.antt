@@ -45,9 +45,10 @@ enum-known-r-2 c = search needs
 
 -- the colour that was read at the loop's place
 colour : (c : tie.After-find-name Inv-loop μ-loop) →
-    colourAt (now (c .before .before .before .before .before .before .before .before .before .before .args .s)) (c .before .before .before .before .before .before .before .loop .at)
-    ≡ At (c .before .before .before .r2 .given .0 .0) (c .before .before .before .r2 .given .0 .1 .0)
-colour c = sym (c .before .before .before .before .before .read-colour .ensures) ∙ c .before .before .before .r2 .given .1
+    let r = c .before .before .before in
+    let l = r .before .before .before .before in
+    colourAt (now (l .before .before .before .args .s)) (l .loop .at) ≡ At (r .r2 .given .0 .0) (r .r2 .given .0 .1 .0)
+colour c = let r = c .before .before .before in sym (r .before .before .read-colour .ensures) ∙ r .r2 .given .1
 
 -- what looking for its name says
 found : (c : tie.After-find-name Inv-loop μ-loop) →
