@@ -4,11 +4,11 @@ use mathlib.Core.Path.{_≡_, refl}
 use mathlib.Core.List.{List, [], _∷_, _++_}
 use Rattle.names.specs.Pick.{fault}
 use Rattle.names.specs.Number.{numberAt, numberIn, numberBelow, spellNumber}
-use Rattle.names.specs.Name.{Name, nameOf, sameName, place}
-use Rattle.names.specs.Colours.{findName, colourAt as nameAt, coloursOf}
+use Rattle.names.specs.Name.{Name, nameOf, sameName, listed}
+use Rattle.names.specs.Colours.{findName, colourAt, coloursOf}
 use Rattle.books.specs.Contents.{Contents}
-use Rattle.books.specs.Held.{contentsIn}
-use Rattle.books.specs.Rules.{colourAt, joinAt, bodyAt, ruleAt, rulesAt}
+use Rattle.books.specs.ContentsIn.{contentsIn}
+use Rattle.books.specs.Rules.{colourNumberAt, joinAt, bodyAt, ruleAt, rulesAt}
 use Rattle.books.specs.Book.{figuresAt, endedAt, colouredAt, bookOf}
 use Rattle.books.specs.SpellBook.{spellBook}
 use Rattle.books.specs.declared.rule.Body.the-variants.{Colour, Across, Down}
@@ -61,7 +61,7 @@ pub record Books : Type 0 where
   pub lower-3 : bookOf (book (3 ∷ 0 ∷ 1 ∷ []) (0 ∷ 2 ∷ 0 ∷ 3 ∷ [])) .fault ≡ fault 6 23
 
 pub books : Books
-unfolding house houseContents book joins colours slateC slateU spellNumber bookOf colouredAt figuresAt endedAt rulesAt ruleAt bodyAt joinAt colourAt numberIn numberBelow numberAt coloursOf nameAt nameOf findName place sameName
+unfolding house houseContents book joins colours slateC slateU spellNumber bookOf colouredAt figuresAt endedAt rulesAt ruleAt bodyAt joinAt colourNumberAt numberIn numberBelow numberAt coloursOf colourAt nameOf findName listed sameName
 books =
     record {
       fine = refl;

@@ -13,7 +13,7 @@ use Rattle.names.proofs.Tests.{not-true-false}
 use Rattle.books.specs.Contents.{Contents, Has}
 use Rattle.books.specs.Picture.{Picture, Same, Dir, across, down, joins, size, first, rest}
 use Rattle.books.specs.Derives.{Derives, paint, join}
-use Rattle.books.specs.Decide.{andThen, orElse, anyCut, fitsBody, anyRule, within, derives?}
+use Rattle.books.specs.Decide.{andThen, orElse, anyCut, fitsBody, anyRule, derivesIn, derives?}
 use Rattle.books.specs.declared.rule.Rule.{Rule}
 use Rattle.books.specs.declared.rule.Body.{Body}
 use Rattle.books.specs.declared.rule.Body.the-variants.{Colour, Across, Down}
@@ -138,21 +138,21 @@ module _ (t : ℕ → Picture → Bool) (b : Contents) (p : Picture)
       (complete l _ (less-first d p k hs) x)
       (complete r _ (less-rest d p k hk hs) y))
 
-pub within-sound : (n : ℕ) (b : Contents) (a : ℕ) (p : Picture) → within n b a p ≡ true → Derives b a p
-unfolding within
-within-sound zero b a p e = absurd (false≢true e)
-within-sound (suc n) b a p e = rules-sound (λ x q. within n b x q) b p (λ x q. within-sound n b x q) a (b .rules) (λ r m. m) e
+pub derives-in-sound : (n : ℕ) (b : Contents) (a : ℕ) (p : Picture) → derivesIn n b a p ≡ true → Derives b a p
+unfolding derivesIn
+derives-in-sound zero b a p e = absurd (false≢true e)
+derives-in-sound (suc n) b a p e = rules-sound (λ x q. derivesIn n b x q) b p (λ x q. derives-in-sound n b x q) a (b .rules) (λ r m. m) e
 
-pub within-complete : (n : ℕ) (b : Contents) (a : ℕ) (p : Picture) → p .rows + p .cols ≤ n → Derives b a p → within n b a p ≡ true
-unfolding within
-within-complete zero b a p h x = absurd (omega (arith, derives-rows x))
-within-complete (suc n) b a p h x =
-    rules-complete (λ z q. within n b z q) b p (λ z q i y. within-complete n b z q (omega arith) y) a x
+pub derives-in-complete : (n : ℕ) (b : Contents) (a : ℕ) (p : Picture) → p .rows + p .cols ≤ n → Derives b a p → derivesIn n b a p ≡ true
+unfolding derivesIn
+derives-in-complete zero b a p h x = absurd (omega (arith, derives-rows x))
+derives-in-complete (suc n) b a p h x =
+    rules-complete (λ z q. derivesIn n b z q) b p (λ z q i y. derives-in-complete n b z q (omega arith) y) a x
 
 -- The search decides what derives.
 pub decided : (b : Contents) (a : ℕ) (p : Picture) → (derives? b a p ≡ true) ↔ Derives b a p
 unfolding derives?
-decided b a p = (within-sound (p .rows + p .cols) b a p, λ x. within-complete (p .rows + p .cols) b a p (omega arith) x)
+decided b a p = (derives-in-sound (p .rows + p .cols) b a p, λ x. derives-in-complete (p .rows + p .cols) b a p (omega arith) x)
 
 pub refused : (b : Contents) (a : ℕ) (p : Picture) → (derives? b a p ≡ false) ↔ (Derives b a p → ⊥)
 refused b a p = (

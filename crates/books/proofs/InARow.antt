@@ -6,7 +6,7 @@ use native.Mathlib.Omega.{arith}
 use lib.ListN.{length, length-append}
 use Rattle.names.specs.Put.{put, past}
 use Rattle.names.proofs.Putting.{past-in, put-length, put-nil, put-put}
-use Rattle.books.specs.Wrote.{Wrote}
+use Rattle.books.specs.inner.Wrote.{Wrote}
 
 -- a writing that fits
 pub wrote : {before after : List ℕ} {at next : ℕ} (l : List ℕ) → next ≡ past before at l → after ≡ put before at l → at + length l ≤ length before → Wrote before at l next after

@@ -7,7 +7,7 @@ use lib.ListN.{length}
 use Rattle.names.proofs.SpellingNumbers.{Bytes}
 use Rattle.books.specs.Contents.{Contents}
 use Rattle.books.specs.Keeps.{BodyFits, RuleFits, Keeps}
-use Rattle.books.specs.Held.{contentsIn}
+use Rattle.books.specs.ContentsIn.{contentsIn}
 use Rattle.books.specs.Book.{bookOf}
 use Rattle.books.specs.SpellBook.{spellBody, spellRules, spellBook}
 use Rattle.books.specs.declared.rule.Rule.{Rule}

@@ -8,7 +8,7 @@ use Rattle.names.specs.Number.{spellNumber}
 use Rattle.names.specs.Spelling.{spellColours}
 use Rattle.names.proofs.SpellingNumbers.{Bytes, spell-short}
 use Rattle.books.specs.Grid.{Grid, GridKeeps}
-use Rattle.books.specs.Held.{gridIn}
+use Rattle.books.specs.ContentsIn.{gridIn}
 use Rattle.books.specs.Size.{greatest, room}
 use Rattle.books.specs.Cells.{noCells}
 use Rattle.books.specs.Sheet.{sheetOf}

@@ -13,7 +13,7 @@ use Rattle.names.proofs.Picking.{pick-ind}
 use Rattle.names.proofs.ReadingNumbers.{Blamed, blamed-later, number-below, number-below-refused}
 use Rattle.names.proofs.SpellingNumbers.{Bytes}
 use Rattle.books.specs.Keeps.{BodyFits}
-use Rattle.books.specs.Rules.{colourAt, joined, joinAt, bodyAt}
+use Rattle.books.specs.Rules.{colourNumberAt, joinBody, joinAt, bodyAt}
 use Rattle.books.specs.SpellBook.{spellBody}
 use Rattle.books.specs.declared.rule.Body.{Body}
 use Rattle.books.specs.declared.rule.Body.the-variants.{Across, Down}
@@ -34,18 +34,18 @@ BodyFound s at motifs colours (WholeBody b next) = BodyLies s at motifs colours 
 BodyFound s at motifs colours (RefusedBody f) = Blamed s (at + 9) f
 
 -- a join of kind 1 or 2 has that kind in front of its motifs
-joined-spelled : (kind a b : ℕ) → (kind ≡ 0 → ⊥) → kind < 3 → spellNumber kind ++ (spellNumber a ++ spellNumber b) ≡ spellBody (joined kind a b)
+joined-spelled : (kind a b : ℕ) → (kind ≡ 0 → ⊥) → kind < 3 → spellNumber kind ++ (spellNumber a ++ spellNumber b) ≡ spellBody (joinBody kind a b)
 joined-spelled kind a b some low =
     pick-ind (λ (x : Body). spellNumber kind ++ (spellNumber a ++ spellNumber b) ≡ spellBody x) (eqb kind 1) (Across a b) (Down a b)
     (λ t. let one : kind ≡ 1 = eqb-true kind 1 t in rw one)
     (λ t. let other = eqb-false kind 1 t in let two : kind ≡ 2 = omega arith in rw two)
 
-joined-fits : (kind a b motifs colours : ℕ) → a < motifs → b < motifs → BodyFits motifs colours (joined kind a b)
+joined-fits : (kind a b motifs colours : ℕ) → a < motifs → b < motifs → BodyFits motifs colours (joinBody kind a b)
 joined-fits kind a b motifs colours h g = pick-ind (BodyFits motifs colours) (eqb kind 1) (Across a b) (Down a b) (λ _. (h, g)) (λ _. (h, g))
 
 module _ (s : List ℕ) (at motifs colours kind then : ℕ) (e : numberBelow s at 3 7 ≡ Value kind then) where
-  colour-found : kind ≡ 0 → BodyFound s at motifs colours (colourAt s then colours)
-  unfolding colourAt
+  colour-found : kind ≡ 0 → BodyFound s at motifs colours (colourNumberAt s then colours)
+  unfolding colourNumberAt
   colour-found none =
       let g = number-below s at 3 7 kind then e in
       onward-ind (BodyFound s at motifs colours) RefusedBody (numberBelow s then colours 6) _
@@ -85,6 +85,6 @@ body-found s at motifs colours =
     onward-ind (BodyFound s at motifs colours) RefusedBody (numberBelow s at 3 7) _
     (λ f e. blamed-later (omega arith) (number-below-refused s at 3 7 f e (omega arith) (omega arith)))
     (λ kind then e.
-    pick-ind (BodyFound s at motifs colours) (eqb kind 0) (colourAt s then colours) (joinAt s then kind motifs)
+    pick-ind (BodyFound s at motifs colours) (eqb kind 0) (colourNumberAt s then colours) (joinAt s then kind motifs)
     (λ t. colour-found s at motifs colours kind then e (eqb-true kind 0 t))
     (λ t. join-found s at motifs colours kind then e (eqb-false kind 0 t)))

@@ -14,13 +14,13 @@ use Rattle.names.specs.Spelling.{spellColours}
 use Rattle.names.specs.Colours.{namesIn, coloursOf}
 use Rattle.names.specs.declared.number.Fault.{Fault}
 use Rattle.names.proofs.Picking.{pick-ind}
-use Rattle.names.proofs.Places.{getD-mem}
+use Rattle.names.proofs.Listing.{getD-mem}
 use Rattle.names.proofs.ReadingNumbers.{Blamed, blamed-later}
 use Rattle.names.proofs.SpellingNumbers.{Bytes}
 use Rattle.names.proofs.ReadingColours.{Places, places-none, names-count, colours-lie, colours-refused}
 use Rattle.names.proofs.SpellingColours.{colours-accepted}
 use Rattle.books.specs.Contents.{Contents}
-use Rattle.books.specs.Held.{contentsIn}
+use Rattle.books.specs.ContentsIn.{contentsIn}
 use Rattle.books.specs.Keeps.{RuleFits, Keeps}
 use Rattle.books.specs.Rules.{noRule, rulesAt}
 use Rattle.books.specs.Book.{noFamily, figuresAt, familyOf, endedAt, figured, colouredAt, bookOf}

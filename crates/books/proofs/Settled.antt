@@ -8,7 +8,7 @@ use Rattle.books.specs.Sheet.{sheetOf}
 use Rattle.books.specs.Answer.{packed}
 use Rattle.books.specs.Calls.{bookAnswer, sheetAnswer, shown, shownPlace}
 use Rattle.books.specs.SpellBook.{spellBook}
-use Rattle.books.specs.Draft.{draftIn, writtenBook}
+use Rattle.books.specs.inner.Draft.{draftIn, writtenBook}
 use Rattle.books.specs.declared.book.BookRead.{BookRead}
 use Rattle.books.specs.declared.sheet.SheetRead.{SheetRead}
 use Rattle.books.specs.declared.writing.Draft.{Draft}

@@ -18,7 +18,7 @@ use Rattle.names.proofs.SpellingNumbers.{Bytes}
 use Rattle.names.proofs.ReadingColours.{names-count}
 use Rattle.names.proofs.SpellingColours.{colours-read-back}
 use Rattle.books.specs.Contents.{Contents}
-use Rattle.books.specs.Held.{contentsIn}
+use Rattle.books.specs.ContentsIn.{contentsIn}
 use Rattle.books.specs.Keeps.{Keeps}
 use Rattle.books.specs.Rules.{noRule}
 use Rattle.books.specs.Book.{figuresAt, familyOf, endedAt, colouredAt, bookOf}

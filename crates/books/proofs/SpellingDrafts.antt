@@ -10,7 +10,7 @@ use Rattle.names.specs.Colours.{namesIn}
 use Rattle.names.specs.Spelling.{spellNames, spellColours}
 use Rattle.names.proofs.ReadingColours.{names-count}
 use Rattle.books.specs.SpellBook.{spellRules, spellFigures, spellBook}
-use Rattle.books.specs.Draft.{draftIn, Ready}
+use Rattle.books.specs.inner.Draft.{draftIn, DraftFits}
 use Rattle.names.specs.declared.colours.Colours.{Colours}
 use Rattle.books.specs.declared.writing.Draft.{Draft}
 use Rattle.books.proofs.SpellingOn.{spell-names-append}
@@ -23,7 +23,7 @@ colours-spelled a b c e =
     length-append (namesIn a c) (namesIn b e) ∙ omega (arith, names-count a c, names-count b e) in
     simp (all, spell-names-append)
 
-module _ (first second : List ℕ) (d : Draft) (ready : Ready d) where
+module _ (first second : List ℕ) (d : Draft) (ready : DraftFits d) where
   rules : length (take (d .family .count) (d .family .rules)) ≡ d .family .count
   rules = length-take-le (d .family .count) (d .family .rules) (omega (arith, ready .rules-few, ready .rules-all))
 

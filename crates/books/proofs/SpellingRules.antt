@@ -10,7 +10,7 @@ use lib.Seq.{set-at}
 use Rattle.names.specs.Pick.{fault}
 use Rattle.names.specs.Number.{spellNumber}
 use Rattle.books.specs.Keeps.{BodyFits, RuleFits}
-use Rattle.books.specs.Rules.{colourAt, joined, joinAt, bodyAt, ruleAt, noRule, noRules, rulesFrom, rulesAt}
+use Rattle.books.specs.Rules.{colourNumberAt, joinBody, joinAt, bodyAt, ruleAt, noRule, noRules, rulesFrom, rulesAt}
 use Rattle.books.specs.SpellBook.{spellBody, spellRule, spellRules}
 use Rattle.books.specs.declared.rule.Rule.{Rule}
 use Rattle.books.specs.declared.rule.Body.{Body}
@@ -23,7 +23,7 @@ use Rattle.books.proofs.StandingNumbers.{Stands, past-stands, below-rea
 module _ (s : List ℕ) (motifs colours : ℕ) (few-motifs : motifs ≤ 32) (few-colours : colours ≤ 64) where
   colour-read : (at c : ℕ) (rest : List ℕ) → c < colours → Stands s at (spellBody (Colour c) ++ rest)
       → bodyAt s at motifs colours ≡ WholeBody (Colour c) (at + length (spellBody (Colour c)))
-  unfolding bodyAt colourAt
+  unfolding bodyAt colourNumberAt
   colour-read at c rest h e =
       let k : Stands s at (spellNumber 0 ++ (spellNumber c ++ rest)) = rw append-assoc at e in
       let d = past-stands (spellNumber 0) (spellNumber c ++ rest) k in
@@ -33,7 +33,7 @@ module _ (s : List ℕ) (motifs colours : ℕ) (few-motifs : motifs ≤ 32) (few
   -- a join of kind 1 or 2
   join-read : (at kind a b : ℕ) (rest : List ℕ) → (kind ≡ 0 → ⊥) → kind < 3 → a < motifs → b < motifs
       → Stands s at ((spellNumber kind ++ (spellNumber a ++ spellNumber b)) ++ rest)
-      → bodyAt s at motifs colours ≡ WholeBody (joined kind a b) (at + length (spellNumber kind ++ (spellNumber a ++ spellNumber b)))
+      → bodyAt s at motifs colours ≡ WholeBody (joinBody kind a b) (at + length (spellNumber kind ++ (spellNumber a ++ spellNumber b)))
   unfolding bodyAt joinAt
   join-read at kind a b rest some low h g e =
       let k : Stands s at (spellNumber kind ++ (spellNumber a ++ (spellNumber b ++ rest))) = simp append-assoc at e in

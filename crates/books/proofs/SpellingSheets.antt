@@ -21,7 +21,7 @@ use Rattle.names.proofs.SpellingNumbers.{Bytes, number-spelled, number-reads-at
 use Rattle.names.proofs.ReadingColours.{names-count}
 use Rattle.names.proofs.SpellingColours.{colours-accepted, colours-read-back, drop-past, past-inside}
 use Rattle.books.specs.Grid.{Grid, GridKeeps}
-use Rattle.books.specs.Held.{gridIn}
+use Rattle.books.specs.ContentsIn.{gridIn}
 use Rattle.books.specs.Size.{greatest, sizeAt}
 use Rattle.books.specs.Cells.{noCells, cellsFrom, cellsOf}
 use Rattle.books.specs.Sheet.{cellsThen, coloursThen, sheetOf}

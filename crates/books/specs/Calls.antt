@@ -6,7 +6,7 @@ use lib.ListN.{getD}
 use Rattle.names.specs.Pick.{pick}
 use Rattle.names.specs.Name.{Name}
 use Rattle.books.specs.Contents.{name}
-use Rattle.books.specs.Held.{contentsIn}
+use Rattle.books.specs.ContentsIn.{contentsIn}
 use Rattle.books.specs.Book.{bookOf}
 use Rattle.books.specs.Sheet.{sheetOf}
 use Rattle.books.specs.Answer.{blaming}

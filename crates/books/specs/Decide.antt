@@ -34,10 +34,10 @@ unfoldable pub anyRule : (ℕ → Picture → Bool) → Contents → ℕ → Pic
 anyRule t b a p [] = false
 anyRule t b a p (r ∷ rs) = orElse (andThen (eqb (r .head) a) (λ _. fitsBody t b p (r .body))) (λ _. anyRule t b a p rs)
 
-unfoldable pub within : ℕ → Contents → ℕ → Picture → Bool
-within zero b a p = false
-within (suc n) b a p = anyRule (λ x q. within n b x q) b a p (b .rules)
+unfoldable pub derivesIn : ℕ → Contents → ℕ → Picture → Bool
+derivesIn zero b a p = false
+derivesIn (suc n) b a p = anyRule (λ x q. derivesIn n b x q) b a p (b .rules)
 
 -- a cut leaves fewer rows and columns in all, so that their number bounds the depth
 unfoldable pub derives? : Contents → ℕ → Picture → Bool
-derives? b a p = within (p .rows + p .cols) b a p
+derives? b a p = derivesIn (p .rows + p .cols) b a p

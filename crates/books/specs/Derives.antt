@@ -10,6 +10,6 @@ pub data Derives (b : Contents) : ℕ → Picture → Type 0 where
   join : {a : ℕ} {p : Picture} (d : Dir) (l r k : ℕ) → Has b a (joins d l r) → 1 ≤ k → k < size d p
       → Derives b l (first d k p) → Derives b r (rest d k p) → Derives b a p
 
--- the family of a book: what its start derives
-abbrev pub Family : Contents → Picture → Type 0
-Family b p = Derives b (b .start) p
+-- the members of the family of a book: what its start derives
+abbrev pub Member : Contents → Picture → Type 0
+Member b p = Derives b (b .start) p

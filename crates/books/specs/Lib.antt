@@ -5,7 +5,7 @@ pub mod Plain
 pub mod Decide
 pub mod Keeps
 pub mod Grid
-pub mod Held
+pub mod ContentsIn
 pub mod Onward
 pub mod Rules
 pub mod Book
@@ -14,8 +14,7 @@ pub mod Size
 pub mod Cells
 pub mod Sheet
 pub mod SpellSheet
-pub mod Wrote
-pub mod Draft
 pub mod Answer
 pub mod Calls
 pub mod Order
+pub mod inner

@@ -17,24 +17,24 @@ use Rattle.books.specs.declared.rules.RuleRead.the-variants.{Whole as Wh
 use Rattle.books.specs.declared.rules.RulesRead.{RulesRead}
 
 -- a colour number
-unfoldable pub colourAt : List ℕ → ℕ → ℕ → BodyRead
-colourAt s at colours = onward RefusedBody (numberBelow s at colours 6) (λ colour next. WholeBody (Colour colour) next)
+unfoldable pub colourNumberAt : List ℕ → ℕ → ℕ → BodyRead
+colourNumberAt s at colours = onward RefusedBody (numberBelow s at colours 6) (λ colour next. WholeBody (Colour colour) next)
 
 -- kind 1 joins left and right motif, kind 2 upper and lower
-abbrev pub joined : ℕ → ℕ → ℕ → Body
-joined kind first second = pick (eqb kind 1) (Across first second) (Down first second)
+abbrev pub joinBody : ℕ → ℕ → ℕ → Body
+joinBody kind first second = pick (eqb kind 1) (Across first second) (Down first second)
 
 unfoldable pub joinAt : List ℕ → ℕ → ℕ → ℕ → BodyRead
 joinAt s at kind motifs =
     onward RefusedBody (numberBelow s at motifs 6) (λ first next.
     onward RefusedBody (numberBelow s next motifs 6) (λ second end.
-    WholeBody (joined kind first second) end))
+    WholeBody (joinBody kind first second) end))
 
 -- its kind, 0 to 2, then a colour for kind 0 or two motifs
 unfoldable pub bodyAt : List ℕ → ℕ → ℕ → ℕ → BodyRead
 bodyAt s at motifs colours =
     onward RefusedBody (numberBelow s at 3 7) (λ kind next.
-    pick (eqb kind 0) (colourAt s next colours) (joinAt s next kind motifs))
+    pick (eqb kind 0) (colourNumberAt s next colours) (joinAt s next kind motifs))
 
 -- the rule with a head, where its body is read
 abbrev pub headed : ℕ → BodyRead → RuleRead

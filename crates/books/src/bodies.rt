@@ -5,7 +5,7 @@ use names::number::Fault;
 use names::number::Read;
 ghost use mathlib.Core.Path.{_≡_};
 ghost use Prim.Native.Nat.{_≤_};
-ghost use Rattle.books.specs.Rules.{colourAt, joinAt, bodyAt};
+ghost use Rattle.books.specs.Rules.{colourNumberAt, joinAt, bodyAt};
 
 // A body and the place after it, or the fault.
 pub(crate) enum BodyRead {
@@ -14,9 +14,9 @@ pub(crate) enum BodyRead {
 }
 
 // A colour number.
-fn read_colour(s: &[u8], at: usize, colours: usize) -> BodyRead
+fn read_colour_number(s: &[u8], at: usize, colours: usize) -> BodyRead
     requires { ⌜ colours ≤ 64 ⌝ }
-    ensures { λ r. ⌜ r ≡ colourAt (now (s .entry)) at colours ⌝ }
+    ensures { λ r. ⌜ r ≡ colourNumberAt (now (s .entry)) at colours ⌝ }
 {
     let r = number::read_below(s, at, colours, 6);
     match r {
@@ -59,7 +59,7 @@ pub(crate) fn read_body(s: &[u8], at: usize, motifs: usize, colours: usize) -> B
         Read::Refused(f) => BodyRead::Refused(f),
         Read::Value(kind, next) => {
             if kind == 0 {
-                read_colour(s, next, colours)
+                read_colour_number(s, next, colours)
             } else {
                 read_join(s, next, kind, motifs)
             }

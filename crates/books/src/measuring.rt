@@ -13,7 +13,7 @@ ghost use Rattle.names.specs.Number.{spellNumber};
 ghost use Rattle.names.specs.Colours.{namesIn};
 ghost use Rattle.names.specs.Spelling.{spellNames, spellColours};
 ghost use Rattle.books.specs.SpellBook.{spellBody, spellRule, spellRules, spellFigures, spellBook};
-ghost use Rattle.books.specs.Draft.{draftIn, Ready};
+ghost use Rattle.books.specs.inner.Draft.{draftIn, DraftFits};
 
 // The names of a list, each with its length before it.
 fn names_len(s: &[u8], c: Colours) -> usize
@@ -89,7 +89,7 @@ fn figures_len(motifs: usize, start: usize, count: usize) -> usize
 }
 
 pub(crate) fn book_len(first: &[u8], second: &[u8], d: Draft) -> usize
-    requires { ⌜ Ready d ⌝ }
+    requires { ⌜ DraftFits d ⌝ }
     ensures { λ r. ⌜ r ≡ length (spellBook (draftIn (now (first .entry)) (now (second .entry)) d)) ⌝ }
 {
     let f = d.family;

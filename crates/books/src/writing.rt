@@ -15,8 +15,8 @@ ghost use Rattle.names.specs.Spelling.{spellNames, spellColours};
 ghost use Rattle.names.specs.Number.{spellNumber};
 ghost use Rattle.names.specs.Put.{put};
 ghost use Rattle.books.specs.SpellBook.{spellBody, spellRule, spellRules, spellFigures, spellBook};
-ghost use Rattle.books.specs.Wrote.{Wrote};
-ghost use Rattle.books.specs.Draft.{draftIn, Ready, writtenBook};
+ghost use Rattle.books.specs.inner.Wrote.{Wrote};
+ghost use Rattle.books.specs.inner.Draft.{draftIn, DraftFits, writtenBook};
 
 // A book to be written: a family whose colours are parts of a first lent book, with more colours after them that are parts of a second.
 pub struct Draft {
@@ -121,7 +121,7 @@ fn write_figures(motifs: usize, start: usize, count: usize, out: &mut [u8], at: 
 // Writes the book, or nothing where the slice is too short for it. The crate above makes drafts only from books that were read, so that their counts
 // are within the arrays.
 pub fn write_book(first: &[u8], second: &[u8], d: Draft, out: &mut [u8]) -> Written
-    requires { ⌜ Ready d ⌝ }
+    requires { ⌜ DraftFits d ⌝ }
     ensures { λ r. ⌜ r ≡ writtenBook (draftIn (now (first .entry)) (now (second .entry)) d) (now (out .entry)) ⌝ ∗ ⌜ now (out .exit) ≡ put (now (out .entry)) 0 (spellBook (draftIn (now (first .entry)) (now (second .entry)) d)) ⌝ }
 {
     let size = measuring::book_len(first, second, d);

@@ -8,15 +8,15 @@ use native.Mathlib.Numerals.{add-one}
 use borrow.Author.Tests.{eq-eqb, ne-eqb}
 use lib.ListN.{length, getD, take, drop, set, length-append, length-map, drop-of-length-le}
 use lib.Seq.{sets, sets-eq, length-sets, length-take-le, take-at, drop-cons, getD-take}
-use Rattle.names.proofs.Places.{getD-mem}
+use Rattle.names.proofs.Listing.{getD-mem}
 use Rattle.books.specs.declared.rule.Rule.{Rule}
 use Rattle.books.specs.declared.rule.Body.the-variants.{Colour}
 use Rattle.families.specs.declared.gathering.Rules.{Rules}
 use Rattle.families.specs.Combine.{copies}
-use Rattle.families.specs.Counts.{headed}
+use Rattle.families.specs.inner.Counts.{headed}
 use Rattle.families.proofs.Copying.{copies-taken, copies-left, copies-raised}
 use Rattle.families.proofs.Counting.{copies-length}
-use Rattle.families.specs.Gathered.{standing, followed, raisedBy, changed, Rows}
+use Rattle.families.specs.inner.Gathered.{standing, followed, raisedBy, changed, Rows}
 
 -- the rule at a place, and what a place past the last one has
 abbrev noRule : Rule

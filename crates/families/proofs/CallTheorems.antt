@@ -11,7 +11,7 @@ use Rattle.names.proofs.Putting.{put-length}
 use Rattle.names.proofs.SpellingNumbers.{Bytes}
 use Rattle.books.specs.Contents.{Contents}
 use Rattle.books.specs.Book.{bookOf}
-use Rattle.books.specs.Derives.{Family}
+use Rattle.books.specs.Derives.{Member}
 use Rattle.books.specs.Keeps.{Sound, Keeps}
 use Rattle.books.specs.Picture.{Picture, across, down}
 use Rattle.books.specs.SpellBook.{spellBook}
@@ -51,13 +51,13 @@ record Spelled (c : Contents) (out left : List ℕ) (count : ℕ) : Type 0 where
 same-contents : (c : Contents) (s : List ℕ) → Keeps c → s ≡ spellBook c → bookIn s ≡ c
 same-contents c s keeps e = ap bookIn e ∙ book-read-back c keeps .1
 
-new-book : (c : Contents) (X : Picture → Type 0) (out left : List ℕ) (count : ℕ) → ((p : Picture) → Family c p ↔ X p) → Spelled c out left count → NewBook out left count X
+new-book : (c : Contents) (X : Picture → Type 0) (out left : List ℕ) (count : ℕ) → ((p : Picture) → Member c p ↔ X p) → Spelled c out left count → NewBook out left count X
 new-book c X out left count holds w =
     let contents : bookIn (take count left) ≡ c = same-contents c (take count left) (w .keeps) (w .front) in
     record {
       accepted = ap (λ (s : List ℕ). bookOf s .fault) (w .front) ∙ book-read-back c (w .keeps) .0;
       keeps = subst Keeps (sym contents) (w .keeps);
-      holds = λ p. subst (λ (b : Contents). Family b p ↔ X p) (sym contents) (holds p);
+      holds = λ p. subst (λ (b : Contents). Member b p ↔ X p) (sym contents) (holds p);
       beyond = w .beyond;
       as-long = w .as-long;
     }
@@ -80,7 +80,7 @@ made-spelled c out o r left keeps e answer leaves z =
 -- Two lent books.
 module _ (op : Contents → Contents → Contents) (X : (Picture → Type 0) → (Picture → Type 0) → Picture → Type 0)
     (keeps : (f g : Contents) → Keeps f → Keeps g → WithinLimits (op f g) → Keeps (op f g))
-    (holds : (f g : Contents) → Sound f → Sound g → (p : Picture) → Family (op f g) p ↔ X (Family f) (Family g) p) where
+    (holds : (f g : Contents) → Sound f → Sound g → (p : Picture) → Member (op f g) p ↔ X (Member f) (Member g) p) where
   two-packs : (first second out : List ℕ) → Bytes first → Bytes second → Packs (onTwo op first second out .answer) (onTwo op first second out .count)
   two-packs first second out bf bs =
       lent-packs 1 first out _ (omega arith)
@@ -115,7 +115,7 @@ module _ (op : Contents → Contents) (keeps : (f : Contents) → Keeps f → Wi
       let b = book-accepted book bb zb in
       (b, made-spelled (op (bookIn book)) out o r left (keeps (bookIn book) (b .keeps)) eb answer leaves z)
 
-  one-new : (X : (Picture → Type 0) → Picture → Type 0) → ((f : Contents) → Sound f → (p : Picture) → Family (op f) p ↔ X (Family f) p)
+  one-new : (X : (Picture → Type 0) → Picture → Type 0) → ((f : Contents) → Sound f → (p : Picture) → Member (op f) p ↔ X (Member f) p)
       → (book out left : List ℕ) (r : ℕ) → Bytes book → Leaves (onOne op book out) r left → r % 2 ^ 8 ≡ 0 → NewBook out left (r / 2 ^ 32) (X (Held book))
   one-new X holds book out left r bb leaves z =
       let (b, w) = one-spelled book out left r bb leaves z in

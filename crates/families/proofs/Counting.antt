@@ -15,7 +15,7 @@ use Rattle.books.specs.Picture.{Dir}
 use Rattle.books.specs.declared.rule.Rule.{Rule}
 use Rattle.books.specs.declared.rule.Body.{Body}
 use Rattle.families.specs.Combine.{copies, either-of, joined, repeated, rebodied}
-use Rattle.families.specs.Counts.{headed}
+use Rattle.families.specs.inner.Counts.{headed}
 use Rattle.families.proofs.Copying.{copies-taken, copies-left, copies-raised}
 
 pub copies-length : (n s : ℕ) (rs : List Rule) → length (copies n s rs) ≡ headed s rs

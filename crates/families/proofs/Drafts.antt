@@ -10,18 +10,18 @@ use Rattle.names.specs.Colours.{namesIn, noColours}
 use Rattle.names.specs.declared.colours.Colours.{Colours}
 use Rattle.names.proofs.ReadingColours.{names-count}
 use Rattle.books.specs.Contents.{Contents}
-use Rattle.books.specs.Held.{contentsIn}
+use Rattle.books.specs.ContentsIn.{contentsIn}
 use Rattle.books.specs.Picture.{Dir, joins}
 use Rattle.books.specs.declared.family.Family.{Family}
 use Rattle.books.specs.declared.rule.Rule.{Rule}
 use Rattle.books.specs.declared.rule.Body.{Body}
 use Rattle.families.specs.Combine.{copies, repeated, rebodied}
-use Rattle.families.specs.Counts.{headed}
-use Rattle.families.specs.Gathered.{standing, followed, changed, Rows}
-use Rattle.families.specs.Lent.{rulesOf, Sized}
+use Rattle.families.specs.inner.Counts.{headed}
+use Rattle.families.specs.inner.Gathered.{standing, followed, changed, Rows}
+use Rattle.families.specs.inner.Lent.{rulesOf, Sized}
 use Rattle.families.specs.Within.{few?, within?}
-use Rattle.families.specs.Combined.{repeatedRules}
-use Rattle.families.specs.Made.{draftedAs, tooMuch, Makes}
+use Rattle.families.specs.inner.Combined.{repeatedRules}
+use Rattle.families.specs.inner.Made.{draftedAs, tooMuch, Makes}
 use Rattle.families.specs.declared.gathering.Rules.{Rules}
 use Rattle.families.proofs.Counting.{copies-length, repeated-length, rebodied-length}
 use Rattle.families.proofs.Testing.{within-limits, within-counts}

@@ -6,11 +6,11 @@ use mathlib.Core.Bool.{true}
 use mathlib.Core.List.{List, [], _∷_, _++_, map, append-assoc, List·Memᴰ, List·Memᴰ·head, List·Memᴰ·tail}
 use native.Mathlib.Omega.{arith}
 use lib.ListN.{length, getD, length-append}
-use Rattle.names.specs.Name.{place}
+use Rattle.names.specs.Name.{listed}
 use Rattle.names.specs.Colours.{namesIn}
 use Rattle.names.proofs.ReadingColours.{names-count, name-at}
 use Rattle.books.specs.Contents.{Contents}
-use Rattle.books.specs.Held.{contentsIn}
+use Rattle.books.specs.ContentsIn.{contentsIn}
 use Rattle.books.specs.Keeps.{BodyFits}
 use Rattle.books.specs.Picture.{Dir, joins}
 use Rattle.books.specs.declared.family.Family.{Family}
@@ -18,14 +18,14 @@ use Rattle.books.specs.declared.rule.Rule.{Rule}
 use Rattle.books.specs.declared.rule.Body.{Body}
 use Rattle.books.specs.declared.rule.Body.the-variants.{Colour, Across, Down}
 use Rattle.families.specs.Merged.{merged}
-use Rattle.families.specs.Merges.{Merges}
+use Rattle.families.specs.inner.Merges.{Merges}
 use Rattle.families.specs.Combine.{moved, renumbered, raised, copies, joined, either-of}
-use Rattle.families.specs.Counts.{headed}
-use Rattle.families.specs.Gathered.{standing, followed, raisedBy}
-use Rattle.families.specs.Lent.{rulesOf, Lent}
+use Rattle.families.specs.inner.Counts.{headed}
+use Rattle.families.specs.inner.Gathered.{standing, followed, raisedBy}
+use Rattle.families.specs.inner.Lent.{rulesOf, Lent}
 use Rattle.families.specs.Within.{few?, within?}
-use Rattle.families.specs.Combined.{raisedRules, bothRules, joinedRules, eitherRules}
-use Rattle.families.specs.Made.{draftedAs, Makes}
+use Rattle.families.specs.inner.Combined.{raisedRules, bothRules, joinedRules, eitherRules}
+use Rattle.families.specs.inner.Made.{draftedAs, Makes}
 use Rattle.families.specs.declared.merge.Merged.{Merged}
 use Rattle.families.proofs.Counting.{copies-length, joined-length, either-of-length}
 use Rattle.families.proofs.Testing.{within-counts}
@@ -47,7 +47,7 @@ module _ (s t : List ℕ) (f g : Family) (m : Merged) (lf : Lent s f) (lg : Lent
   renumbered-same : (c : ℕ) → c < length (second .colours) → getD (m .numbers) c 0 ≡ renumbered first second c
   renumbered-same c h =
       let less : c < g .colours .count = omega (arith, names-count t (g .colours)) in
-      mm .numbered c less ∙ ap (place (merged (first .colours) (second .colours))) (sym (name-at t (g .colours) c less))
+      mm .numbered c less ∙ ap (listed (merged (first .colours) (second .colours))) (sym (name-at t (g .colours) c less))
 
   body-same : (x : Body) → BodyFits (g .motifs) (length (second .colours)) x
       → moved (λ a. f .motifs + a) (λ c. getD (m .numbers) c 0) x ≡ moved (λ a. f .motifs + a) (renumbered first second) x

@@ -6,7 +6,7 @@ use mathlib.Core.Logic.{_↔_, _⊎_, inl, inr, ⊎-elim}
 use native.Mathlib.Omega.{arith}
 use Rattle.books.specs.Contents.{Contents, Has}
 use Rattle.books.specs.Picture.{Picture}
-use Rattle.books.specs.Derives.{Derives, Family}
+use Rattle.books.specs.Derives.{Derives, Member}
 use Rattle.books.specs.Keeps.{Sound}
 use Rattle.books.specs.declared.rule.Body.{Body}
 use Rattle.families.specs.Combine.{raised, copies, either-of}
@@ -50,13 +50,13 @@ module _ (f g : Contents) (sf : Sound f) (sg : Sound g) where
       Memᴰ·append-right (f .rules) (Memᴰ·append-right (raised f g)
       (Memᴰ·append-right (copies (f .motifs + g .motifs) (f .start) (f .rules)) (copies-forth _ _ x (raised f g) u)))
 
-  first-in : (p : Picture) → Derives (either-of f g) (f .start) p ↔ Family f p
+  first-in : (p : Picture) → Derives (either-of f g) (f .start) p ↔ Member f p
   first-in = first-derives f _ _ _ sf (after-first f g _ _ sf sg standing)
 
-  second-in : (p : Picture) → Derives (either-of f g) (f .motifs + g .start) p ↔ Family g p
+  second-in : (p : Picture) → Derives (either-of f g) (f .motifs + g .start) p ↔ Member g p
   second-in = second-derives f g _ _ sf sg standing
 
-  pub either-of-derives : (p : Picture) → Family (either-of f g) p ↔ (Family f p ⊎ Family g p)
+  pub either-of-derives : (p : Picture) → Member (either-of f g) p ↔ (Member f p ⊎ Member g p)
   unfolding either-of
   either-of-derives p = (
     λ x. ⊎-elim (λ u. inl (first-in p .0 u)) (λ u. inr (second-in p .0 u)) (rehead-cases _ _ _ _ start-rule x),

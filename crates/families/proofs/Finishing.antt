@@ -15,7 +15,7 @@ use Rattle.names.proofs.Picking.{pick-ind}
 use Rattle.names.proofs.Tests.{true-or-false}
 use Rattle.names.proofs.Putting.{put-out}
 use Rattle.books.specs.Contents.{Contents}
-use Rattle.books.specs.Draft.{writtenBook}
+use Rattle.books.specs.inner.Draft.{writtenBook}
 use Rattle.books.specs.SpellBook.{spellBook}
 use Rattle.books.specs.Keeps.{Keeps}
 use Rattle.books.specs.Answer.{plain, Packs}
@@ -24,9 +24,9 @@ use Rattle.books.proofs.Packing.{plain-packs}
 use Rattle.books.proofs.LongestBook.{spelling-length}
 use Rattle.families.specs.Limits.{WithinLimits}
 use Rattle.families.specs.Within.{within?}
-use Rattle.families.specs.Made.{Makes}
+use Rattle.families.specs.inner.Made.{Makes}
 use Rattle.families.specs.Outcome.{Outcome, written, made, Leaves}
-use Rattle.families.specs.Calls.{paired, alone, finished, Finishes}
+use Rattle.families.specs.inner.Calls.{paired, alone, finished, Finishes}
 use Rattle.families.specs.declared.making.Made.{Made}
 use Rattle.families.specs.declared.answering.Pairing.{Pairing}
 use Rattle.families.specs.declared.answering.Pairing.the-variants.{EitherOf, Beside, Above}

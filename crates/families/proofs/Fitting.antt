@@ -6,7 +6,7 @@ use mathlib.Core.List.{List, [], _∷_, _++_, List·Memᴰ, List·Memᴰ·append
 use mathlib.Core.Logic.{⊎-elim}
 use native.Mathlib.Omega.{arith}
 use lib.ListN.{length}
-use Rattle.names.proofs.Places.{getD-mem, place-found}
+use Rattle.names.proofs.Listing.{getD-mem, listed-found}
 use Rattle.books.specs.Contents.{Contents, name}
 use Rattle.books.specs.Picture.{Dir, across, down, joins}
 use Rattle.books.specs.Keeps.{BodyFits, RuleFits, Sound}
@@ -51,7 +51,7 @@ fit-one m n a d l r ha hl hr q u =
 module _ (f g : Contents) (sf : Sound f) (sg : Sound g) where
   body-raised : (x : Body) → BodyFits (g .motifs) (length (g .colours)) x
       → BodyFits (f .motifs + g .motifs + 1) (length (merged (f .colours) (g .colours))) (moved (λ n. f .motifs + n) (renumbered f g) x)
-  body-raised (Colour c) h = place-found _ (name g c) (merged-mem (f .colours) (g .colours) (name g c) (getD-mem (g .colours) c [] h)) .0
+  body-raised (Colour c) h = listed-found _ (name g c) (merged-mem (f .colours) (g .colours) (name g c) (getD-mem (g .colours) c [] h)) .0
   body-raised (Across l r) h = omega arith
   body-raised (Down u v) h = omega arith
 

@@ -7,7 +7,7 @@ use mathlib.Core.Logic.{_↔_}
 use native.Mathlib.Omega.{arith}
 use Rattle.books.specs.Contents.{Contents}
 use Rattle.books.specs.Picture.{Picture, Same, Dir, across, down, first, rest}
-use Rattle.books.specs.Derives.{Derives, paint, join, Family}
+use Rattle.books.specs.Derives.{Derives, paint, join, Member}
 use Rattle.books.specs.declared.rule.Rule.{Rule}
 use Rattle.books.specs.declared.rule.Body.{Body}
 use Rattle.books.specs.declared.rule.Body.the-variants.{Colour, Across, Down}
@@ -107,13 +107,13 @@ swapping-derives d b a p = (
   λ x. derives-same (reversed-twice d p) (swapping-forth d x),
 )
 
-pub transposed-image : (f : Contents) (p : Picture) → Family (transposed f) p ↔ Image transpose (Family f) p
+pub transposed-image : (f : Contents) (p : Picture) → Member (transposed f) p ↔ Image transpose (Member f) p
 transposed-image f p = (
   λ x. record { source = transpose p; source-in = transposed-derives f _ p .0 x; image = same-refl p },
   λ y. derives-same (y .image) (transposed-forth (y .source-in)),
 )
 
-pub swapping-image : (d : Dir) (f : Contents) (p : Picture) → Family (swapping d f) p ↔ Image (reversed d) (Family f) p
+pub swapping-image : (d : Dir) (f : Contents) (p : Picture) → Member (swapping d f) p ↔ Image (reversed d) (Member f) p
 swapping-image d f p = (
   λ x. record { source = reversed d p; source-in = swapping-derives d f _ p .0 x; image = reversed-twice d p },
   λ y. derives-same (y .image) (swapping-forth d (y .source-in)),

@@ -6,7 +6,7 @@ use mathlib.Core.Logic.{_↔_}
 use native.Mathlib.Omega.{arith}
 use Rattle.books.specs.Contents.{Contents, Has}
 use Rattle.books.specs.Picture.{Picture, Dir, joins}
-use Rattle.books.specs.Derives.{Derives, Family}
+use Rattle.books.specs.Derives.{Derives, Member}
 use Rattle.books.specs.Keeps.{Sound}
 use Rattle.books.specs.declared.rule.Rule.{Rule}
 use Rattle.books.specs.declared.rule.Body.{Body}
@@ -29,13 +29,13 @@ module _ (d : Dir) (f g : Contents) (sf : Sound f) (sg : Sound g) where
   unfolding joined
   start-has = Memᴰ·append-right (f .rules) (Memᴰ·append-right (raised f g) (List·Memᴰ·head refl))
 
-  first-in : (p : Picture) → Derives (joined d f g) (f .start) p ↔ Family f p
+  first-in : (p : Picture) → Derives (joined d f g) (f .start) p ↔ Member f p
   first-in = first-derives f _ _ _ sf (after-first f g _ _ sf sg standing)
 
-  second-in : (p : Picture) → Derives (joined d f g) (f .motifs + g .start) p ↔ Family g p
+  second-in : (p : Picture) → Derives (joined d f g) (f .motifs + g .start) p ↔ Member g p
   second-in = second-derives f g _ _ sf sg standing
 
-  pub joined-derives : (p : Picture) → Family (joined d f g) p ↔ Both d (Family f) (Family g) p
+  pub joined-derives : (p : Picture) → Member (joined d f g) p ↔ Both d (Member f) (Member g) p
   unfolding joined
   joined-derives p = (
     λ x. both-map d (λ q. first-in q .0) (λ q. second-in q .0) (only-join _ _ d _ _ start-rule x),

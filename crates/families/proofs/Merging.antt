@@ -9,7 +9,7 @@ use lib.ListN.{length, length-append}
 use Rattle.names.specs.Name.{Name}
 use Rattle.names.specs.Spelling.{Distinct, ColoursOk}
 use Rattle.names.proofs.Picking.{pick-ind}
-use Rattle.names.proofs.Places.{place-test}
+use Rattle.names.proofs.Listing.{listed-test}
 use Rattle.families.specs.Merged.{holds, without, merged}
 
 -- A name of the second list is in the first, or is left.
@@ -18,7 +18,7 @@ unfolding without
 without-mem xs [] n m = inr m
 without-mem xs (y ∷ ys) n m =
     pick-ind (λ (l : List Name). List·Memᴰ n xs ⊎ List·Memᴰ n l) (holds xs y) (without xs ys) (y ∷ without xs ys)
-    (λ e. ⊎-elim (λ q. inl (Memᴰ·cast q (place-test xs y .0 e))) (without-mem xs ys n) (List·Memᴰ·cases-cons m))
+    (λ e. ⊎-elim (λ q. inl (Memᴰ·cast q (listed-test xs y .0 e))) (without-mem xs ys n) (List·Memᴰ·cases-cons m))
     (λ e. ⊎-elim
     (λ q. inr (List·Memᴰ·head q))
     (λ u. ⊎-elim inl (λ v. inr (List·Memᴰ·tail v)) (without-mem xs ys n u))
@@ -32,7 +32,7 @@ without-back xs (y ∷ ys) n =
     pick-ind (λ (l : List Name). List·Memᴰ n l → List·Memᴰ n (y ∷ ys) × (List·Memᴰ n xs → ⊥)) (holds xs y) (without xs ys) (y ∷ without xs ys)
     (λ e m. let (a, b) = without-back xs ys n m in (List·Memᴰ·tail a, b))
     (λ e m. ⊎-elim
-    (λ q. (List·Memᴰ·head q, λ u. true≢false (sym (place-test xs y .1 (Memᴰ·cast (sym q) u)) ∙ e)))
+    (λ q. (List·Memᴰ·head q, λ u. true≢false (sym (listed-test xs y .1 (Memᴰ·cast (sym q) u)) ∙ e)))
     (λ u. let (a, b) = without-back xs ys n u in (List·Memᴰ·tail a, b))
     (List·Memᴰ·cases-cons m))
 

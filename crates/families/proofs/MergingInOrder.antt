@@ -9,10 +9,10 @@ use native.Mathlib.Omega.{arith}
 use lib.ListN.{length, getD, take, drop, length-append, take-append-drop}
 use lib.Seq.{take-suc, split-at}
 use Rattle.names.specs.Pick.{pick}
-use Rattle.names.specs.Name.{Name, place}
+use Rattle.names.specs.Name.{Name, listed}
 use Rattle.names.specs.Spelling.{Distinct}
 use Rattle.names.proofs.Tests.{true-or-false}
-use Rattle.names.proofs.Places.{place-test, place-first, place-rest, place-here}
+use Rattle.names.proofs.Listing.{listed-test, listed-first, listed-rest, listed-here}
 use Rattle.families.specs.Merged.{holds, without, merged}
 use Rattle.families.proofs.Merging.{merged-back}
 
@@ -66,9 +66,9 @@ merged-grows xs ys i =
     omega (arith, simp length-append at (ap length e))
 
 -- The number of a name in the merged list: its number in the first list, where that holds it, ...
-pub number-held : (xs ys : List Name) (n : Name) → holds xs n ≡ true → place (merged xs ys) n ≡ place xs n
+pub number-held : (xs ys : List Name) (n : Name) → holds xs n ≡ true → listed (merged xs ys) n ≡ listed xs n
 unfolding merged
-number-held xs ys n e = place-first xs (without xs ys) n (place-test xs n .0 e)
+number-held xs ys n e = listed-first xs (without xs ys) n (listed-test xs n .0 e)
 
 distinct-apart : (xs ys : List Name) (n : Name) → Distinct (xs ++ ys) → List·Memᴰ n xs → List·Memᴰ n ys → ⊥
 distinct-apart [] ys n apart u v = List·Memᴰ·not-nil u
@@ -80,7 +80,7 @@ distinct-apart (x ∷ xs) ys n apart u v =
 
 -- ... and else the count of what was merged before it.
 pub number-new : (xs ys : List Name) (i : ℕ) → Distinct ys → i < length ys → holds xs (getD ys i []) ≡ false
-    → place (merged xs ys) (getD ys i []) ≡ length (merged xs (take i ys))
+    → listed (merged xs ys) (getD ys i []) ≡ length (merged xs (take i ys))
 number-new xs ys i apart h e =
     let y : Name = getD ys i [] in
     let after : List Name = drop (suc i) ys in
@@ -90,9 +90,9 @@ number-new xs ys i apart h e =
     ap (merged xs) parts ∙ merged-append xs (take i ys) (y ∷ after) ∙ ap (λ (l : List Name). before ++ l) (without-new xs after y e) in
     let not-before : List·Memᴰ y before → ⊥ =
     λ m. ⊎-elim
-    (λ u. true≢false (sym (place-test xs y .1 u) ∙ e))
+    (λ u. true≢false (sym (listed-test xs y .1 u) ∙ e))
     (λ u. distinct-apart (take i ys) (y ∷ after) y (subst Distinct parts apart) u (List·Memᴰ·head refl))
     (merged-back xs (take i ys) y m) in
-    ap (λ (l : List Name). place l y) whole
-    ∙ place-rest before (y ∷ without xs after) y not-before
-    ∙ omega (arith, place-here y (without xs after) y refl)
+    ap (λ (l : List Name). listed l y) whole
+    ∙ listed-rest before (y ∷ without xs after) y not-before
+    ∙ omega (arith, listed-here y (without xs after) y refl)

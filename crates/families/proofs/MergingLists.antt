@@ -10,13 +10,13 @@ use borrow.Author.Count.{below-more}
 use borrow.Author.Tests.{lt-ltb, le-ltb}
 use lib.ListN.{length, getD, take, set, length-append, length-set}
 use lib.Seq.{take-all, getD-set-same, getD-set-other}
-use Rattle.names.specs.Name.{Name, place}
+use Rattle.names.specs.Name.{Name, listed}
 use Rattle.names.specs.Colours.{nameIn, namesIn, findName, noColours, withColour}
 use Rattle.names.specs.declared.colours.Colours.{Colours}
-use Rattle.names.proofs.Finding.{find-place}
+use Rattle.names.proofs.Finding.{find-listed}
 use Rattle.names.proofs.ReadingColours.{Places, places-none, places-with, names-with, names-count, name-at}
 use Rattle.families.specs.Merged.{holds, merged}
-use Rattle.families.specs.Merges.{Lists, Merges}
+use Rattle.families.specs.inner.Merges.{Lists, Merges}
 use Rattle.families.proofs.MergingInOrder.{merged-nil, merged-held, merged-new, number-held, number-new}
 
 module _ (s : List ℕ) (f : Colours) (t : List ℕ) (g : Colours) where
@@ -25,7 +25,7 @@ module _ (s : List ℕ) (f : Colours) (t : List ℕ) (g : Colours) where
     pub within : i ≤ g .count
     pub places : Places t more
     pub names : namesIn s f ++ namesIn t more ≡ merged (namesIn s f) (take i (namesIn t g))
-    pub numbered : (j : ℕ) → j < i → getD numbers j 0 ≡ place (merged (namesIn s f) (namesIn t g)) (nameIn t g j)
+    pub numbered : (j : ℕ) → j < i → getD numbers j 0 ≡ listed (merged (namesIn s f) (namesIn t g)) (nameIn t g j)
     pub few : more .count ≤ i
     pub numbers64 : length numbers ≡ 64
 
@@ -46,19 +46,19 @@ module _ (s : List ℕ) (f : Colours) (t : List ℕ) (g : Colours) (lf : Lists s
     named : getD (namesIn t g) i [] ≡ nameIn t g i
     named = name-at t g i h
 
-    found : findName s f (nameIn t g i) ≡ place (namesIn s f) (getD (namesIn t g) i [])
-    found = find-place s f (nameIn t g i) (lf .few) ∙ ap (place (namesIn s f)) (sym named)
+    found : findName s f (nameIn t g i) ≡ listed (namesIn s f) (getD (namesIn t g) i [])
+    found = find-listed s f (nameIn t g i) (lf .few) ∙ ap (listed (namesIn s f)) (sym named)
 
-    more-numbered : (n : ℕ) → n ≡ place (merged (namesIn s f) (namesIn t g)) (getD (namesIn t g) i [])
-        → (j : ℕ) → j < i + 1 → getD (set numbers i n) j 0 ≡ place (merged (namesIn s f) (namesIn t g)) (nameIn t g j)
+    more-numbered : (n : ℕ) → n ≡ listed (merged (namesIn s f) (namesIn t g)) (getD (namesIn t g) i [])
+        → (j : ℕ) → j < i + 1 → getD (set numbers i n) j 0 ≡ listed (merged (namesIn s f) (namesIn t g)) (nameIn t g j)
     more-numbered n e =
         below-more _ i
         (λ j hj. getD-set-other numbers i j n 0 (omega arith) ∙ so .numbered j hj)
-        (getD-set-same numbers i n 0 (omega (arith, so .numbers64, lg .few)) ∙ e ∙ ap (place (merged (namesIn s f) (namesIn t g))) named)
+        (getD-set-same numbers i n 0 (omega (arith, so .numbers64, lg .few)) ∙ e ∙ ap (listed (merged (namesIn s f) (namesIn t g))) named)
 
     pub so-far-held : findName s f (nameIn t g i) < f .count → SoFar s f t g (i + 1) more (set numbers i (findName s f (nameIn t g i)))
     so-far-held lt =
-        let held : holds (namesIn s f) (getD (namesIn t g) i []) ≡ true = lt-ltb (place (namesIn s f) (getD (namesIn t g) i [])) (length (namesIn s f)) (omega (arith, found, names-count s f)) in
+        let held : holds (namesIn s f) (getD (namesIn t g) i []) ≡ true = lt-ltb (listed (namesIn s f) (getD (namesIn t g) i [])) (length (namesIn s f)) (omega (arith, found, names-count s f)) in
         record {
           within = omega arith;
           places = so .places;
@@ -73,7 +73,7 @@ module _ (s : List ℕ) (f : Colours) (t : List ℕ) (g : Colours) (lf : Lists s
     so-far-new le =
         let room : more .count < 64 = omega (arith, so .few, lg .few) in
         let less : i < length (namesIn t g) = omega (arith, names-count t g) in
-        let lacked : holds (namesIn s f) (getD (namesIn t g) i []) ≡ false = le-ltb (place (namesIn s f) (getD (namesIn t g) i [])) (length (namesIn s f)) (omega (arith, found, names-count s f)) in
+        let lacked : holds (namesIn s f) (getD (namesIn t g) i []) ≡ false = le-ltb (listed (namesIn s f) (getD (namesIn t g) i [])) (length (namesIn s f)) (omega (arith, found, names-count s f)) in
         let before : length (merged (namesIn s f) (take i (namesIn t g))) ≡ f .count + more .count =
         sym (ap length (so .names)) ∙ length-append (namesIn s f) (namesIn t more) ∙ omega (arith, names-count s f, names-count t more) in
         record {

@@ -14,7 +14,7 @@ use Rattle.names.specs.Put.{put}
 use Rattle.names.proofs.Picking.{pick-ind}
 use Rattle.names.proofs.Putting.{put-in}
 use Rattle.books.specs.Contents.{Contents}
-use Rattle.books.specs.Held.{contentsIn}
+use Rattle.books.specs.ContentsIn.{contentsIn}
 use Rattle.books.specs.Book.{bookOf}
 use Rattle.books.specs.SpellBook.{spellBook}
 use Rattle.books.specs.Keeps.{Keeps}
@@ -27,16 +27,16 @@ use Rattle.families.specs.Outcome.{Outcome, refused, written, made, lent
 use Rattle.families.proofs.Testing.{within-limits}
 
 -- What was written where the answer is 0.
-pub record Wrote (c : Contents) (out : List ℕ) (o : Outcome) : Type 0 where
+pub record WroteBook (c : Contents) (out : List ℕ) (o : Outcome) : Type 0 where
   pub small : WithinLimits c
   pub room : length (spellBook c) ≤ length out
   pub counted : o .count ≡ length (spellBook c)
   pub left : o .out ≡ put out 0 (spellBook c)
 
 abbrev Fine : Contents → List ℕ → Outcome → Type 0
-Fine c out o = o .answer .number ≡ 0 → Wrote c out o
+Fine c out o = o .answer .number ≡ 0 → WroteBook c out o
 
-pub made-wrote : (c : Contents) (out : List ℕ) → made c out .answer .number ≡ 0 → Wrote c out (made c out)
+pub made-wrote : (c : Contents) (out : List ℕ) → made c out .answer .number ≡ 0 → WroteBook c out (made c out)
 unfolding made written
 made-wrote c out =
     pick-ind (Fine c out) (within? c) _ (refused (plain 12) out)

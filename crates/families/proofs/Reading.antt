@@ -7,7 +7,7 @@ use borrow.Author.Tests.{eq-eqb, ne-eqb}
 use Rattle.names.proofs.SpellingNumbers.{Bytes}
 use Rattle.names.specs.Pick.{pick}
 use Rattle.books.specs.Contents.{Contents}
-use Rattle.books.specs.Held.{contentsIn}
+use Rattle.books.specs.ContentsIn.{contentsIn}
 use Rattle.books.specs.Answer.{blaming, packed, Packs}
 use Rattle.books.specs.declared.answer.Answer.{Answer}
 use Rattle.books.specs.declared.book.BookRead.{BookRead}
@@ -15,9 +15,9 @@ use Rattle.books.proofs.Packing.{book-placed}
 use Rattle.books.specs.Book.{bookOf}
 use Rattle.books.specs.declared.family.Family.{Family}
 use Rattle.books.proofs.ReadingBooks.{book-lies, book-accepted}
-use Rattle.families.specs.Lent.{rulesOf, Lent}
+use Rattle.families.specs.inner.Lent.{rulesOf, Lent}
 use Rattle.families.specs.Outcome.{Outcome, refused, lent, Leaves}
-use Rattle.families.specs.Gathered.{standing}
+use Rattle.families.specs.inner.Gathered.{standing}
 use Rattle.families.proofs.Fitting.{fit-more}
 
 book-lent : (s : List ℕ) → Bytes s → bookOf s .fault .number ≡ 0 → Lent s (bookOf s .family)

@@ -20,19 +20,19 @@ use Rattle.families.specs.Outcome.{Outcome, refused, written, made}
 use Rattle.families.proofs.Testing.{within-limits}
 
 -- The three cases, each with its number.
-pub record Numbered (c : Contents) (out : List ℕ) (o : Outcome) : Type 0 where
+pub record Numbering (c : Contents) (out : List ℕ) (o : Outcome) : Type 0 where
   pub zero : (o .answer .number ≡ 0) ↔ (WithinLimits c × (length (spellBook c) ≤ length out))
   pub twelve : (o .answer .number ≡ 12) ↔ (WithinLimits c → ⊥)
   pub thirteen : (o .answer .number ≡ 13) ↔ (WithinLimits c × (length out < length (spellBook c)))
 
-pub made-numbered : (c : Contents) (out : List ℕ) → Numbered c out (made c out)
+pub made-numbered : (c : Contents) (out : List ℕ) → Numbering c out (made c out)
 unfolding made written
 made-numbered c out =
     let size : ℕ = length (spellBook c) in
-    pick-ind (Numbered c out) (within? c) _ (refused (plain 12) out)
+    pick-ind (Numbering c out) (within? c) _ (refused (plain 12) out)
     (λ w.
     let small : WithinLimits c = within-limits c .0 w in
-    pick-ind (Numbered c out) (leb size (length out))
+    pick-ind (Numbering c out) (leb size (length out))
     (record { answer = plain 0; count = size; out = put out 0 (spellBook c) }) (refused (plain 13) out)
     (λ e.
     let room : size ≤ length out = leb-true size (length out) e in

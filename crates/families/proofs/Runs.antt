@@ -7,7 +7,7 @@ use mathlib.Core.Logic.{_↔_, _⊎_, inl, inr, ⊎-elim}
 use native.Mathlib.Omega.{arith}
 use Rattle.books.specs.Contents.{Contents, Has}
 use Rattle.books.specs.Picture.{Picture, Dir, joins, size, first, rest}
-use Rattle.books.specs.Derives.{Derives, paint, join, Family}
+use Rattle.books.specs.Derives.{Derives, paint, join, Member}
 use Rattle.books.specs.Keeps.{Sound}
 use Rattle.books.specs.declared.rule.Rule.{Rule}
 use Rattle.books.specs.declared.rule.Body.{Body}
@@ -51,18 +51,18 @@ module _ (d : Dir) (f : Contents) (sf : Sound f) where
   unfolding repeated
   start-has = Memᴰ·append-right (f .rules) (Memᴰ·append-right (copies (f .motifs) (f .start) (f .rules)) (List·Memᴰ·head refl))
 
-  first-in : (p : Picture) → Derives (repeated d f) (f .start) p ↔ Family f p
+  first-in : (p : Picture) → Derives (repeated d f) (f .start) p ↔ Member f p
   first-in = first-derives f _ _ _ sf standing
 
   -- a derivation of the new start is a run: one picture, or the join of one picture with a run
   longer : (e : Dir) (l r k : ℕ) {p : Picture} → k < size e p → Derives (repeated d f) l (first e k p)
-      → (r ≡ f .motifs → Run d (Family f) (rest e k p)) → joins e l r ≡ joins d (f .start) (f .motifs) → Run d (Family f) p
+      → (r ≡ f .motifs → Run d (Member f) (rest e k p)) → joins e l r ≡ joins d (f .start) (f .motifs) → Run d (Member f) p
   longer e l r k {p} hs x y q =
       let (ed, el, er) = joins-same e d l r (f .start) (f .motifs) q in
       more (first-in _ .0 (subst (λ (n : ℕ). Derives (repeated d f) n (first e k p)) el x)) (y er)
       (subst (λ (c : Dir). Joined c (first e k p) (rest e k p) p) ed (cut-joined e p k hs))
 
-  there : {z : ℕ} {p : Picture} → Derives (repeated d f) z p → z ≡ f .motifs → Run d (Family f) p
+  there : {z : ℕ} {p : Picture} → Derives (repeated d f) z p → z ≡ f .motifs → Run d (Member f) p
   there {z} (paint c h hr hc e) ez =
       ⊎-elim
       (λ u. one (first-in _ .0 (paint c u hr hc e)))
@@ -74,10 +74,10 @@ module _ (d : Dir) (f : Contents) (sf : Sound f) where
       (longer e l r k hs x (there y))
       (start-rule z (joins e l r) ez h)
 
-  back : {p : Picture} → Run d (Family f) p → Derives (repeated d f) (f .motifs) p
+  back : {p : Picture} → Run d (Member f) p → Derives (repeated d f) (f .motifs) p
   back (one x) = rehead _ _ _ has-first (first-in _ .1 x)
   back (more x y j) = join-of _ _ d _ _ start-has (record { left = _; right = _; left-in = first-in _ .1 x; right-in = back y; whole = j })
 
-  pub repeated-derives : (p : Picture) → Family (repeated d f) p ↔ Run d (Family f) p
+  pub repeated-derives : (p : Picture) → Member (repeated d f) p ↔ Run d (Member f) p
   unfolding repeated
   repeated-derives p = (λ x. there x refl, back)

@@ -7,10 +7,10 @@ use mathlib.Core.Logic.{_↔_}
 use native.Mathlib.Omega.{arith}
 use lib.ListN.{getD, List·getD-append}
 use Rattle.names.specs.Name.{Name}
-use Rattle.names.proofs.Places.{getD-mem, place-found}
+use Rattle.names.proofs.Listing.{getD-mem, listed-found}
 use Rattle.books.specs.Contents.{Contents, Has, name}
 use Rattle.books.specs.Picture.{Picture}
-use Rattle.books.specs.Derives.{Derives, Family}
+use Rattle.books.specs.Derives.{Derives, Member}
 use Rattle.books.specs.Keeps.{Sound}
 use Rattle.books.specs.declared.rule.Rule.{Rule}
 use Rattle.books.specs.declared.rule.Body.{Body}
@@ -53,7 +53,7 @@ module _ (f h : Contents) (rs : List Rule) (cs : List Name) (sf : Sound f) (s : 
         named = λ k hk. ap (λ (l : List Name). getD l k []) (s .colours-are) ∙ List·getD-append (f .colours) cs [] k hk;
       }
 
-  pub first-derives : (p : Picture) → Derives h (f .start) p ↔ Family f p
+  pub first-derives : (p : Picture) → Derives h (f .start) p ↔ Member f p
   first-derives p = (λ x. inside-back f h _ _ sf first-inside x (f .start) (sf .start-fits) refl, inside-forth f h _ _ sf first-inside)
 
 module _ (f g h : Contents) (rs : List Rule) (sf : Sound f) (sg : Sound g) (s : AfterBoth f g h rs) where
@@ -85,8 +85,8 @@ module _ (f g h : Contents) (rs : List Rule) (sf : Sound f) (sg : Sound g) (s : 
             (r .body, has-cast g (omega (arith, ap (λ (q : Rule). q .head) e)) refl hr, sym (ap (λ (q : Rule). q .body) e));
         named = λ k hk.
             let m = merged-mem (f .colours) (g .colours) (name g k) (getD-mem (g .colours) k [] hk) in
-            ap (λ (l : List Name). getD l (renumbered f g k) []) (s .colours-are) ∙ place-found (merged (f .colours) (g .colours)) (name g k) m .1;
+            ap (λ (l : List Name). getD l (renumbered f g k) []) (s .colours-are) ∙ listed-found (merged (f .colours) (g .colours)) (name g k) m .1;
       }
 
-  pub second-derives : (p : Picture) → Derives h (f .motifs + g .start) p ↔ Family g p
+  pub second-derives : (p : Picture) → Derives h (f .motifs + g .start) p ↔ Member g p
   second-derives p = (λ x. inside-back g h _ _ sg second-inside x (g .start) (sg .start-fits) refl, inside-forth g h _ _ sg second-inside)

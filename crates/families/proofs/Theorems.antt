@@ -3,7 +3,7 @@ use mathlib.Core.Path.{_≡_}
 use mathlib.Core.Logic.{_↔_, _⊎_}
 use Rattle.books.specs.Contents.{Contents}
 use Rattle.books.specs.Picture.{Picture, across, down}
-use Rattle.books.specs.Derives.{Family}
+use Rattle.books.specs.Derives.{Member}
 use Rattle.books.specs.Keeps.{Sound, Keeps}
 use Rattle.families.specs.Joined.{Both, Run}
 use Rattle.families.specs.Images.{reversed, transpose, Image}
@@ -17,33 +17,33 @@ use Rattle.families.proofs.Fitting.{joined-sound, either-of-sound, repe
 use Rattle.families.proofs.Keeping.{joined-keeps, either-of-keeps, repeated-keeps, transposed-keeps, swapping-keeps}
 
 -- Either-of: what the one or the other derives.
-pub either-of-holds : (f g : Contents) → Sound f → Sound g → (p : Picture) → Family (either-of f g) p ↔ (Family f p ⊎ Family g p)
+pub either-of-holds : (f g : Contents) → Sound f → Sound g → (p : Picture) → Member (either-of f g) p ↔ (Member f p ⊎ Member g p)
 either-of-holds = either-of-derives
 
 -- Beside: a picture of the first with one of the second to its right.
-pub beside-holds : (f g : Contents) → Sound f → Sound g → (p : Picture) → Family (beside f g) p ↔ Both across (Family f) (Family g) p
+pub beside-holds : (f g : Contents) → Sound f → Sound g → (p : Picture) → Member (beside f g) p ↔ Both across (Member f) (Member g) p
 beside-holds = joined-derives across
 
 -- Above: a picture of the first with one of the second below it.
-pub above-holds : (f g : Contents) → Sound f → Sound g → (p : Picture) → Family (above f g) p ↔ Both down (Family f) (Family g) p
+pub above-holds : (f g : Contents) → Sound f → Sound g → (p : Picture) → Member (above f g) p ↔ Both down (Member f) (Member g) p
 above-holds = joined-derives down
 
 -- Run: one or more pictures side by side.
-pub run-holds : (f : Contents) → Sound f → (p : Picture) → Family (run f) p ↔ Run across (Family f) p
+pub run-holds : (f : Contents) → Sound f → (p : Picture) → Member (run f) p ↔ Run across (Member f) p
 run-holds = repeated-derives across
 
 -- Stack: one or more pictures on top of each other.
-pub stack-holds : (f : Contents) → Sound f → (p : Picture) → Family (stack f) p ↔ Run down (Family f) p
+pub stack-holds : (f : Contents) → Sound f → (p : Picture) → Member (stack f) p ↔ Run down (Member f) p
 stack-holds = repeated-derives down
 
 -- Mirrored, flipped, transposed: the images.
-pub mirrored-holds : (f : Contents) (p : Picture) → Family (mirrored f) p ↔ Image (reversed across) (Family f) p
+pub mirrored-holds : (f : Contents) (p : Picture) → Member (mirrored f) p ↔ Image (reversed across) (Member f) p
 mirrored-holds = swapping-image across
 
-pub flipped-holds : (f : Contents) (p : Picture) → Family (flipped f) p ↔ Image (reversed down) (Family f) p
+pub flipped-holds : (f : Contents) (p : Picture) → Member (flipped f) p ↔ Image (reversed down) (Member f) p
 flipped-holds = swapping-image down
 
-pub transposed-holds : (f : Contents) (p : Picture) → Family (transposed f) p ↔ Image transpose (Family f) p
+pub transposed-holds : (f : Contents) (p : Picture) → Member (transposed f) p ↔ Image transpose (Member f) p
 transposed-holds = transposed-image
 
 -- Each of them twice is the same contents.

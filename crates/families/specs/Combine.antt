@@ -3,7 +3,7 @@ use Prim.Native.Nat.{ℕ, _+_}
 use mathlib.Core.List.{List, [], _∷_, _++_, map}
 use lib.Dec.{eqb}
 use Rattle.names.specs.Pick.{pick}
-use Rattle.names.specs.Name.{place}
+use Rattle.names.specs.Name.{listed}
 use Rattle.books.specs.Contents.{Contents, name}
 use Rattle.books.specs.Picture.{Dir, across, down, joins}
 use Rattle.books.specs.declared.rule.Rule.{Rule}
@@ -22,7 +22,7 @@ movedRule m c r = record { head = m (r .head); body = moved m c (r .body) }
 
 -- a colour number of g follows its name into the merged list
 abbrev pub renumbered : Contents → Contents → ℕ → ℕ
-renumbered f g c = place (merged (f .colours) (g .colours)) (name g c)
+renumbered f g c = listed (merged (f .colours) (g .colours)) (name g c)
 
 -- the rules of g, as they stand after those of f: motifs raised by f's, colours renumbered
 abbrev pub raised : Contents → Contents → List Rule

@@ -3,14 +3,7 @@ pub mod Images
 pub mod Merged
 pub mod Combine
 pub mod Limits
-pub mod Counts
-pub mod Merges
-pub mod Gathered
-pub mod Changed
-pub mod Lent
-pub mod Combined
 pub mod Within
-pub mod Made
 pub mod Outcome
-pub mod Calls
 pub mod NewBook
+pub mod inner

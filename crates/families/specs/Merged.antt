@@ -4,11 +4,11 @@ use mathlib.Core.List.{List, [], _∷_, _++_}
 use lib.Dec.{ltb}
 use lib.ListN.{length}
 use Rattle.names.specs.Pick.{pick}
-use Rattle.names.specs.Name.{Name, place}
+use Rattle.names.specs.Name.{Name, listed}
 
 -- whether a name stands in a list
 abbrev pub holds : List Name → Name → Bool
-holds xs n = ltb (place xs n) (length xs)
+holds xs n = ltb (listed xs n) (length xs)
 
 -- the names of the second list that the first lacks
 unfoldable pub without : List Name → List Name → List Name

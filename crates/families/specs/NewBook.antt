@@ -6,9 +6,9 @@ use mathlib.Core.Logic.{_↔_}
 use lib.ListN.{length, take, drop}
 use Rattle.names.specs.Pick.{fault}
 use Rattle.books.specs.Contents.{Contents}
-use Rattle.books.specs.Held.{contentsIn}
+use Rattle.books.specs.ContentsIn.{contentsIn}
 use Rattle.books.specs.Book.{bookOf}
-use Rattle.books.specs.Derives.{Family}
+use Rattle.books.specs.Derives.{Member}
 use Rattle.books.specs.Keeps.{Keeps}
 use Rattle.books.specs.Picture.{Picture}
 
@@ -17,7 +17,7 @@ abbrev pub bookIn : List ℕ → Contents
 bookIn s = contentsIn s (bookOf s .family)
 
 abbrev pub Held : List ℕ → Picture → Type 0
-Held s = Family (bookIn s)
+Held s = Member (bookIn s)
 
 -- the first count bytes of left are a book that keeps the rules and holds exactly the pictures of X; beyond them left is as out was
 pub record NewBook (out left : List ℕ) (count : ℕ) (X : Picture → Type 0) : Type 0 where

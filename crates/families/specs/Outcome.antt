@@ -7,7 +7,7 @@ use lib.ListN.{length}
 use Rattle.names.specs.Pick.{pick}
 use Rattle.names.specs.Put.{put}
 use Rattle.books.specs.Contents.{Contents}
-use Rattle.books.specs.Held.{contentsIn}
+use Rattle.books.specs.ContentsIn.{contentsIn}
 use Rattle.books.specs.Book.{bookOf}
 use Rattle.books.specs.SpellBook.{spellBook}
 use Rattle.books.specs.Answer.{plain, blaming, packed}

@@ -9,11 +9,11 @@ use books::family::Family;
 use books::writing;
 ghost use mathlib.Core.List.{List};
 ghost use Prim.Native.Nat.{ℕ};
-ghost use Rattle.books.specs.Held.{contentsIn};
-ghost use Rattle.families.specs.Lent.{Sized, Lent};
-ghost use Rattle.families.specs.Made.{Makes};
+ghost use Rattle.books.specs.ContentsIn.{contentsIn};
+ghost use Rattle.families.specs.inner.Lent.{Sized, Lent};
+ghost use Rattle.families.specs.inner.Made.{Makes};
 ghost use Rattle.families.specs.Outcome.{onOne, onSecond, onTwo, Leaves};
-ghost use Rattle.families.specs.Calls.{paired, alone, finished, Finishes};
+ghost use Rattle.families.specs.inner.Calls.{paired, alone, finished, Finishes};
 
 // The combinations of two books, ...
 pub(crate) enum Pairing {

@@ -3,8 +3,8 @@ use crate::gathering::Rules;
 use books::rule::Body;
 use books::rule::Rule;
 ghost use mathlib.Core.Path.{_≡_};
-ghost use Rattle.families.specs.Gathered.{changed, Rows};
-ghost use Rattle.families.specs.Changed.{changedBody, changedRule};
+ghost use Rattle.families.specs.inner.Gathered.{changed, Rows};
+ghost use Rattle.families.specs.inner.Changed.{changedBody, changedRule};
 
 // Mirrored exchanges left and right, flipped upper and lower, transposed rows and columns.
 pub(crate) enum Change {

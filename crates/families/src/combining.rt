@@ -6,11 +6,11 @@ use crate::way::Way;
 use books::family::Family;
 ghost use mathlib.Core.Path.{_≡_};
 ghost use Prim.Native.Nat.{_+_, _≤_};
-ghost use Rattle.families.specs.Changed.{direction};
-ghost use Rattle.families.specs.Counts.{headed};
-ghost use Rattle.families.specs.Gathered.{standing};
-ghost use Rattle.families.specs.Lent.{rulesOf, Sized, Fitted};
-ghost use Rattle.families.specs.Combined.{joinedRules, eitherRules, repeatedRules};
+ghost use Rattle.families.specs.inner.Changed.{direction};
+ghost use Rattle.families.specs.inner.Counts.{headed};
+ghost use Rattle.families.specs.inner.Gathered.{standing};
+ghost use Rattle.families.specs.inner.Lent.{rulesOf, Sized, Fitted};
+ghost use Rattle.families.specs.inner.Combined.{joinedRules, eitherRules, repeatedRules};
 
 // A family's rules by themselves.
 pub(crate) fn rules_of(f: Family) -> Rules

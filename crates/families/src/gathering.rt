@@ -7,8 +7,8 @@ ghost use Prim.Native.Nat.{_+_, _≤_, _<_};
 ghost use Rattle.books.specs.declared.rule.Rule.{Rule};
 ghost use Rattle.books.specs.Keeps.{RuleFits};
 ghost use Rattle.families.specs.Combine.{copies};
-ghost use Rattle.families.specs.Counts.{headed};
-ghost use Rattle.families.specs.Gathered.{standing, followed, raisedBy, changed, Rows};
+ghost use Rattle.families.specs.inner.Counts.{headed};
+ghost use Rattle.families.specs.inner.Gathered.{standing, followed, raisedBy, changed, Rows};
 
 // The first `count` rules stand.
 pub(crate) struct Rules {

@@ -12,12 +12,12 @@ use names::colours::Colours;
 ghost use mathlib.Core.Path.{_≡_};
 ghost use mathlib.Core.List.{List};
 ghost use Prim.Native.Nat.{ℕ};
-ghost use Rattle.books.specs.Held.{contentsIn};
+ghost use Rattle.books.specs.ContentsIn.{contentsIn};
 ghost use Rattle.families.specs.Combine.{either-of, joined, repeated, rebodied};
-ghost use Rattle.families.specs.Changed.{changedBody, direction};
-ghost use Rattle.families.specs.Lent.{Sized, Lent};
+ghost use Rattle.families.specs.inner.Changed.{changedBody, direction};
+ghost use Rattle.families.specs.inner.Lent.{Sized, Lent};
 ghost use Rattle.families.specs.Within.{few?};
-ghost use Rattle.families.specs.Made.{draftedAs, tooMuch, Makes};
+ghost use Rattle.families.specs.inner.Made.{draftedAs, tooMuch, Makes};
 
 // Whether a combination is within the limits, and its draft; where it is not, the draft is that of the first book.
 pub(crate) struct Made {

@@ -1,7 +1,7 @@
 // The colours of two lent books in one list: those of the first, then those of the second that the first lacks by name, in their order.
 use names::colours;
 use names::colours::Colours;
-ghost use Rattle.families.specs.Merges.{Lists, Merges};
+ghost use Rattle.families.specs.inner.Merges.{Lists, Merges};
 
 // The colours that follow those of the first book, as parts of the second, and the number of each of the second's colours in the whole list.
 pub(crate) struct Merged {

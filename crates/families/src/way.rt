@@ -4,7 +4,7 @@ use books::rule::Rule;
 ghost use mathlib.Core.Path.{_≡_};
 ghost use Prim.Native.Nat.{_<_};
 ghost use Rattle.books.specs.Picture.{joins};
-ghost use Rattle.families.specs.Changed.{direction};
+ghost use Rattle.families.specs.inner.Changed.{direction};
 
 pub(crate) enum Way {
     Across,

@@ -6,24 +6,23 @@ use mathlib.Core.List.{List, [], _∷_}
 use lib.ListN.{length, replicate}
 use Rattle.names.specs.Pick.{fault}
 use Rattle.names.specs.Number.{numberAt, numberIn, numberBelow, spellNumber}
-use Rattle.names.specs.Name.{nameOf, sameName, place}
-use Rattle.names.specs.Colours.{findName, colourAt as nameAt, coloursOf}
+use Rattle.names.specs.Name.{nameOf, sameName, listed}
+use Rattle.names.specs.Colours.{findName, colourAt, coloursOf}
 use Rattle.names.specs.Put.{put}
 use Rattle.names.specs.declared.number.Read.the-variants.{Value, Refused}
 use Rattle.books.specs.Answer.{plain}
-use Rattle.books.specs.Rules.{colourAt, joinAt, bodyAt, ruleAt, rulesAt}
+use Rattle.books.specs.Rules.{colourNumberAt, joinAt, bodyAt, ruleAt, rulesAt}
 use Rattle.books.specs.Book.{figuresAt, endedAt, colouredAt, bookOf}
 use Rattle.books.specs.Size.{sizeAt}
 use Rattle.books.specs.Cells.{cellsOf}
 use Rattle.books.specs.Sheet.{cellsThen, coloursThen, sheetOf}
-use Rattle.books.specs.Decide.{andThen, orElse, anyCut, fitsBody, anyRule, within, derives?}
+use Rattle.books.specs.Decide.{andThen, orElse, anyCut, fitsBody, anyRule, derivesIn, derives?}
 use Rattle.pieces.specs.Pieces.{each, pieces}
 use Rattle.pieces.specs.Table.{bits, entry, table}
 use Rattle.pieces.specs.Direction.{reach, front, back}
 use Rattle.pieces.specs.Choice.{least, works, cutOf, covers, fits, takes, taken, lowest, chosen, choose}
 use Rattle.pieces.specs.Tree.{both, treeWithin, treeOf}
-use Rattle.pieces.specs.Wrote.{outcome}
-use Rattle.pieces.specs.Derivation.{judged, roomed, derivation}
+use Rattle.pieces.specs.Derivation.{outcome, judged, roomed, derivation}
 use Rattle.families.specs.Merged.{without, merged}
 use Rattle.families.specs.Combine.{copies, joined, repeated, either-of, beside, run, transposed}
 use Rattle.families.specs.Within.{few?, within?}
@@ -64,7 +63,7 @@ pub record Cases : Type 0 where
   pub P12-rules : length (contentsOf eitherOfBook .rules) ≡ 12
 
 pub cases : Cases
-unfolding derivation roomed judged outcome both treeWithin treeOf choose chosen lowest taken takes fits covers cutOf works least reach front back table entry bits pieces each derives? within anyRule fitsBody anyCut orElse andThen lent made written within? few? put either-of joined repeated copies merged without sheetOf coloursThen cellsThen cellsOf sizeAt bookOf colouredAt figuresAt endedAt rulesAt ruleAt bodyAt joinAt colourAt coloursOf nameAt nameOf findName place sameName numberIn numberBelow numberAt spellNumber
+unfolding derivation roomed judged outcome both treeWithin treeOf choose chosen lowest taken takes fits covers cutOf works least reach front back table entry bits pieces each derives? derivesIn anyRule fitsBody anyCut orElse andThen lent made written within? few? put either-of joined repeated copies merged without sheetOf coloursThen cellsThen cellsOf sizeAt bookOf colouredAt figuresAt endedAt rulesAt ruleAt bodyAt joinAt colourNumberAt coloursOf colourAt nameOf findName listed sameName numberIn numberBelow numberAt spellNumber
 cases =
     record {
       contents = refl;

@@ -3,7 +3,7 @@ use Prim.Native.Nat.{ℕ, _-_}
 use mathlib.Core.List.{List, _++_}
 use lib.ListN.{length, replicate}
 use Rattle.books.specs.Contents.{Contents}
-use Rattle.books.specs.Held.{contentsIn}
+use Rattle.books.specs.ContentsIn.{contentsIn}
 use Rattle.books.specs.Book.{bookOf}
 use Rattle.books.specs.Answer.{plain}
 use Rattle.pieces.specs.Derivation.{Derivation, derivation}

@@ -4,7 +4,7 @@ use mathlib.Core.Path.{_≡_, refl}
 use mathlib.Core.List.{List, [], _∷_, _++_}
 use Rattle.names.specs.Pick.{fault}
 use Rattle.names.specs.Number.{numberAt, numberIn, spellNumber}
-use Rattle.names.specs.Name.{Name, nameOf, sameName, place}
+use Rattle.names.specs.Name.{Name, nameOf, sameName, listed}
 use Rattle.names.specs.Colours.{namesIn, findName, colourAt, coloursOf}
 use Rattle.names.specs.declared.number.Read.the-variants.{Value, Refused}
 
@@ -57,5 +57,5 @@ pub record Lists : Type 0 where
   pub repeated : coloursOf twice .fault ≡ fault 5 10
 
 pub lists : Lists
-unfolding house twice slateC slateU coloursOf numberIn numberAt colourAt nameOf findName place sameName
+unfolding house twice slateC slateU coloursOf numberIn numberAt colourAt nameOf findName listed sameName
 lists = record { fine = refl; next = refl; names = refl; repeated = refl }

@@ -5,32 +5,32 @@ use mathlib.Core.Bool.{true, false}
 use mathlib.Core.List.{List}
 use native.Mathlib.Omega.{arith}
 use borrow.Author.Tests.{le-ltb}
-use Rattle.names.specs.Name.{Name, sameName, place}
+use Rattle.names.specs.Name.{Name, sameName, listed}
 use Rattle.names.specs.Colours.{nameIn, namesFrom, namesIn, findName}
 use Rattle.names.specs.declared.colours.Colours.{Colours}
 use Rattle.names.proofs.Count.{left-all, left-suc, left-none}
 
 -- in a list that can be, the place of the name is found
-pub find-place : (s : List ℕ) (c : Colours) (n : Name) → c .count ≤ 64 → findName s c n ≡ place (namesIn s c) n
+pub find-listed : (s : List ℕ) (c : Colours) (n : Name) → c .count ≤ 64 → findName s c n ≡ listed (namesIn s c) n
 unfolding findName
-find-place s c n h = simp (le-ltb _ _ h)
+find-listed s c n h = simp (le-ltb _ _ h)
 
 -- what is found from a place on, where it is found among the first so many
 abbrev pub found-from : List ℕ → Colours → Name → ℕ → ℕ → ℕ
-found-from s c n count i = i + place (namesFrom s c i (count - i)) n
+found-from s c n count i = i + listed (namesFrom s c i (count - i)) n
 
-pub found-all : (s : List ℕ) (c : Colours) (n : Name) (count : ℕ) → found-from s c n count 0 ≡ place (namesFrom s c 0 count) n
+pub found-all : (s : List ℕ) (c : Colours) (n : Name) (count : ℕ) → found-from s c n count 0 ≡ listed (namesFrom s c 0 count) n
 found-all s c n count = simp left-all (omega arith)
 
 module _ (s : List ℕ) (c : Colours) (n : Name) (count i : ℕ) where
   pub found-here : i < count → sameName (nameIn s c i) n ≡ true → found-from s c n count i ≡ i
-  unfolding place
+  unfolding listed
   found-here h e = simp (left-suc count i h, e) (omega arith)
 
   pub found-later : i < count → sameName (nameIn s c i) n ≡ false → found-from s c n count i ≡ found-from s c n count (i + 1)
-  unfolding place
+  unfolding listed
   found-later h e = simp (left-suc count i h, e) (omega arith)
 
   pub found-nowhere : count ≤ i → found-from s c n count i ≡ i
-  unfolding place
+  unfolding listed
   found-nowhere h = simp (left-none count i h) (omega arith)

@@ -2,7 +2,7 @@ pub mod Count
 pub mod Tests
 pub mod Picking
 pub mod SameNames
-pub mod Places
+pub mod Listing
 pub mod ByteByByte
 pub mod Putting
 pub mod ReadingNumbers

@@ -8,7 +8,7 @@ use borrow.Author.Tests.{ltb-true, ltb-false, leb-true, leb-false, eqb-false, lt
 use lib.ListN.{length, getD}
 use lib.Dec.{ltb, leb, eqb}
 use Rattle.names.specs.Pick.{fault}
-use Rattle.names.specs.Number.{numberAt, numberIn, within, below, numberBelow}
+use Rattle.names.specs.Number.{numberAt, numberIn, inRange, below, numberBelow}
 use Rattle.names.specs.declared.number.Fault.{Fault}
 use Rattle.names.specs.declared.number.Read.{Read}
 use Rattle.names.specs.declared.number.Read.the-variants.{Value, Refused}
@@ -66,16 +66,16 @@ abbrev Ranged : List ℕ → ℕ → ℕ → ℕ → Read → Read → Type 0
 Ranged s at least most r (Value v next) = (r ≡ Value v next) × (least ≤ v) × (v ≤ most)
 Ranged s at least most r (Refused f) = Blamed s (at + 1) f
 
-within-ranged : (s : List ℕ) (at least most : ℕ) (r : Read) → Found s at r → Ranged s at least most r (within at least most r)
-within-ranged s at least most (Refused f) g = g
-within-ranged s at least most (Value v next) g =
+in-range : (s : List ℕ) (at least most : ℕ) (r : Read) → Found s at r → Ranged s at least most r (inRange at least most r)
+in-range s at least most (Refused f) g = g
+in-range s at least most (Value v next) g =
     pick-ind (Ranged s at least most (Value v next)) (ltb v least) _ _ (λ _. omega arith)
     (λ a. pick-ind (Ranged s at least most (Value v next)) (ltb most v) _ _ (λ _. omega arith)
     (λ b. (refl, ltb-false _ _ a, ltb-false _ _ b)))
 
 ranged : (s : List ℕ) (at least most : ℕ) → Ranged s at least most (numberAt s at) (numberIn s at least most)
 unfolding numberIn
-ranged s at least most = within-ranged s at least most (numberAt s at) (found s at)
+ranged s at least most = in-range s at least most (numberAt s at) (found s at)
 
 pub number-there : (s : List ℕ) (at least most v next : ℕ) → numberIn s at least most ≡ Value v next → numberAt s at ≡ Value v next
 number-there s at least most v next e = subst (Ranged s at least most (numberAt s at)) e (ranged s at least most) .0

@@ -12,7 +12,7 @@ use lib.ListN.{length, take, drop, length-append, length-drop, take-append-drop,
 use lib.Seq.{getD-take, drop-drop, drop-append-seam, take-append-seam, length-take-le}
 use Rattle.names.specs.Pick.{fault}
 use Rattle.names.specs.Number.{numberIn, spellNumber}
-use Rattle.names.specs.Name.{Name, nameOf, place}
+use Rattle.names.specs.Name.{Name, nameOf, listed}
 use Rattle.names.specs.Colours.{namesIn, findName, colourAt, noColours, withColour, afterColour, coloursFrom, countedAt, coloursOf}
 use Rattle.names.specs.Spelling.{NameOk, Distinct, ColoursOk, spellNames, spellColours}
 use Rattle.names.specs.declared.number.Fault.{Fault}
@@ -24,8 +24,8 @@ use Rattle.names.specs.declared.colours.ColourRead.the-variants.{At, Ref
 use Rattle.names.specs.declared.colours.Colours.{Colours}
 use Rattle.names.specs.declared.colours.ColoursRead.{ColoursRead}
 use Rattle.names.proofs.Picking.{pick-ind}
-use Rattle.names.proofs.Places.{place-found, place-mem}
-use Rattle.names.proofs.Finding.{find-place}
+use Rattle.names.proofs.Listing.{listed-found, listed-mem}
+use Rattle.names.proofs.Finding.{find-listed}
 use Rattle.names.proofs.ReadingNumbers.{number-there, number-in, number-in-range, number-in-refused}
 use Rattle.names.proofs.SpellingNumbers.{Bytes, number-spelled, number-reads-at}
 use Rattle.names.proofs.ReadingNames.{name-whole, name-good}
@@ -63,13 +63,13 @@ make-fresh b (x ∷ xs) each d new = (
 -- the reader's test for a name that stood before
 module _ (s : List ℕ) (c : Colours) (n : Name) (g : Places s c) where
   absent : ltb (findName s c n) (c .count) ≡ false → List·Memᴰ n (namesIn s c) → ⊥
-  absent e m = omega (arith, ltb-false (findName s c n) (c .count) e, find-place s c n (g .few), place-found (namesIn s c) n m .0, names-count s c)
+  absent e m = omega (arith, ltb-false (findName s c n) (c .count) e, find-listed s c n (g .few), listed-found (namesIn s c) n m .0, names-count s c)
 
   not-named : (List·Memᴰ n (namesIn s c) → ⊥) → ltb (findName s c n) (c .count) ≡ false
-  not-named f = le-ltb (findName s c n) (c .count) (rw (find-place s c n (g .few)) (go (ltb (place (namesIn s c) n) (c .count)) refl))
+  not-named f = le-ltb (findName s c n) (c .count) (rw (find-listed s c n (g .few)) (go (ltb (listed (namesIn s c) n) (c .count)) refl))
     where
-      go : (t : Bool) → ltb (place (namesIn s c) n) (c .count) ≡ t → c .count ≤ place (namesIn s c) n
-      go true e = absurd (f (place-mem (namesIn s c) n (omega (arith, ltb-true (place (namesIn s c) n) (c .count) e, names-count s c))))
+      go : (t : Bool) → ltb (listed (namesIn s c) n) (c .count) ≡ t → c .count ≤ listed (namesIn s c) n
+      go true e = absurd (f (listed-mem (namesIn s c) n (omega (arith, ltb-true (listed (namesIn s c) n) (c .count) e, names-count s c))))
       go false e = ltb-false _ _ e
 
 -- ── What is accepted is a spelling ──

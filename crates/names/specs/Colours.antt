@@ -5,7 +5,7 @@ use lib.ListN.{length, getD, take, drop, set, replicate}
 use lib.Dec.{ltb}
 use Rattle.names.specs.Pick.{pick, fault}
 use Rattle.names.specs.Number.{numberIn}
-use Rattle.names.specs.Name.{Name, nameOf, place}
+use Rattle.names.specs.Name.{Name, nameOf, listed}
 use Rattle.names.specs.declared.number.Fault.{Fault}
 use Rattle.names.specs.declared.number.Read.{Read}
 use Rattle.names.specs.declared.number.Read.the-variants.{Value, Refused}
@@ -29,7 +29,7 @@ namesIn s c = namesFrom s c 0 (c .count)
 
 -- the number of the colour with a name, or the count; a count that no list has holds nothing
 unfoldable pub findName : List ℕ → Colours → Name → ℕ
-findName s c n = pick (ltb 64 (c .count)) (c .count) (place (namesIn s c) n)
+findName s c n = pick (ltb 64 (c .count)) (c .count) (listed (namesIn s c) n)
 
 -- the name of so many bytes from a place on
 abbrev pub namedAt : List ℕ → ℕ → ℕ → NameRead → ColourRead

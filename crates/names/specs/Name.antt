@@ -36,6 +36,6 @@ sameName (x ∷ xs) [] = false
 sameName (x ∷ xs) (y ∷ ys) = pick (eqb x y) (sameName xs ys) false
 
 -- the place of a name in a list: the first, or past the end
-unfoldable pub place : List Name → Name → ℕ
-place [] n = 0
-place (x ∷ xs) n = pick (sameName x n) 0 (suc (place xs n))
+unfoldable pub listed : List Name → Name → ℕ
+listed [] n = 0
+listed (x ∷ xs) n = pick (sameName x n) 0 (suc (listed xs n))

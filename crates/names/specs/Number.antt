@@ -18,13 +18,13 @@ numberAt s at =
     (Refused (fault 2 at))))))
 
 -- a value outside its range is refused with 3 at the number's first byte
-abbrev pub within : ℕ → ℕ → ℕ → Read → Read
-within at least most (Value v next) =
+abbrev pub inRange : ℕ → ℕ → ℕ → Read → Read
+inRange at least most (Value v next) =
     pick (ltb v least) (Refused (fault 3 at)) (pick (ltb most v) (Refused (fault 3 at)) (Value v next))
-within at least most (Refused f) = Refused f
+inRange at least most (Refused f) = Refused f
 
 unfoldable pub numberIn : List ℕ → ℕ → ℕ → ℕ → Read
-numberIn s at least most = within at least most (numberAt s at)
+numberIn s at least most = inRange at least most (numberAt s at)
 
 -- a value that is not below its count is refused at the number's first byte, with the number that its field has
 abbrev pub below : ℕ → ℕ → ℕ → Read → Read

@@ -7,9 +7,9 @@ use lib.ListN.{getD}
 use Rattle.books.specs.Picture.{Dir}
 use Rattle.pieces.specs.Pieces.{Inside}
 use Rattle.pieces.specs.Parts.{extent}
-use Rattle.pieces.specs.Course.{courseOf}
-use Rattle.pieces.specs.Joined.{joined, atCut, along}
-use Rattle.pieces.specs.Settled.{Plan, cutsOf}
+use Rattle.pieces.specs.inner.Course.{courseOf}
+use Rattle.pieces.specs.inner.Firing.{allFired, atCut, along}
+use Rattle.pieces.specs.inner.Settled.{Plan, cutsOf}
 use Rattle.pieces.specs.declared.piece.Piece.{Piece}
 use Rattle.pieces.proofs.Courses.{course-at, course-on}
 use Rattle.pieces.proofs.Gathered.{gathered-same}
@@ -22,4 +22,4 @@ along-cuts j t d p i =
     (λ k h.
     let a = course-at d (j .rows) (j .cols) p i k (omega arith) in
     let b = course-on d (j .rows) (j .cols) p i k (omega arith) in
-    ap₂ (λ (x y : ℕ). joined (j .masks d) (j .count d) (getD t x 0) (getD t y 0)) (a .first) (b .second))
+    ap₂ (λ (x y : ℕ). allFired (j .masks d) (j .count d) (getD t x 0) (getD t y 0)) (a .first) (b .second))

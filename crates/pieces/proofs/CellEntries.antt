@@ -9,14 +9,14 @@ use lib.ListN.{length, getD}
 use lib.Pow.{pow-pos, pow-lt}
 use lib.Seq.{getD-take, length-take-le}
 use borrow.Author.Tests.{eq-eqb, ne-eqb}
-use Rattle.names.specs.Name.{Name, place}
+use Rattle.names.specs.Name.{Name, listed}
 use Rattle.names.specs.Colours.{namesIn, findName}
-use Rattle.names.proofs.Finding.{find-place}
-use Rattle.names.proofs.Places.{getD-mem, place-found, place-mem, place-own}
+use Rattle.names.proofs.Finding.{find-listed}
+use Rattle.names.proofs.Listing.{getD-mem, listed-found, listed-mem, listed-own}
 use Rattle.names.proofs.ReadingColours.{names-count}
 use Rattle.books.specs.Contents.{Contents, Has, name}
 use Rattle.books.specs.Derives.{Derives, paint, join}
-use Rattle.books.specs.Held.{contentsIn}
+use Rattle.books.specs.ContentsIn.{contentsIn}
 use Rattle.books.specs.Keeps.{Keeps}
 use Rattle.books.specs.Picture.{Picture, across, down}
 use Rattle.books.specs.declared.family.Family.{Family}
@@ -24,7 +24,7 @@ use Rattle.books.specs.declared.rule.Rule.{Rule}
 use Rattle.books.specs.declared.rule.Body.{Body}
 use Rattle.books.specs.declared.rule.Body.the-variants.{Colour, Across, Down}
 use Rattle.books.specs.Rules.{noRule}
-use Rattle.pieces.specs.Painted.{painterOf, painterAt, paintersOf}
+use Rattle.pieces.specs.inner.Painted.{painterOf, painterAt, paintersOf}
 use Rattle.pieces.specs.Table.{bit, entry}
 use Rattle.pieces.proofs.Bits.{none-set, bit-pow, pow-has, same-bit, same-bits}
 use Rattle.pieces.proofs.Entries.{entry-lt, entry-derives, derives-entry}
@@ -71,8 +71,8 @@ module _ (book : List ℕ) (f : Family) (keeps : Keeps (contentsIn book f)) (all
   colour-in : (a c : ℕ) → Has b a (Colour c) → c < length names
   colour-in a c h = keeps .sound .rules-fit _ h .body-fits
 
-  found-at : (n : Name) → findName book (f .colours) n ≡ place names n
-  found-at n = find-place book (f .colours) n (omega (arith, keeps .colours-ok .few, names-count book (f .colours)))
+  found-at : (n : Name) → findName book (f .colours) n ≡ listed names n
+  found-at n = find-listed book (f .colours) n (omega (arith, keeps .colours-ok .few, names-count book (f .colours)))
 
   module _ (q : Picture) (one-row : q .rows ≡ 1) (one-col : q .cols ≡ 1) where
     abbrev number : ℕ
@@ -86,10 +86,10 @@ module _ (book : List ℕ) (f : Family) (keeps : Keeps (contentsIn book f)) (all
         let w = painter-has number (r .head) a (r .body) (v .2) in
         let m = rule-in (v .0) (v .1) in
         let has : Has b a (Colour number) = subst (λ (x : Rule). List·Memᴰ x (b .rules)) (same r (w .1) (w .0)) m in
-        let low : place names (q .cell 0 0) < length names = subst (λ (k : ℕ). k < length names) (found-at (q .cell 0 0)) (colour-in a number has) in (
+        let low : listed names (q .cell 0 0) < length names = subst (λ (k : ℕ). k < length names) (found-at (q .cell 0 0)) (colour-in a number has) in (
           subst (λ (k : ℕ). k < b .motifs) (sym (w .1)) (keeps .sound .rules-fit _ m .head-fits),
           paint {p = q} number has one-row one-col
-              (sym (ap (name b) (found-at (q .cell 0 0)) ∙ place-found names (q .cell 0 0) (place-mem names (q .cell 0 0) low) .1)),
+              (sym (ap (name b) (found-at (q .cell 0 0)) ∙ listed-found names (q .cell 0 0) (listed-mem names (q .cell 0 0) low) .1)),
         )
       where
         same : (r : Rule) {k : ℕ} {x : Body} → k ≡ r .head → r .body ≡ x → r ≡ record { head = k; body = x }
@@ -101,7 +101,7 @@ module _ (book : List ℕ) (f : Family) (keeps : Keeps (contentsIn book f)) (all
         let v = member-at (b .rules) noRule h in
         let low : v .0 < f .count = omega (arith, v .1, length-take-le (f .count) (f .rules) all) in
         let here = sym (getD-take (f .count) (f .rules) (v .0) noRule low) ∙ v .2 in
-        let found = found-at (q .cell 0 0) ∙ ap (place names) e ∙ place-own names c (keeps .colours-ok .distinct) (colour-in a c h) in
+        let found = found-at (q .cell 0 0) ∙ ap (listed names) e ∙ listed-own names c (keeps .colours-ok .distinct) (colour-in a c h) in
         has-gathered (f .count) (painterAt (f .rules) number) a (v .0) low
         (subst (λ (r : Rule). bit (painterOf number (r .head) (r .body)) a ≡ 1) (sym here)
         (subst (λ (n : ℕ). bit (painterOf n a (Colour c)) a ≡ 1) (sym found) (has-painter c a)))

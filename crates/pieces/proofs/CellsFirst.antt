@@ -4,12 +4,12 @@ use Prim.Native.Nat.{ℕ, suc, _+_, _-_, _*_, _≤_, _<_}
 use native.Mathlib.Nat.{zero-mul, mul-zero, add-mul, one-mul, mul-le-mul-right}
 use native.Mathlib.Omega.{arith}
 use native.Mathlib.Decide.{decLt}
-use Rattle.pieces.specs.Pieces.{piece, Inside, total, stretches, place, slotOf}
+use Rattle.pieces.specs.Pieces.{piece, Inside, total, stretches, slotAt, slotOf}
 use Rattle.pieces.specs.declared.piece.Piece.{Piece}
 use Rattle.pieces.proofs.Slots.{narrower, flatter, slot-lt}
 
 pub slot-cell : (m n t l : ℕ) → slotOf m n (piece 1 1 t l) ≡ t * n + l
-unfolding slotOf place stretches
+unfolding slotOf slotAt stretches
 slot-cell m n t l =
     let e : n - 0 ≡ n = omega arith in
     omega (arith, mul-zero (m - 0), ap (λ (x : ℕ). t * x) e, zero-mul (stretches n n))

@@ -6,9 +6,9 @@ use native.Mathlib.Nat.{add-mul, mul-add, one-mul, mul-comm, mul-le-mul, le-tran
 use native.Mathlib.Numerals.{add-one}
 use native.Mathlib.Omega.{arith}
 use Rattle.books.specs.Picture.{Dir, across, down}
-use Rattle.pieces.specs.Pieces.{Room, Inside, total, stretches, place, slotOf}
+use Rattle.pieces.specs.Pieces.{Room, Inside, total, stretches, slotAt, slotOf}
 use Rattle.pieces.specs.Parts.{extent, firstPart, restPart}
-use Rattle.pieces.specs.Course.{step, after, cells, change, short, shorter, courseOf, Runs}
+use Rattle.pieces.specs.inner.Course.{step, after, cells, change, short, shorter, courseOf, Runs}
 use Rattle.pieces.specs.declared.piece.Piece.{Piece}
 use Rattle.pieces.specs.declared.course.Course.{Course}
 use Rattle.pieces.proofs.PartsOfPieces.{first-inside, rest-inside, rest-whole}
@@ -22,26 +22,26 @@ one-more x n c h =
     let e : (n - (x + 1) + 1) * c ≡ (n - x) * c = ap (λ (y : ℕ). y * c) (omega arith) in
     omega (arith, add-mul (n - (x + 1)) 1 c, one-mul c)
 
-wider : (m n u x t l : ℕ) → x < n → place m n u (x + 1) t l + t ≡ place m n u x t l + (n - x) * (m - u)
-unfolding place
+wider : (m n u x t l : ℕ) → x < n → slotAt m n u (x + 1) t l + t ≡ slotAt m n u x t l + (n - x) * (m - u)
+unfolding slotAt
 wider m n u x t l h =
     let a : (m - u) * stretches n (x + 1) ≡ (m - u) * stretches n x + (m - u) * (n - x) =
     ap (λ (y : ℕ). (m - u) * y) (stretches-next n x) ∙ mul-add (m - u) (stretches n x) (n - x) in
     omega (arith, one-more x n t h, mul-comm t (n - x), mul-comm t (n - (x + 1)), mul-comm (m - u) (n - x))
 
-taller : (m n x v t l : ℕ) → x < m → place m n (x + 1) v t l + stretches n v ≡ place m n x v t l + (m - x) * stretches n n
-unfolding place
+taller : (m n x v t l : ℕ) → x < m → slotAt m n (x + 1) v t l + stretches n v ≡ slotAt m n x v t l + (m - x) * stretches n n
+unfolding slotAt
 taller m n x v t l h =
     let a : stretches m (x + 1) * stretches n n ≡ stretches m x * stretches n n + (m - x) * stretches n n =
     ap (λ (y : ℕ). y * stretches n n) (stretches-next m x) ∙ add-mul (stretches m x) (m - x) (stretches n n) in
     omega (arith, one-more x m (stretches n v) h)
 
-righter : (m n u v t l : ℕ) → place m n u v t (l + 1) ≡ place m n u v t l + 1
-unfolding place
+righter : (m n u v t l : ℕ) → slotAt m n u v t (l + 1) ≡ slotAt m n u v t l + 1
+unfolding slotAt
 righter m n u v t l = omega arith
 
-lower : (m n u v t l : ℕ) → place m n u v (t + 1) l ≡ place m n u v t l + (n - v)
-unfolding place
+lower : (m n u v t l : ℕ) → slotAt m n u v (t + 1) l ≡ slotAt m n u v t l + (n - v)
+unfolding slotAt
 lower m n u v t l = omega (arith, add-mul t 1 (n - v), one-mul (n - v))
 
 -- ---- the slots of the two parts, from cut to cut

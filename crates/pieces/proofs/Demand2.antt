@@ -14,8 +14,8 @@ use Rattle.names.proofs.SpellingNumbers.{Bytes}
 use Rattle.books.specs.Contents.{Contents}
 use Rattle.books.specs.Picture.{Picture}
 use Rattle.books.specs.Grid.{picture}
-use Rattle.books.specs.Held.{contentsIn, gridIn}
-use Rattle.books.specs.Derives.{Derives, Family}
+use Rattle.books.specs.ContentsIn.{contentsIn, gridIn}
+use Rattle.books.specs.Derives.{Derives, Member}
 use Rattle.books.specs.Decide.{derives?}
 use Rattle.books.specs.Book.{bookOf}
 use Rattle.books.specs.Sheet.{sheetOf}
@@ -28,8 +28,7 @@ use Rattle.pieces.specs.Pieces.{Inside, slotOf}
 use Rattle.pieces.specs.Table.{bit, cut, table}
 use Rattle.pieces.specs.Tree.{tree}
 use Rattle.pieces.specs.Given.{Given}
-use Rattle.pieces.specs.Wrote.{outcome}
-use Rattle.pieces.specs.Derivation.{Derivation, entriesNeeded, numbersNeeded, filled, judged, roomed, derivation}
+use Rattle.pieces.specs.Derivation.{Derivation, entriesNeeded, numbersNeeded, filled, judged, roomed, derivation, outcome}
 use Rattle.pieces.proofs.Entries.{entry-derives, derives-entry}
 use Rattle.pieces.proofs.ExactViews.{motif-below}
 use Rattle.pieces.proofs.Judging.{filled-holds, held-entry}
@@ -49,7 +48,7 @@ module _ (b : Contents) (p : Picture) (entries numbers : List ℕ) (work : entri
     pub given : Given b (b .start) p nodes
     pub written : d .numbers ≡ nodes ++ drop (length nodes) numbers
 
-  accepts : Family b p → Accepts (judged b p (filled b p entries) numbers)
+  accepts : Member b p → Accepts (judged b p (filled b p entries) numbers)
   unfolding judged outcome
   accepts x =
       let (xs, e, g) = tree-given b p x in
@@ -60,7 +59,7 @@ module _ (b : Contents) (p : Picture) (entries numbers : List ℕ) (work : entri
     pub answered : d .answer ≡ plain 11
     pub unwritten : d .numbers ≡ numbers
 
-  declines : (Family b p → ⊥) → Declines (judged b p (filled b p entries) numbers)
+  declines : (Member b p → ⊥) → Declines (judged b p (filled b p entries) numbers)
   unfolding judged
   declines n =
       pick-ind Declines (derives? b (b .start) p) _ _
@@ -89,15 +88,15 @@ module _ (book sheet entries numbers : List ℕ) (book-bytes : Bytes book)
     same = sym (judges b p entries numbers work room) ∙ sym (then-room book sheet entries numbers fine whole)
 
     -- a derived sheet is accepted, with the derivation given: so 14 is never answered of it
-    pub derived-accepted : Family b p → Accepts b p entries numbers work room outcome-of
+    pub derived-accepted : Member b p → Accepts b p entries numbers work room outcome-of
     derived-accepted x = subst (Accepts b p entries numbers work room) same (accepts b p entries numbers work room x)
 
     -- any other is answered 11
-    pub other-declined : (Family b p → ⊥) → Declines b p entries numbers work room outcome-of
+    pub other-declined : (Member b p → ⊥) → Declines b p entries numbers work room outcome-of
     other-declined n = subst (Declines b p entries numbers work room) same (declines b p entries numbers work room n)
 
     -- accepted exactly when the rules derive it
-    pub accepted-exactly : (outcome-of .answer ≡ plain 0) ↔ Family b p
+    pub accepted-exactly : (outcome-of .answer ≡ plain 0) ↔ Member b p
     accepted-exactly = (
       λ e. ⊎-elim
           (λ (t : derives? b (b .start) p ≡ true). decided b (b .start) p .0 t)

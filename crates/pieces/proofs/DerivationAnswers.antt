@@ -14,7 +14,7 @@ use Rattle.books.specs.Decide.{derives?}
 use Rattle.books.specs.Book.{bookOf}
 use Rattle.books.specs.Sheet.{sheetOf}
 use Rattle.books.specs.Answer.{plain, blaming, Packs}
-use Rattle.books.specs.Held.{contentsIn, gridIn}
+use Rattle.books.specs.ContentsIn.{contentsIn, gridIn}
 use Rattle.books.specs.Grid.{picture}
 use Rattle.books.proofs.Packing.{plain-packs, book-placed, sheet-placed}
 use Rattle.pieces.specs.Tree.{tree}

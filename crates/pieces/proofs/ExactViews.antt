@@ -9,9 +9,9 @@ use native.Mathlib.Omega.{arith}
 use lib.Dec.{eqb}
 use lib.ListN.{length, getD}
 use borrow.Author.Tests.{eqb-true, eq-eqb}
-use Rattle.names.specs.Name.{Name, place}
+use Rattle.names.specs.Name.{Name, listed}
 use Rattle.names.specs.Spelling.{Distinct}
-use Rattle.names.proofs.Places.{place-mem, place-found, place-own}
+use Rattle.names.proofs.Listing.{listed-mem, listed-found, listed-own}
 use Rattle.names.proofs.SameNames.{same-name}
 use Rattle.books.specs.Contents.{Contents, Has, name}
 use Rattle.books.specs.Picture.{Picture}
@@ -40,16 +40,16 @@ motif-below b sound {a} x =
     let (i, y, u, able) = derives-able x in sound .rules-fit _ (at-has b i a y u) .head-fits
 
 -- A cell shows a colour of the book exactly where it has its number.
-number-name : (l : List Name) (n : Name) (c : ℕ) → Distinct l → c < length l → (eqb (place l n) c ≡ true) ↔ (n ≡ getD l c [])
+number-name : (l : List Name) (n : Name) (c : ℕ) → Distinct l → c < length l → (eqb (listed l n) c ≡ true) ↔ (n ≡ getD l c [])
 number-name l n c apart h = (
-  λ e. let f : place l n ≡ c = eqb-true (place l n) c e in
-      let (_, g) = place-found l n (place-mem l n (omega arith)) in sym g ∙ ap (λ (k : ℕ). getD l k []) f,
-  λ e. eq-eqb (place l n) c (ap (place l) e ∙ place-own l c apart h),
+  λ e. let f : listed l n ≡ c = eqb-true (listed l n) c e in
+      let (_, g) = listed-found l n (listed-mem l n (omega arith)) in sym g ∙ ap (λ (k : ℕ). getD l k []) f,
+  λ e. eq-eqb (listed l n) c (ap (listed l) e ∙ listed-own l c apart h),
 )
 
 module _ (b : Contents) (p : Picture) (sound : Sound b) (apart : Distinct (b .colours)) (work colours : List ℕ)
     (entries : (q : Piece) → Inside (p .rows) (p .cols) q → getD work (slotOf (p .rows) (p .cols) q) 0 ≡ entry b (cut p q))
-    (numbers : (i j : ℕ) → i < p .rows → j < p .cols → getD colours (i * p .cols + j) 0 ≡ place (b .colours) (p .cell i j)) where
+    (numbers : (i j : ℕ) → i < p .rows → j < p .cols → getD colours (i * p .cols + j) 0 ≡ listed (b .colours) (p .cell i j)) where
   bit-exact : (a : ℕ) (q : Piece) → Inside (p .rows) (p .cols) q → (hasBit (p .rows) (p .cols) work a q ≡ true) ↔ Derives b a (cut p q)
   unfolding hasBit
   bit-exact a q inq =

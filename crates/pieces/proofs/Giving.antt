@@ -5,7 +5,7 @@ use mathlib.Core.List.{List, [], _∷_, _++_, List·Memᴰ, List·Memᴰ·not-ni
 use mathlib.Core.Logic.{⊎-elim}
 use native.Mathlib.Omega.{arith}
 use lib.ListN.{length, getD}
-use Rattle.names.proofs.Places.{getD-mem}
+use Rattle.names.proofs.Listing.{getD-mem}
 use Rattle.books.specs.Contents.{Contents, Has}
 use Rattle.books.specs.Picture.{Picture, Dir, across, down, joins, first, rest}
 use Rattle.books.specs.Derives.{Derives, paint, join}

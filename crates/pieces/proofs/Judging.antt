@@ -12,17 +12,17 @@ use native.Mathlib.Decide.{decLt}
 use lib.ListN.{length, getD, take, drop, length-append, length-drop, length-map}
 use lib.Seq.{take-at, take-all, getD-take}
 use Rattle.names.specs.Colours.{namesIn}
-use Rattle.names.specs.Name.{place}
+use Rattle.names.specs.Name.{listed}
 use Rattle.names.proofs.Picking.{pick-ind}
 use Rattle.names.proofs.Tests.{lt-or-le}
-use Rattle.names.proofs.Finding.{find-place}
+use Rattle.names.proofs.Finding.{find-listed}
 use Rattle.books.specs.Contents.{Contents}
 use Rattle.books.specs.Picture.{Picture}
 use Rattle.books.specs.Derives.{Derives}
 use Rattle.books.specs.Decide.{derives?}
 use Rattle.books.specs.Answer.{plain}
 use Rattle.books.specs.declared.answer.Answer.{Answer}
-use Rattle.books.specs.Held.{contentsIn, gridIn}
+use Rattle.books.specs.ContentsIn.{contentsIn, gridIn}
 use Rattle.books.specs.Grid.{picture}
 use Rattle.books.specs.declared.family.Family.{Family}
 use Rattle.books.specs.declared.sheet.Sheet.{Sheet}
@@ -33,10 +33,9 @@ use Rattle.pieces.specs.Area.{whole, treeSize}
 use Rattle.pieces.specs.Table.{bit, cut, entry, table}
 use Rattle.pieces.specs.View.{Exact, hasBit, seen}
 use Rattle.pieces.specs.Tree.{tree, treeOf}
-use Rattle.pieces.specs.Wrote.{found, outcome}
-use Rattle.pieces.specs.Settled.{Made}
-use Rattle.pieces.specs.Verdict.{Verdict, verdict, lacking}
-use Rattle.pieces.specs.Derivation.{Derivation, leaving, entriesNeeded, numbersNeeded, filled, Holds, treeAnswer, judged, roomed}
+use Rattle.pieces.specs.inner.Settled.{TableMade}
+use Rattle.pieces.specs.inner.Verdict.{Verdict, verdict, lacking}
+use Rattle.pieces.specs.Derivation.{Derivation, leaving, entriesNeeded, numbersNeeded, filled, Holds, treeAnswer, judged, roomed, outcome}
 use Rattle.pieces.proofs.Entries.{derives-entry}
 use Rattle.pieces.proofs.Slots.{length-pieces, slot-lt, getD-slot}
 use Rattle.pieces.proofs.CellsFirst.{cell-before}
@@ -100,7 +99,7 @@ module _ {book : List ℕ} {f : Family} {bytes : List ℕ} {g : Sheet} (given : 
     exact =
         seen-exact b p (given .book-keeps .sound) (given .book-keeps .colours-ok .distinct) work numbers (held-entry b p work holds)
         (λ i j hi hj. numbered (i * g .cols + j) (cell-before (g .rows) (g .cols) i j hi hj)
-        ∙ (find-place book (f .colours) _ (book-colours given) ∙ ap (place (namesIn book (f .colours))) (sym (cell-name given i j hi hj))))
+        ∙ (find-listed book (f .colours) _ (book-colours given) ∙ ap (listed (namesIn book (f .colours))) (sym (cell-name given i j hi hj))))
 
     starts : hasBit (g .rows) (g .cols) work (f .start) (whole (g .rows) (g .cols)) ≡ true → Derives b (f .start) p
     starts e =
@@ -150,7 +149,7 @@ module _ {book : List ℕ} {f : Family} {bytes : List ℕ} {g : Sheet} (given : 
 
 -- A table that was made is judged as the definition has it.
 module _ {book : List ℕ} {f : Family} {bytes : List ℕ} {g : Sheet} (given : AsRead book f bytes g) (cells before after : List ℕ)
-    (numbered : Numbered book f bytes g cells) (made : Made (f .rules) (f .count) cells (g .rows) (g .cols) before after) (same : length before ≡ length after)
+    (numbered : Numbered book f bytes g cells) (made : TableMade (f .rules) (f .count) cells (g .rows) (g .cols) before after) (same : length before ≡ length after)
     (enough : total (g .rows) (g .cols) ≤ length before) (tree-slice : List ℕ) where
   abbrev contents : Contents
   contents = contentsIn book f

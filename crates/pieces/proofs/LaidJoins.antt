@@ -5,14 +5,14 @@ use mathlib.Core.List.{List, [], _∷_, List·Memᴰ, List·Memᴰ·head, List·
 use Prim.Native.Nat.{ℕ, suc, _+_, _^_, _<_}
 use native.Mathlib.Omega.{arith}
 use lib.ListN.{length, getD}
-use Rattle.names.proofs.Places.{getD-mem}
+use Rattle.names.proofs.Listing.{getD-mem}
 use Rattle.books.specs.Picture.{Dir, across, down, joins}
 use Rattle.books.specs.declared.rule.Rule.{Rule}
 use Rattle.books.specs.declared.rule.Body.{Body}
 use Rattle.books.specs.declared.rule.Body.the-variants.{Colour, Across, Down}
 use Rattle.pieces.specs.Table.{bit}
-use Rattle.pieces.specs.Joined.{firing, joined}
-use Rattle.pieces.specs.Masks.{Join, join, joinOf, joinsIn, Laid}
+use Rattle.pieces.specs.inner.Firing.{firing, allFired}
+use Rattle.pieces.specs.inner.Masks.{Join, join, joinOf, joinsIn, Laid}
 use Rattle.pieces.proofs.Gathered.{gathered-has, has-gathered, gathered-lt, firing-has, has-firing, firing-lt}
 
 -- ---- members and places of a list
@@ -61,17 +61,17 @@ module _ (js : List Join) (masks : List ℕ) (laid : Laid js masks) (l r : ℕ) 
       ≡ firing l r (2 ^ (getD js i (join 0 0 0) .first)) (2 ^ (getD js i (join 0 0 0) .second)) (2 ^ (getD js i (join 0 0 0) .head))
   at-join i h = rw (laid .firsts i h, laid .seconds i h, laid .heads i h)
 
-  pub joined-has : (a : ℕ) → bit (joined masks (length js) l r) a ≡ 1
+  pub joined-has : (a : ℕ) → bit (allFired masks (length js) l r) a ≡ 1
       → (j : Join) × List·Memᴰ j js × (a ≡ j .head) × (bit l (j .first) ≡ 1) × (bit r (j .second) ≡ 1)
-  unfolding joined
+  unfolding allFired
   joined-has a o =
       let v = gathered-has (length js) _ a o in
       let j = getD js (v .0) (join 0 0 0) in
       let f = firing-has l r (j .first) (j .second) (j .head) a (ap (λ (x : ℕ). bit x a) (sym (at-join (v .0) (v .1))) ∙ v .2) in
       (j, getD-mem js (v .0) (join 0 0 0) (v .1), f .0, f .1, f .2)
 
-  pub has-joined : (j : Join) → List·Memᴰ j js → bit l (j .first) ≡ 1 → bit r (j .second) ≡ 1 → bit (joined masks (length js) l r) (j .head) ≡ 1
-  unfolding joined
+  pub has-joined : (j : Join) → List·Memᴰ j js → bit l (j .first) ≡ 1 → bit r (j .second) ≡ 1 → bit (allFired masks (length js) l r) (j .head) ≡ 1
+  unfolding allFired
   has-joined j m p q =
       let v = member-at js (join 0 0 0) m in
       has-gathered (length js) _ (j .head) (v .0) (v .1)
@@ -79,8 +79,8 @@ module _ (js : List Join) (masks : List ℕ) (laid : Laid js masks) (l r : ℕ) 
       ∙ subst (λ (k : Join). bit (firing l r (2 ^ k .first) (2 ^ k .second) (2 ^ k .head)) (j .head) ≡ 1) (sym (v .2))
       (has-firing l r (j .first) (j .second) (j .head) p q))
 
-  pub joined-lt : (n : ℕ) → ((j : Join) → List·Memᴰ j js → j .head < n) → joined masks (length js) l r < 2 ^ n
-  unfolding joined
+  pub joined-lt : (n : ℕ) → ((j : Join) → List·Memᴰ j js → j .head < n) → allFired masks (length js) l r < 2 ^ n
+  unfolding allFired
   joined-lt n below =
       gathered-lt n (length js) _
       (λ i h. subst (λ (x : ℕ). x < 2 ^ n) (sym (at-join i h)) (firing-lt n l r _ _ (getD js i (join 0 0 0) .head) (below _ (getD-mem js i (join 0 0 0) h))))

@@ -14,10 +14,10 @@ use Rattle.books.specs.declared.rule.Rule.{Rule}
 use Rattle.books.specs.declared.rule.Body.{Body}
 use Rattle.books.specs.declared.rule.Body.the-variants.{Colour, Across, Down}
 use borrow.Author.Tests.{eq-eqb, ne-eqb}
-use Rattle.pieces.specs.Masks.{Join, join, joinOf, joinsIn, Laid, Serves, masksOf, countOf, putJoin, putRule, countRule}
+use Rattle.pieces.specs.inner.Masks.{Join, join, joinOf, joinsIn, Laid, Serves, masksOf, countOf, putJoin, putRule, countRule}
 use Rattle.books.specs.Rules.{noRule}
-use Rattle.pieces.specs.Joined.{gathered}
-use Rattle.pieces.specs.Painted.{painterOf, painterAt, paintersOf, SmallRules, SplitInto}
+use Rattle.pieces.specs.inner.Firing.{gathered}
+use Rattle.pieces.specs.inner.Painted.{painterOf, painterAt, paintersOf, SmallRules, SplitInto}
 use Rattle.pieces.specs.declared.masks.Joins.{Joins}
 use Rattle.pieces.proofs.Gathered.{gathered-next}
 

@@ -5,16 +5,16 @@ use Prim.Native.Nat.{ℕ, _+_, _-_, _*_, _≤_, _<_}
 use native.Mathlib.Nat.{zero-mul, mul-zero, add-mul, one-mul, mul-add}
 use native.Mathlib.Omega.{arith}
 use native.Mathlib.Decide.{decLt}
-use Rattle.pieces.specs.Pieces.{piece, Inside, total, stretches, place, slotOf, NextTo}
+use Rattle.pieces.specs.Pieces.{piece, Inside, total, stretches, slotAt, slotOf, NextTo}
 use Rattle.pieces.specs.declared.piece.Piece.{Piece}
 use Rattle.pieces.proofs.Stretches.{stretches-next, total-stretches}
 
-right-of : (m n u v t l : ℕ) → place m n u v t (l + 1) ≡ place m n u v t l + 1
-unfolding place
+right-of : (m n u v t l : ℕ) → slotAt m n u v t (l + 1) ≡ slotAt m n u v t l + 1
+unfolding slotAt
 right-of m n u v t l = omega arith
 
-below : (m n u v t l : ℕ) → l + 1 ≡ n - v → place m n u v (t + 1) 0 ≡ place m n u v t l + 1
-unfolding place
+below : (m n u v t l : ℕ) → l + 1 ≡ n - v → slotAt m n u v (t + 1) 0 ≡ slotAt m n u v t l + 1
+unfolding slotAt
 below m n u v t l h = omega (arith, add-mul t 1 (n - v), one-mul (n - v))
 
 -- behind the last piece of a size, all of that size have been passed
@@ -26,20 +26,20 @@ module _ (m n u v t l : ℕ) (h : l + 1 ≡ n - v) (k : t + 1 ≡ m - u) where
       let b : (t + 1) * (n - v) ≡ (m - u) * (n - v) = ap (λ (x : ℕ). x * (n - v)) k in
       omega (arith, add-mul t 1 (n - v), one-mul (n - v))
 
-  wider : place m n u (v + 1) 0 0 ≡ place m n u v t l + 1
-  unfolding place
+  wider : slotAt m n u (v + 1) 0 0 ≡ slotAt m n u v t l + 1
+  unfolding slotAt
   wider = omega (arith, passed, zero-mul (n - (v + 1)))
 
-  taller : v + 1 ≡ n → place m n (u + 1) 0 0 0 ≡ place m n u v t l + 1
-  unfolding place stretches
+  taller : v + 1 ≡ n → slotAt m n (u + 1) 0 0 0 ≡ slotAt m n u v t l + 1
+  unfolding slotAt stretches
   taller j =
       let a : stretches m (u + 1) * stretches n n ≡ stretches m u * stretches n n + (m - u) * stretches n n =
       ap (λ (x : ℕ). x * stretches n n) (stretches-next m u) ∙ add-mul (stretches m u) (m - u) (stretches n n) in
       let b : (m - u) * stretches n (v + 1) ≡ (m - u) * stretches n n = ap (λ (x : ℕ). (m - u) * stretches n x) j in
       omega (arith, passed, mul-zero (m - (u + 1)), zero-mul (n - 0))
 
-last : (m n : ℕ) → place m n m 0 0 0 ≡ total m n
-unfolding place stretches
+last : (m n : ℕ) → slotAt m n m 0 0 0 ≡ total m n
+unfolding slotAt stretches
 last m n = omega (arith, total-stretches m n, mul-zero (m - m), zero-mul (n - 0))
 
 -- The whole sheet is the last piece.
@@ -47,7 +47,7 @@ pub slot-whole : (m n : ℕ) → 1 ≤ m → 1 ≤ n → slotOf m n (piece m n 0
 unfolding slotOf
 slot-whole m n hm hn =
     let e : m - 1 + 1 ≡ m = omega arith in
-    sym (taller m n (m - 1) (n - 1) 0 0 (omega arith) (omega arith) (omega arith)) ∙ ap (λ (x : ℕ). place m n x 0 0 0) e ∙ last m n
+    sym (taller m n (m - 1) (n - 1) 0 0 (omega arith) (omega arith) (omega arith)) ∙ ap (λ (x : ℕ). slotAt m n x 0 0 0) e ∙ last m n
 
 module _ (m n : ℕ) (p : Piece) (i : Inside m n p) where
   pub next-right : p .left + p .width < n → NextTo m n p (piece (p .height) (p .width) (p .top) (p .left + 1))
@@ -79,14 +79,14 @@ module _ (m n : ℕ) (p : Piece) (i : Inside m n p) where
       unfolding slotOf
       next-taller h = record { one = step; still = λ s. inside s (decLt (p .height) m) }
         where
-          step : place m n (p .height + 1 - 1) 0 0 0 ≡ place m n (p .height - 1) (p .width - 1) (p .top) (p .left) + 1
+          step : slotAt m n (p .height + 1 - 1) 0 0 0 ≡ slotAt m n (p .height - 1) (p .width - 1) (p .top) (p .left) + 1
           step =
               let e : p .height + 1 - 1 ≡ p .height - 1 + 1 = omega arith in
               rw e (taller m n (p .height - 1) (p .width - 1) (p .top) (p .left) (omega arith) (omega arith) (omega arith))
 
-          inside : place m n (p .height + 1 - 1) 0 0 0 < total m n → Dec (p .height < m) → Inside m n (piece (p .height + 1) 1 0 0)
+          inside : slotAt m n (p .height + 1 - 1) 0 0 0 < total m n → Dec (p .height < m) → Inside m n (piece (p .height + 1) 1 0 0)
           inside s (yes g) = record { tall = omega arith; wide = omega arith; low = omega arith; right = omega arith }
           inside s (no g) =
               let e : p .height + 1 - 1 ≡ m = omega arith in
-              let z : place m n (p .height + 1 - 1) 0 0 0 ≡ total m n = ap (λ (x : ℕ). place m n x 0 0 0) e ∙ last m n in
+              let z : slotAt m n (p .height + 1 - 1) 0 0 0 ≡ total m n = ap (λ (x : ℕ). slotAt m n x 0 0 0) e ∙ last m n in
               absurd (omega arith)

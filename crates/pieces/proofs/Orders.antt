@@ -11,7 +11,7 @@ use Rattle.books.specs.Answer.{plain}
 use Rattle.books.specs.Book.{bookOf}
 use Rattle.books.specs.Contents.{Contents}
 use Rattle.books.specs.Grid.{picture}
-use Rattle.books.specs.Held.{contentsIn, gridIn}
+use Rattle.books.specs.ContentsIn.{contentsIn, gridIn}
 use Rattle.books.specs.Order.{numbersOf, orderOf}
 use Rattle.books.specs.Picture.{Picture}
 use Rattle.books.specs.Sheet.{sheetOf}
@@ -26,10 +26,10 @@ use Rattle.books.proofs.ReadingSheets.{sheet-lies}
 use Rattle.books.proofs.SpellingSheets.{sheet-accepted}
 use Rattle.pieces.specs.Area.{whole}
 use Rattle.pieces.specs.Derivation.{leaving, derivation}
-use Rattle.pieces.specs.Painted.{SmallRules}
+use Rattle.pieces.specs.inner.Painted.{SmallRules}
 use Rattle.pieces.specs.Pieces.{Room}
-use Rattle.pieces.specs.Settled.{Made}
-use Rattle.pieces.specs.Verdict.{Verdict, verdict, lacking}
+use Rattle.pieces.specs.inner.Settled.{TableMade}
+use Rattle.pieces.specs.inner.Verdict.{Verdict, verdict, lacking}
 use Rattle.pieces.specs.View.{seen}
 use Rattle.pieces.proofs.DerivationAnswers.{book-first, sheet-second, then-room}
 use Rattle.pieces.proofs.Judging.{judged-made, nothing-lacks, roomed-short, roomed-enough}
@@ -100,7 +100,7 @@ module _ (book sheet : List ℕ) (bytes-book : Bytes book) (bytes-sheet : Bytes 
     answer-lacks n = then-room book sheet entries numbers (accepted .0) (accepted .1) ∙ roomed-short contents grid entries numbers n
 
     answer-told : lacking (g .rows) (g .cols) (length entries) (length numbers) ≡ 0 → (after : List ℕ)
-        → Made (f .rules) (f .count) numbers-of-cells (g .rows) (g .cols) entries after → length entries ≡ length after
+        → TableMade (f .rules) (f .count) numbers-of-cells (g .rows) (g .cols) entries after → length entries ≡ length after
         → derivation book sheet entries numbers
         ≡ record { answer = plain (tells (orderOf book sheet) after numbers .number); entries = after; numbers = tells (orderOf book sheet) after numbers .numbers }
     unfolding orderOf
@@ -131,7 +131,7 @@ module _ (book sheet : List ℕ) {o : Order} (read : o ≡ orderOf book sheet) w
       unfolding orderOf
       lacks n = rw read (answer-lacks book sheet bytes-book bytes-sheet (rw read at fine) entries numbers (rw read at n))
 
-      pub told : lack ≡ 0 → (after : List ℕ) → Made (o .rules) (o .count) (o .cells) (o .rows) (o .cols) entries after → length entries ≡ length after
+      pub told : lack ≡ 0 → (after : List ℕ) → TableMade (o .rules) (o .count) (o .cells) (o .rows) (o .cols) entries after → length entries ≡ length after
           → derivation book sheet entries numbers
           ≡ record { answer = plain (tells o after numbers .number); entries = after; numbers = tells o after numbers .numbers }
       unfolding orderOf

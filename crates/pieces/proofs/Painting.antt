@@ -7,10 +7,10 @@ use borrow.Author.Count.{below-more}
 use lib.ListN.{length, getD, set}
 use lib.Seq.{getD-set-same, getD-set-other}
 use Rattle.books.specs.declared.rule.Rule.{Rule}
-use Rattle.pieces.specs.Masks.{masksOf, countOf}
-use Rattle.pieces.specs.Painted.{Begun, SplitInto}
+use Rattle.pieces.specs.inner.Masks.{masksOf, countOf}
+use Rattle.pieces.specs.inner.Painted.{Begun, SplitInto}
 use Rattle.pieces.specs.Pieces.{total}
-use Rattle.pieces.specs.Settled.{plan, Filled, Made}
+use Rattle.pieces.specs.inner.Settled.{plan, Filled, TableMade}
 use Rattle.pieces.specs.declared.masks.Joins.{Joins}
 
 pub begun-start : (rules cells t : List ℕ) → Begun rules cells 0 t t
@@ -29,7 +29,7 @@ begun-step rules cells before t i room old =
 -- The masks of the colours at the cells, and the recurrence behind them, make the table.
 pub made : (rs : List Rule) (few : ℕ) (rules cells : List ℕ) (j : Joins) (m n count : ℕ) (before begun after : List ℕ) → SplitInto rs few rules j
     → Begun rules cells count before begun → count ≡ m * n → Filled (plan m n rules j) begun after → m * n ≤ total m n
-    → ((i : ℕ) → i < m * n → getD cells i 0 < 65) → Made rs few cells m n before after
+    → ((i : ℕ) → i < m * n → getD cells i 0 < 65) → TableMade rs few cells m n before after
 made rs few rules cells j m n count before begun after split cellwise e filled fit low =
     record {
       masks = masksOf rules;

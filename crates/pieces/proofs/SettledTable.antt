@@ -18,9 +18,9 @@ use Rattle.books.proofs.SamePictures.{derives-same, same-sym}
 use Rattle.pieces.specs.Pieces.{piece, Inside, total, slotOf}
 use Rattle.pieces.specs.Parts.{extent, firstPart, restPart}
 use Rattle.pieces.specs.Table.{bit, cut, entry, table}
-use Rattle.pieces.specs.Joined.{joined}
-use Rattle.pieces.specs.Settled.{Plan, at, cutsOf, entryOf, Settled}
-use Rattle.pieces.specs.Masks.{joinsIn, Serves}
+use Rattle.pieces.specs.inner.Firing.{allFired}
+use Rattle.pieces.specs.inner.Settled.{Plan, at, cutsOf, entryOf, Settled}
+use Rattle.pieces.specs.inner.Masks.{joinsIn, Serves}
 use Rattle.pieces.specs.declared.piece.Piece.{Piece}
 use Rattle.pieces.proofs.Bits.{or-split, or-left, or-right, same-bit, same-bits}
 use Rattle.pieces.proofs.Gathered.{gathered-has, has-gathered, gathered-lt}
@@ -58,9 +58,9 @@ module _ (b : Contents) (sound : Sound b) (p : Picture) (j : Plan) (serves : Ser
   abbrev rest-entry : Dir → ℕ → ℕ
   rest-entry d k = at j t (restPart d k q)
 
-  at-cut : (d : Dir) (k : ℕ) → joined (j .masks d) (j .count d) (first-entry d k) (rest-entry d k)
-      ≡ joined (j .masks d) (length (joinsIn d (b .rules))) (first-entry d k) (rest-entry d k)
-  at-cut d k = ap (λ (n : ℕ). joined (j .masks d) n (first-entry d k) (rest-entry d k)) (serves .counted d)
+  at-cut : (d : Dir) (k : ℕ) → allFired (j .masks d) (j .count d) (first-entry d k) (rest-entry d k)
+      ≡ allFired (j .masks d) (length (joinsIn d (b .rules))) (first-entry d k) (rest-entry d k)
+  at-cut d k = ap (λ (n : ℕ). allFired (j .masks d) n (first-entry d k) (rest-entry d k)) (serves .counted d)
 
   first-right : (d : Dir) (k : ℕ) → 1 ≤ k → k < extent d q → first-entry d k ≡ entry b (cut p (firstPart d k q))
   first-right d k h l = right (firstPart d k q) (first-inside d k i h (omega arith)) (first-before d k i h l)
@@ -69,7 +69,7 @@ module _ (b : Contents) (sound : Sound b) (p : Picture) (j : Plan) (serves : Ser
   rest-right d k h l = right (restPart d k q) (rest-inside d k i l) (rest-before d k i h l)
 
   -- a join that fires derives, ...
-  found-at : (d : Dir) (a k : ℕ) → 1 ≤ k → k < extent d q → bit (joined (j .masks d) (j .count d) (first-entry d k) (rest-entry d k)) a ≡ 1
+  found-at : (d : Dir) (a k : ℕ) → 1 ≤ k → k < extent d q → bit (allFired (j .masks d) (j .count d) (first-entry d k) (rest-entry d k)) a ≡ 1
       → Derives b a (cut p q)
   found-at d a k h l o =
       let w = joined-has (joinsIn d (b .rules)) (j .masks d) (serves .laid d) (first-entry d k) (rest-entry d k) a (ap (λ (x : ℕ). bit x a) (sym (at-cut d k)) ∙ o) in
@@ -98,13 +98,13 @@ module _ (b : Contents) (sound : Sound b) (p : Picture) (j : Plan) (serves : Ser
   fired d a x y k m h l u v =
       let fit = motifs-fit d a x y m in
       let e : k - 1 + 1 ≡ k = omega arith in
-      let o : bit (joined (j .masks d) (j .count d) (first-entry d k) (rest-entry d k)) a ≡ 1 =
+      let o : bit (allFired (j .masks d) (j .count d) (first-entry d k) (rest-entry d k)) a ≡ 1 =
       ap (λ (z : ℕ). bit z a) (at-cut d k)
       ∙ has-joined (joinsIn d (b .rules)) (j .masks d) (serves .laid d) (first-entry d k) (rest-entry d k) _ (rule-join d (b .rules) a x y m)
       (ap (λ (z : ℕ). bit z x) (first-right d k h l) ∙ derives-entry b _ x (fit .0) (derives-same (same-sym (first-cut d p q k)) u))
       (ap (λ (z : ℕ). bit z y) (rest-right d k h l) ∙ derives-entry b _ y (fit .1) (derives-same (same-sym (rest-cut d p q k)) v)) in
       has-gathered (extent d q - 1) _ a (k - 1) (omega arith)
-      (subst (λ (n : ℕ). bit (joined (j .masks d) (j .count d) (first-entry d n) (rest-entry d n)) a ≡ 1) (sym e) o)
+      (subst (λ (n : ℕ). bit (allFired (j .masks d) (j .count d) (first-entry d n) (rest-entry d n)) a ≡ 1) (sym e) o)
 
   made : (a : ℕ) → Derives b a (cut p q) → bit (entryOf j t q) a ≡ 1
   made a (paint c h hr hc e) = absurd (omega arith)

@@ -10,8 +10,8 @@ use lib.Seq.{getD-set-same, getD-set-other}
 use Rattle.books.specs.Picture.{Dir, across, down}
 use Rattle.pieces.specs.Pieces.{piece, Inside, total, slotOf, NextTo}
 use Rattle.pieces.specs.Parts.{extent}
-use Rattle.pieces.specs.Joined.{joined}
-use Rattle.pieces.specs.Settled.{Plan, at, cutsOf, entryOf, Settled, Filled}
+use Rattle.pieces.specs.inner.Firing.{allFired}
+use Rattle.pieces.specs.inner.Settled.{Plan, at, cutsOf, entryOf, Settled, Filled}
 use Rattle.pieces.specs.declared.piece.Piece.{Piece}
 use Rattle.pieces.proofs.Gathered.{gathered-same}
 use Rattle.pieces.proofs.CellsFirst.{slot-last-cell, cells-few, large-after}
@@ -27,7 +27,7 @@ module _ (j : Plan) (s t : List ℕ) (p : Piece) (i : Inside (j .rows) (j .cols)
   unfolding cutsOf
   cuts-local d =
       gathered-same (extent d p - 1) _ _
-      (λ k h. ap₂ (λ (x y : ℕ). joined (j .masks d) (j .count d) x y)
+      (λ k h. ap₂ (λ (x y : ℕ). allFired (j .masks d) (j .count d) x y)
       (ag _ (first-before d (k + 1) i (omega arith) (omega arith)))
       (ag _ (rest-before d (k + 1) i (omega arith) (omega arith))))
 

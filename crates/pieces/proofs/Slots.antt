@@ -6,7 +6,7 @@ use Prim.Native.Nat.{ℕ, suc, _+_, _-_, _*_, _<_}
 use native.Mathlib.Nat.{mul-one, mul-comm}
 use native.Mathlib.Omega.{arith}
 use lib.ListN.{length, getD}
-use Rattle.pieces.specs.Pieces.{piece, Inside, each, pieces, total, stretches, place, slotOf}
+use Rattle.pieces.specs.Pieces.{piece, Inside, each, pieces, total, stretches, slotAt, slotOf}
 use Rattle.pieces.specs.declared.piece.Piece.{Piece}
 use Rattle.pieces.proofs.Sums.{sum, sum-same, sum-below, sum-const, sum-scale, sum-find, length-each, getD-each, member-each}
 use Rattle.pieces.proofs.Stretches.{stretches-sum, total-stretches}
@@ -59,37 +59,37 @@ inRow n v t l = sum t (λ i. n - v) + l
 abbrev inSize : ℕ → ℕ → ℕ → ℕ → ℕ → ℕ → ℕ
 inSize m n u v t l = sum v (λ i. inTops m n u i) + inRow n v t l
 
-place-sums : (m n u v t l : ℕ) → place m n u v t l ≡ sum u (λ i. inWidths m n i) + inSize m n u v t l
-unfolding place
-place-sums m n u v t l = omega (arith, sum-widths m n u, sum-tops m n u v, sum-const (n - v) t)
+slot-sums : (m n u v t l : ℕ) → slotAt m n u v t l ≡ sum u (λ i. inWidths m n i) + inSize m n u v t l
+unfolding slotAt
+slot-sums m n u v t l = omega (arith, sum-widths m n u, sum-tops m n u v, sum-const (n - v) t)
 
 module _ (m n u v t l : ℕ) (ht : t < m - u) (hl : l < n - v) where
   row-below : inRow n v t l < inTops m n u v
   row-below = rw (← sum-const (n - v) (m - u)) (sum-below (λ i. n - v) t (m - u) l ht hl)
 
   -- Of pieces of one height those of a smaller width come first, and those of a smaller height come before all others.
-  pub narrower : (v′ t′ l′ : ℕ) → v < v′ → place m n u v t l < place m n u v′ t′ l′
+  pub narrower : (v′ t′ l′ : ℕ) → v < v′ → slotAt m n u v t l < slotAt m n u v′ t′ l′
   narrower v′ t′ l′ h =
-      omega (arith, place-sums m n u v t l, place-sums m n u v′ t′ l′, sum-below (λ i. inTops m n u i) v v′ (inRow n v t l) h row-below)
+      omega (arith, slot-sums m n u v t l, slot-sums m n u v′ t′ l′, sum-below (λ i. inTops m n u i) v v′ (inRow n v t l) h row-below)
 
   module _ (hv : v < n) where
     size-below : inSize m n u v t l < inWidths m n u
     size-below = rw (← sum-tops m n u n) (sum-below (λ i. inTops m n u i) v n (inRow n v t l) hv row-below)
 
-    pub flatter : (u′ v′ t′ l′ : ℕ) → u < u′ → place m n u v t l < place m n u′ v′ t′ l′
+    pub flatter : (u′ v′ t′ l′ : ℕ) → u < u′ → slotAt m n u v t l < slotAt m n u′ v′ t′ l′
     flatter u′ v′ t′ l′ h =
-        omega (arith, place-sums m n u v t l, place-sums m n u′ v′ t′ l′, sum-below (λ i. inWidths m n i) u u′ (inSize m n u v t l) h size-below)
+        omega (arith, slot-sums m n u v t l, slot-sums m n u′ v′ t′ l′, sum-below (λ i. inWidths m n i) u u′ (inSize m n u v t l) h size-below)
 
     module _ (hu : u < m) where
-      place-lt : place m n u v t l < total m n
-      place-lt =
-          rw (total-stretches m n, ← sum-widths m n m, place-sums m n u v t l)
+      listed-lt : slotAt m n u v t l < total m n
+      listed-lt =
+          rw (total-stretches m n, ← sum-widths m n m, slot-sums m n u v t l)
           (sum-below (λ i. inWidths m n i) u m (inSize m n u v t l) hu size-below)
 
-      getD-place : (d : Piece) → getD (pieces m n) (place m n u v t l) d ≡ piece (suc u) (suc v) t l
+      getD-place : (d : Piece) → getD (pieces m n) (slotAt m n u v t l) d ≡ piece (suc u) (suc v) t l
       unfolding pieces
       getD-place d =
-          ap (λ (k : ℕ). getD (each m (λ u. widths m n u)) k d) (place-sums m n u v t l)
+          ap (λ (k : ℕ). getD (each m (λ u. widths m n u)) k d) (slot-sums m n u v t l)
           ∙ getD-each (λ u. widths m n u) (λ u. inWidths m n u) (λ u. length-widths m n u) m u _ d hu size-below
           ∙ getD-each (λ v. tops m n u v) (λ v. inTops m n u v) (λ v. length-tops m n u v) n v _ d hv row-below
           ∙ getD-each (λ t. lefts n u v t) (λ t. n - v) (λ t. length-lefts n u v t) (m - u) t l d ht hl
@@ -101,7 +101,7 @@ module _ (m n u v t l : ℕ) (ht : t < m - u) (hl : l < n - v) where
 module _ (m n : ℕ) (p : Piece) (i : Inside m n p) where
   pub slot-lt : slotOf m n p < total m n
   unfolding slotOf
-  slot-lt = place-lt m n (p .height - 1) (p .width - 1) (p .top) (p .left) (omega arith) (omega arith) (omega arith) (omega arith)
+  slot-lt = listed-lt m n (p .height - 1) (p .width - 1) (p .top) (p .left) (omega arith) (omega arith) (omega arith) (omega arith)
 
   pub getD-slot : (d : Piece) → getD (pieces m n) (slotOf m n p) d ≡ p
   unfolding slotOf
@@ -128,7 +128,7 @@ slot-onto m n i h = tall (sum-find (λ u. inWidths m n u) m i (omega (arith, tot
         let ev : suc v - 1 ≡ v = omega arith in (
           piece (suc u) (suc v) t l,
           record { tall = omega arith; wide = omega arith; low = omega arith; right = omega arith },
-          rw (eu, ev) (omega (arith, place-sums m n u v t l)),
+          rw (eu, ev) (omega (arith, slot-sums m n u v t l)),
         )
 
     deep : (u v j k : ℕ) → u < m → v < n → i ≡ sum u (λ u. inWidths m n u) + j → j ≡ sum v (λ v. inTops m n u v) + k

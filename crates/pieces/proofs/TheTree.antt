@@ -19,7 +19,6 @@ use Rattle.pieces.specs.Table.{cut}
 use Rattle.pieces.specs.View.{View, Exact, named}
 use Rattle.pieces.specs.Given.{Given}
 use Rattle.pieces.specs.Tree.{treeOf, tree}
-use Rattle.pieces.specs.Wrote.{found}
 use Rattle.pieces.proofs.Cutting.{whole-inside, cut-whole}
 use Rattle.pieces.proofs.TreeSteps.{Each, Small, tree-length, tree-small}
 use Rattle.pieces.proofs.Giving.{given-unique, given-derives}
@@ -50,10 +49,6 @@ exact-tree b p v exact x =
     let (xs, e, g) = whole-given b p v exact (b .start) x in
     let (ys, f, h) = tree-given b p x in
     e ∙ ap some (given-unique g h) ∙ sym f
-
--- At no node of a derived picture a rule is missing.
-pub tree-found : (b : Contents) (p : Picture) → Derives b (b .start) p → found (tree b p) ≡ true
-tree-found b p x = let (xs, e, g) = tree-given b p x in ap found e
 
 -- What is true of every tree is true of the derivation given.
 every-given : (b : Contents) (a : ℕ) (p : Picture) (xs : List ℕ) (P : List ℕ → Type 0)

@@ -7,12 +7,12 @@ use lib.ListN.{length, getD, take, drop, length-drop, take-append-drop}
 use lib.Seq.{ext-getD, getD-take, getD-drop}
 use Rattle.names.specs.Name.{Name}
 use Rattle.names.specs.Colours.{nameIn, namesIn, findName}
-use Rattle.names.proofs.Finding.{find-place}
-use Rattle.names.proofs.Places.{place-le}
+use Rattle.names.proofs.Finding.{find-listed}
+use Rattle.names.proofs.Listing.{listed-le}
 use Rattle.names.proofs.ReadingColours.{names-count, name-at}
 use Rattle.books.specs.Contents.{Contents}
 use Rattle.books.specs.Grid.{GridKeeps, picture}
-use Rattle.books.specs.Held.{contentsIn, gridIn}
+use Rattle.books.specs.ContentsIn.{contentsIn, gridIn}
 use Rattle.books.specs.Keeps.{Keeps, BodyFits}
 use Rattle.books.specs.Order.{numberOf}
 use Rattle.books.specs.Picture.{Picture}
@@ -20,11 +20,11 @@ use Rattle.books.specs.declared.family.Family.{Family}
 use Rattle.books.specs.declared.sheet.Sheet.{Sheet}
 use Rattle.books.specs.declared.rule.Body.{Body}
 use Rattle.books.specs.declared.rule.Body.the-variants.{Colour, Across, Down}
-use Rattle.pieces.specs.Masks.{BodySmall}
+use Rattle.pieces.specs.inner.Masks.{BodySmall}
 use Rattle.books.specs.Rules.{noRule}
-use Rattle.pieces.specs.Painted.{SmallRules, paintersOf}
+use Rattle.pieces.specs.inner.Painted.{SmallRules, paintersOf}
 use Rattle.pieces.specs.Pieces.{piece, Room, total}
-use Rattle.pieces.specs.Settled.{Made}
+use Rattle.pieces.specs.inner.Settled.{TableMade}
 use Rattle.pieces.specs.Table.{cut, entry, table}
 use Rattle.pieces.proofs.CellEntries.{rule-in, painters-entry}
 use Rattle.pieces.proofs.CellsFirst.{cell-before}
@@ -98,7 +98,7 @@ module _ {book : List ℕ} {f : Family} {bytes : List ℕ} {g : Sheet} (read : A
     pub numbers-low : (i : ℕ) → i < g .rows * g .cols → getD cells i 0 < 65
     numbers-low i h =
         let n = nameIn bytes (g .colours) (getD (g .cells) i 0) in
-        omega (arith, numbered i h, find-place book (f .colours) n book-colours, place-le (namesIn book (f .colours)) n, names-count book (f .colours), book-colours)
+        omega (arith, numbered i h, find-listed book (f .colours) n book-colours, listed-le (namesIn book (f .colours)) n, names-count book (f .colours), book-colours)
 
     -- The motifs that paint a cell's number are those that derive the cell.
     painted-entry : (r c : ℕ) → r < g .rows → c < g .cols → paintersOf (f .rules) (f .count) (getD cells (r * g .cols + c) 0) ≡ entry b (cut p (piece 1 1 r c))
@@ -112,7 +112,7 @@ module _ {book : List ℕ} {f : Family} {bytes : List ℕ} {g : Sheet} (read : A
 
     -- ---- the whole
 
-    pub whole-table : (before after : List ℕ) → Made (f .rules) (f .count) cells (g .rows) (g .cols) before after → length before ≡ length after
+    pub whole-table : (before after : List ℕ) → TableMade (f .rules) (f .count) cells (g .rows) (g .cols) before after → length before ≡ length after
         → total (g .rows) (g .cols) ≤ length before → after ≡ table b p ++ drop (total (g .rows) (g .cols)) before
     whole-table before after made same enough =
         let n = total (g .rows) (g .cols) in

@@ -11,8 +11,8 @@ use lib.Seq.{take-at, drop-append-add, drop-drop, length-take-le, sets-eq}
 use Rattle.pieces.specs.declared.tree.Written.{Written}
 use Rattle.pieces.specs.declared.tree.Written.the-variants.{Upto, NoRule}
 use Rattle.pieces.specs.Tree.{both}
-use Rattle.pieces.specs.Wrote.{Wrote, outcome}
-use Rattle.pieces.specs.Derivation.{treeAnswer}
+use Rattle.pieces.specs.inner.TreeWrote.{TreeWrote}
+use Rattle.pieces.specs.Derivation.{treeAnswer, outcome}
 use Rattle.pieces.proofs.TreeSteps.{Each}
 
 -- xs written at a place
@@ -44,8 +44,8 @@ agree-later s t i k e = sym (drop-drop k i t) ∙ ap (drop k) e ∙ drop-drop k 
 
 -- One list of numbers is written, and then the rest behind it.
 pub wrote-on : (s t u : List ℕ) (at room more : ℕ) (xs : List ℕ) (y : Option (List ℕ)) (r : Written) → length xs ≡ room → at + room ≤ length s
-    → t ≡ take at s ++ (xs ++ drop (at + length xs) s) → Wrote t u (at + length xs) more y r → Wrote s u at (room + more) (both (some xs) y) r
-unfolding Wrote both
+    → t ≡ take at s ++ (xs ++ drop (at + length xs) s) → TreeWrote t u (at + length xs) more y r → TreeWrote s u at (room + more) (both (some xs) y) r
+unfolding TreeWrote both
 wrote-on s t u at room more xs none r size h e (a, w) = (
   a,
   rw (← add-assoc, ← size) (w ∙ rw e (drop-written s at xs (omega arith) more)),
@@ -58,7 +58,7 @@ wrote-on s t u at room more xs (some ys) r size h e (a, w) =
 
 -- A node is written, and then its parts behind it.
 pub wrote-node : (s t u : List ℕ) (at more i k : ℕ) (y : Option (List ℕ)) (r : Written) → at + 2 ≤ length s
-    → t ≡ take at s ++ ((i ∷ k ∷ []) ++ drop (at + 2) s) → Wrote t u (at + 2) more y r → Wrote s u at (2 + more) (both (some (i ∷ k ∷ [])) y) r
+    → t ≡ take at s ++ ((i ∷ k ∷ []) ++ drop (at + 2) s) → TreeWrote t u (at + 2) more y r → TreeWrote s u at (2 + more) (both (some (i ∷ k ∷ [])) y) r
 wrote-node s t u at more i k y r h e w = wrote-on s t u at 2 more (i ∷ k ∷ []) y r refl h e w
 
 no-upto : {n : ℕ} → NoRule ≡ Upto n → ⊥
@@ -68,32 +68,32 @@ upto-inj : {m n : ℕ} → Upto m ≡ Upto n → m ≡ n
 upto-inj e = cc
 
 -- The first part stopped: so does the join.
-pub wrote-stop : (s t : List ℕ) (at room more : ℕ) (x y : Option (List ℕ)) → Wrote s t at room x NoRule → Wrote s t at (room + more) (both x y) NoRule
-unfolding Wrote both
+pub wrote-stop : (s t : List ℕ) (at room more : ℕ) (x y : Option (List ℕ)) → TreeWrote s t at room x NoRule → TreeWrote s t at (room + more) (both x y) NoRule
+unfolding TreeWrote both
 wrote-stop s t at room more none y (e, w) = (refl, rw (← add-assoc) (agree-later s t (at + room) more w))
 wrote-stop s t at room more (some xs) y (e, w) = absurd (no-upto e)
 
 -- The first part was written: the second stands behind it.
 module _ (s t : List ℕ) (at room next : ℕ) where
-  pub wrote-next : (x : Option (List ℕ)) → Each (λ xs. length xs ≡ room) x → Wrote s t at room x (Upto next) → next ≡ at + room
-  unfolding Wrote both
+  pub wrote-next : (x : Option (List ℕ)) → Each (λ xs. length xs ≡ room) x → TreeWrote s t at room x (Upto next) → next ≡ at + room
+  unfolding TreeWrote both
   wrote-next none u (e, w) = absurd (no-upto (sym e))
   wrote-next (some xs) u (e, w) = upto-inj e ∙ ap (λ (n : ℕ). at + n) u
 
   pub wrote-both : (u : List ℕ) (more : ℕ) (x y : Option (List ℕ)) (r : Written) → Each (λ xs. length xs ≡ room) x → at + room ≤ length s
-      → Wrote s t at room x (Upto next) → Wrote t u next more y r → Wrote s u at (room + more) (both x y) r
-  unfolding Wrote both
+      → TreeWrote s t at room x (Upto next) → TreeWrote t u next more y r → TreeWrote s u at (room + more) (both x y) r
+  unfolding TreeWrote both
   wrote-both u more none y r size h (e, w) z = absurd (no-upto (sym e))
   wrote-both u more (some xs) y r size h (e, w) z = wrote-on s t u at room more xs y r size h w (rw (upto-inj e) at z)
 
 -- What stands in a slice that was lent for a tree: the tree; or zeros, where it was cleared.
-pub wrote-found : (s t : List ℕ) (room next : ℕ) (o : Option (List ℕ)) → Wrote s t 0 room o (Upto next) → (0 ≡ treeAnswer o .number) × (t ≡ outcome room s o)
-unfolding Wrote outcome
+pub wrote-found : (s t : List ℕ) (room next : ℕ) (o : Option (List ℕ)) → TreeWrote s t 0 room o (Upto next) → (0 ≡ treeAnswer o .number) × (t ≡ outcome room s o)
+unfolding TreeWrote outcome
 wrote-found s t room next none (e, w) = absurd (no-upto (sym e))
 wrote-found s t room next (some xs) (e, w) = (refl, rw (zero-add (length xs)) at w)
 
-pub wrote-lost : (s t u : List ℕ) (room : ℕ) (o : Option (List ℕ)) → Wrote s t 0 room o NoRule → u ≡ replicate room 0 ++ drop room t
+pub wrote-lost : (s t u : List ℕ) (room : ℕ) (o : Option (List ℕ)) → TreeWrote s t 0 room o NoRule → u ≡ replicate room 0 ++ drop room t
     → (14 ≡ treeAnswer o .number) × (u ≡ outcome room s o)
-unfolding Wrote outcome
+unfolding TreeWrote outcome
 wrote-lost s t u room none (e, w) z = (refl, z ∙ ap (λ (l : List ℕ). replicate room 0 ++ l) (rw (zero-add room) at w))
 wrote-lost s t u room (some xs) (e, w) z = absurd (no-upto e)

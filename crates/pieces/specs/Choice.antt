@@ -53,21 +53,21 @@ unfoldable pub lowest : View → List Rule → ℕ → Piece → ℕ
 lowest v rules a q = least (taken v rules a q) 0 (length rules)
 
 -- rule number i with the cut that its body wants
-abbrev pub joined : (ℕ → Piece → Bool) → Piece → ℕ → Direction → ℕ → ℕ → Choice
-joined has q i d l r = Join i d (cutOf has d l r q) l r
+abbrev pub joinWith : (ℕ → Piece → Bool) → Piece → ℕ → Direction → ℕ → ℕ → Choice
+joinWith has q i d l r = Join i d (cutOf has d l r q) l r
 
 unfoldable pub chosen : (ℕ → Piece → Bool) → Piece → ℕ → Body → Choice
 chosen has q i (Colour c) = Leaf i
-chosen has q i (AcrossBody l r) = joined has q i Across l r
-chosen has q i (DownBody u w) = joined has q i Down u w
+chosen has q i (AcrossBody l r) = joinWith has q i Across l r
+chosen has q i (DownBody u w) = joinWith has q i Down u w
 
 unfoldable pub choose : View → List Rule → ℕ → Piece → Choice
 choose v rules a q =
     pick (ltb (lowest v rules a q) (length rules)) (chosen (v .has) q (lowest v rules a q) (getD rules (lowest v rules a q) noRule .body)) NoRule
 
 -- rule number i as a join with its smallest cut, or nothing where no cut works
-unfoldable pub joinedAt : (ℕ → Piece → Bool) → Piece → ℕ → Direction → ℕ → ℕ → Choice
-joinedAt has q i d l r = pick (ltb (cutOf has d l r q) (reach d q)) (joined has q i d l r) NoRule
+unfoldable pub joinOffered : (ℕ → Piece → Bool) → Piece → ℕ → Direction → ℕ → ℕ → Choice
+joinOffered has q i d l r = pick (ltb (cutOf has d l r q) (reach d q)) (joinWith has q i d l r) NoRule
 
 -- what rule number i offers by its body when the rules are tried one by one: itself where the body fits, else nothing
 unfoldable pub offered : View → Piece → ℕ → Body → Choice

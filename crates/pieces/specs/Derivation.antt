@@ -4,12 +4,12 @@ use mathlib.Core.Path.{_≡_}
 use mathlib.Core.List.{List, _++_}
 use mathlib.Core.Option.{Option, some, none}
 use lib.Dec.{eqb, ltb}
-use lib.ListN.{length, take, drop}
+use lib.ListN.{length, take, drop, replicate}
 use Rattle.names.specs.Pick.{pick}
 use Rattle.books.specs.Contents.{Contents}
 use Rattle.books.specs.Picture.{Picture}
 use Rattle.books.specs.Grid.{picture}
-use Rattle.books.specs.Held.{contentsIn, gridIn}
+use Rattle.books.specs.ContentsIn.{contentsIn, gridIn}
 use Rattle.books.specs.Decide.{derives?}
 use Rattle.books.specs.Book.{bookOf}
 use Rattle.books.specs.Sheet.{sheetOf}
@@ -19,7 +19,6 @@ use Rattle.pieces.specs.Pieces.{total}
 use Rattle.pieces.specs.Area.{whole, treeSize}
 use Rattle.pieces.specs.Table.{table}
 use Rattle.pieces.specs.Tree.{tree}
-use Rattle.pieces.specs.Wrote.{outcome}
 
 pub record Derivation : Type 0 where
   pub answer : Answer
@@ -49,6 +48,11 @@ pub record Holds (b : Contents) (p : Picture) (entries : List ℕ) : Type 0 wher
 abbrev pub treeAnswer : Option (List ℕ) → Answer
 treeAnswer (some xs) = plain 0
 treeAnswer none = plain 14
+
+-- what stands in the end in a slice that was lent for so many numbers: the tree, or as many zeros; the slice beyond is as it was
+unfoldable pub outcome : ℕ → List ℕ → Option (List ℕ) → List ℕ
+outcome room s (some xs) = xs ++ drop (length xs) s
+outcome room s none = replicate room 0 ++ drop room s
 
 -- with the table written: 11 where the start motif does not derive the picture, and else the derivation given
 unfoldable pub judged : Contents → Picture → List ℕ → List ℕ → Derivation

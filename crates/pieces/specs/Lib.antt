@@ -1,10 +1,5 @@
 pub mod Pieces
 pub mod Parts
-pub mod Course
-pub mod Joined
-pub mod Masks
-pub mod Painted
-pub mod Settled
 pub mod Table
 pub mod Direction
 pub mod Area
@@ -12,6 +7,5 @@ pub mod View
 pub mod Given
 pub mod Choice
 pub mod Tree
-pub mod Wrote
 pub mod Derivation
-pub mod Verdict
+pub mod inner

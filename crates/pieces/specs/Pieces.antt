@@ -43,11 +43,11 @@ stretches n (suc k) = stretches n k + (n - k)
 
 -- the pieces before one of u + 1 rows and v + 1 columns at row t and column l: those of fewer rows, those of as many rows
 -- and fewer columns, those of its size in the rows above, and those to its left
-unfoldable pub place : ℕ → ℕ → ℕ → ℕ → ℕ → ℕ → ℕ
-place m n u v t l = stretches m u * stretches n n + ((m - u) * stretches n v + (t * (n - v) + l))
+unfoldable pub slotAt : ℕ → ℕ → ℕ → ℕ → ℕ → ℕ → ℕ
+slotAt m n u v t l = stretches m u * stretches n n + ((m - u) * stretches n v + (t * (n - v) + l))
 
 unfoldable pub slotOf : ℕ → ℕ → Piece → ℕ
-slotOf m n p = place m n (p .height - 1) (p .width - 1) (p .top) (p .left)
+slotOf m n p = slotAt m n (p .height - 1) (p .width - 1) (p .top) (p .left)
 
 -- q comes right after p: its slot is the next, and it is a piece of the sheet unless p is the last
 pub record NextTo (m n : ℕ) (p q : Piece) : Type 0 where

@@ -2,7 +2,7 @@
 ghost use mathlib.Core.Path.{_≡_};
 ghost use Prim.Native.Nat.{ℕ, _≤_, _<_};
 ghost use lib.ListN.{length, getD};
-ghost use Rattle.pieces.specs.Painted.{Begun};
+ghost use Rattle.pieces.specs.inner.Painted.{Begun};
 
 // The entries of the first so many cells, by the masks of their colours.
 pub(crate) fn paint_cells(rules: &[u32], colours: &[u8], count: usize, work: &mut [u32])

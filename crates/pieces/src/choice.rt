@@ -12,7 +12,7 @@ ghost use lib.ListN.{length, take};
 ghost use Rattle.pieces.specs.Pieces.{Inside, Room};
 ghost use Rattle.pieces.specs.Direction.{reach};
 ghost use Rattle.pieces.specs.View.{Tabled, Ready, hasBit, hasColour, seen};
-ghost use Rattle.pieces.specs.Choice.{covers, joinedAt, offered, choose};
+ghost use Rattle.pieces.specs.Choice.{covers, joinOffered, offered, choose};
 
 // Nothing, since no rule fits; a colour rule, by its number; or a join, by its number, direction, cut and the motifs of its two parts.
 pub(crate) enum Choice {
@@ -48,7 +48,7 @@ fn join_at(
     r: u8,
 ) -> Choice
     requires { ⌜ Tabled rows cols (now work) × Inside rows cols p × (end ≡ reach d p) ⌝ }
-    ensures { λ x. ⌜ x ≡ joinedAt (hasBit rows cols (now (work .entry))) p i d l r ⌝ }
+    ensures { λ x. ⌜ x ≡ joinOffered (hasBit rows cols (now (work .entry))) p i d l r ⌝ }
 {
     let mut k = 1;
     while k < end {

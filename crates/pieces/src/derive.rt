@@ -9,7 +9,7 @@ ghost use mathlib.Core.Path.{_≡_};
 ghost use Rattle.books.specs.Answer.{packed};
 ghost use Rattle.pieces.specs.Pieces.{Room};
 ghost use Rattle.pieces.specs.Derivation.{derivation};
-ghost use Rattle.pieces.specs.Verdict.{lacking};
+ghost use Rattle.pieces.specs.inner.Verdict.{lacking};
 
 // What two slices lack for a sheet of so many rows and columns: 9 where the work slice is too short, 10 where the tree slice is, and else 0.
 fn lack(rows: usize, cols: usize, entries: usize, numbers: usize) -> u8

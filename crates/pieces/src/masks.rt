@@ -4,8 +4,8 @@ use books::rule::Rule;
 ghost use mathlib.Core.Path.{_≡_};
 ghost use Prim.Native.Nat.{_+_, _^_, _<_};
 ghost use lib.ListN.{length, replicate};
-ghost use Rattle.pieces.specs.Masks.{join, putJoin, putRule, countRule, Small};
-ghost use Rattle.pieces.specs.Painted.{SmallRules, SplitInto};
+ghost use Rattle.pieces.specs.inner.Masks.{join, putJoin, putRule, countRule, Small};
+ghost use Rattle.pieces.specs.inner.Painted.{SmallRules, SplitInto};
 
 // How many joins a family has in each direction.
 pub(crate) struct Joins {

@@ -11,10 +11,10 @@ ghost use mathlib.Core.Path.{_≡_};
 ghost use Prim.Native.Nat.{ℕ, _≤_, _<_, _*_};
 ghost use lib.ListN.{length, getD};
 ghost use Rattle.pieces.specs.Pieces.{Inside, Room, slotOf, total};
-ghost use Rattle.pieces.specs.Course.{Runs};
-ghost use Rattle.pieces.specs.Joined.{firing, joined, along};
-ghost use Rattle.pieces.specs.Painted.{SmallRules};
-ghost use Rattle.pieces.specs.Settled.{plan, entryOf, Filled, Made};
+ghost use Rattle.pieces.specs.inner.Course.{Runs};
+ghost use Rattle.pieces.specs.inner.Firing.{firing, allFired, along};
+ghost use Rattle.pieces.specs.inner.Painted.{SmallRules};
+ghost use Rattle.pieces.specs.inner.Settled.{plan, entryOf, Filled, TableMade};
 
 // One join at one cut.
 fn fired(l: u32, r: u32, first: u32, second: u32, head: u32) -> u32
@@ -32,7 +32,7 @@ fn fired(l: u32, r: u32, first: u32, second: u32, head: u32) -> u32
 // Every join of one direction at one cut: no branch on the kind of a rule, so that the loop can run on several joins at a time.
 fn join(masks: &[u32], count: usize, l: u32, r: u32) -> u32
     requires { ⌜ (length (now masks) ≡ 600) × (count ≤ 200) ⌝ }
-    ensures { λ x. ⌜ x ≡ joined (now (masks .entry)) count l r ⌝ }
+    ensures { λ x. ⌜ x ≡ allFired (now (masks .entry)) count l r ⌝ }
 {
     let mut found = 0u32;
     let mut i = 0;
@@ -128,7 +128,7 @@ pub(crate) fn fill_table(
 )
     requires { ⌜ SmallRules family count × Room m n × (total m n ≤ length (now work)) ⌝ }
     requires { ⌜ (m * n ≤ length (now colours)) × ((i : ℕ) → i < m * n → getD (now colours) i 0 < 65) ⌝ }
-    ensures { λ _. ⌜ Made family count (now (colours .entry)) m n (now (work .entry)) (now (work .exit)) ⌝ }
+    ensures { λ _. ⌜ TableMade family count (now (colours .entry)) m n (now (work .entry)) (now (work .exit)) ⌝ }
 {
     let mut rules = [0u32; 1265];
     let joins = masks::split(family, count, &mut rules);

@@ -16,8 +16,8 @@ ghost use Rattle.pieces.specs.Pieces.{Inside};
 ghost use Rattle.pieces.specs.Area.{whole, treeSize};
 ghost use Rattle.pieces.specs.View.{Ready, seen};
 ghost use Rattle.pieces.specs.Tree.{both, treeOf};
-ghost use Rattle.pieces.specs.Wrote.{Wrote};
-ghost use Rattle.pieces.specs.Verdict.{verdict};
+ghost use Rattle.pieces.specs.inner.TreeWrote.{TreeWrote};
+ghost use Rattle.pieces.specs.inner.Verdict.{verdict};
 
 // Where the numbers of a tree end, or that at some node of it no rule fits.
 pub(crate) enum Written {
@@ -49,7 +49,7 @@ fn pick_node(
     at: usize,
 ) -> Written
     requires { ⌜ Ready rows cols (now work) (now colours) × Inside rows cols p × (count ≤ 200) × (at + treeSize p ≤ length (now tree)) ⌝ }
-    ensures { λ r. ⌜ Wrote (now (tree .entry)) (now (tree .exit)) at (treeSize p) (treeOf (seen rows cols (now (work .entry)) (now (colours .entry))) (take count rules) motif p) r ⌝ }
+    ensures { λ r. ⌜ TreeWrote (now (tree .entry)) (now (tree .exit)) at (treeSize p) (treeOf (seen rows cols (now (work .entry)) (now (colours .entry))) (take count rules) motif p) r ⌝ }
 {
     let choice = choose(rules, count, work, colours, rows, cols, p, motif);
     match choice {
@@ -92,7 +92,7 @@ fn write_parts(
     at: usize,
 ) -> Written
     requires { ⌜ Ready rows cols (now work) (now colours) × Inside rows cols (parts .first) × Inside rows cols (parts .rest) × (count ≤ 200) × (at + (treeSize (parts .first) + treeSize (parts .rest)) ≤ length (now tree)) ⌝ }
-    ensures { λ x. ⌜ Wrote (now (tree .entry)) (now (tree .exit)) at (treeSize (parts .first) + treeSize (parts .rest)) (both (treeOf (seen rows cols (now (work .entry)) (now (colours .entry))) (take count rules) l (parts .first)) (treeOf (seen rows cols (now (work .entry)) (now (colours .entry))) (take count rules) r (parts .rest))) x ⌝ }
+    ensures { λ x. ⌜ TreeWrote (now (tree .entry)) (now (tree .exit)) at (treeSize (parts .first) + treeSize (parts .rest)) (both (treeOf (seen rows cols (now (work .entry)) (now (colours .entry))) (take count rules) l (parts .first)) (treeOf (seen rows cols (now (work .entry)) (now (colours .entry))) (take count rules) r (parts .rest))) x ⌝ }
 {
     let done = pick_node(
         rules,

@@ -19,24 +19,15 @@ few s = go (ℕ-discrete (sheetOf s .fault .number) 0)
     go (yes z) = sheet-lies s z .area-few
     go (no n) = rw (sheet-refused s n .none) (omega arith)
 
-read-sheet-requires : tie.Need-read-sheet-requires
-read-sheet-requires c κs = search needs
-
 mul-cells : tie.Need-mul-cells
 mul-cells c = let area = rw (← c .before .before .read-sheet .ensures) at (few (now (c .before .before .before .before .args .sheet))) in omega arith
 
-returns : tie.Need-returns
-returns c = search needs
-
 mul-result : tie.Need-mul-result
 mul-result c = let area = rw (← c .before .before .before .read-sheet .ensures) at (few (now (c .before .before .before .before .before .args .sheet))) in omega arith
-
-sub-result : tie.Need-sub-result
-sub-result c = search needs
 
 returns-2 : tie.Need-returns-2
 returns-2 c = let area = rw (← c .before .before .before .read-sheet .ensures) at (few (now (c .before .before .before .before .before .args .sheet))) in omega arith
 
 pub nodes-spec : {M : Type 1} → statement M
 nodes-spec =
-    tie.close (tie.spec read-sheet-requires mul-cells returns mul-result sub-result returns-2)
+    tie.close (tie.spec (λ c κs. search needs) mul-cells (λ c. search needs) mul-result (λ c. search needs) returns-2)

@@ -4,9 +4,6 @@ use borrow.Author.Needs.{needs}
 use Rattle.books.proofs.answer.blame.Statement.{statement}
 use Rattle.books.proofs.answer.blame.Tie as tie
 
-unblamed-requires : tie.Need-unblamed-requires
-unblamed-requires c κs = search needs
-
 returns : tie.Need-returns
 returns c = simp (eq-eqb _ _ (c .before .if1 .taken)) (c .unblamed .ensures)
 
@@ -14,4 +11,4 @@ returns-2 : tie.Need-returns-2
 returns-2 c = simp (ne-eqb _ _ (c .if1 .left))
 
 pub blame-spec : {M : Type 1} → statement M
-blame-spec = tie.close (tie.spec unblamed-requires returns returns-2)
+blame-spec = tie.close (tie.spec (λ c κs. search needs) returns returns-2)

@@ -9,24 +9,6 @@ use borrow.Author.Needs.{needs}
 use Rattle.books.proofs.bodies.read_join.Statement.{statement}
 use Rattle.books.proofs.bodies.read_join.Tie as tie
 
-read-below-requires : tie.Need-read-below-requires
-read-below-requires c κs = search needs
-
-enum-known-r : tie.Need-enum-known-r
-enum-known-r c = search needs
-
-enum-known-r-2 : tie.Need-enum-known-r-2
-enum-known-r-2 c = search needs
-
-read-below-requires-2 : tie.Need-read-below-requires-2
-read-below-requires-2 c κs = search needs
-
-enum-known-q : tie.Need-enum-known-q
-enum-known-q c = search needs
-
-enum-known-q-2 : tie.Need-enum-known-q-2
-enum-known-q-2 c = search needs
-
 cast-t17 : tie.Need-cast-t17
 cast-t17 c =
     let first = c .before .before .before .before .before .before in
@@ -80,12 +62,12 @@ pub read-join-spec : {M : Type 1} → statement M
 read-join-spec =
     tie.close
     (tie.spec
-    read-below-requires
-    enum-known-r
-    enum-known-r-2
-    read-below-requires-2
-    enum-known-q
-    enum-known-q-2
+    (λ c κs. search needs)
+    (λ c. search needs)
+    (λ c. search needs)
+    (λ c κs. search needs)
+    (λ c. search needs)
+    (λ c. search needs)
     cast-t17
     cast-t18
     cast-t20

@@ -6,12 +6,6 @@ use borrow.Author.Needs.{needs}
 use Rattle.books.proofs.book.read_book.Statement.{statement}
 use Rattle.books.proofs.book.read_book.Tie as tie
 
-read-colours-requires : tie.Need-read-colours-requires
-read-colours-requires c κs = search needs
-
-refused-book-requires : tie.Need-refused-book-requires
-refused-book-requires c κs = search needs
-
 returns : tie.Need-returns
 unfolding bookOf colouredAt
 returns c = simp (← c .before .before .before .before .read-colours .ensures, ne-eqb _ _ (c .before .if1 .taken)) (c .refused-book .ensures)
@@ -26,4 +20,4 @@ returns-2 c = simp (← c .before .before .before .before .before .read-colours 
 pub read-book-spec : {M : Type 1} → statement M
 read-book-spec =
     tie.close
-    (tie.spec read-colours-requires refused-book-requires returns with-colours-requires returns-2)
+    (tie.spec (λ c κs. search needs) (λ c κs. search needs) returns with-colours-requires returns-2)

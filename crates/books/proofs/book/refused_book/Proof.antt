@@ -3,11 +3,8 @@ use borrow.Author.Needs.{needs}
 use Rattle.books.proofs.book.refused_book.Statement.{statement}
 use Rattle.books.proofs.book.refused_book.Tie as tie
 
-no-family-requires : tie.Need-no-family-requires
-no-family-requires c κs = search needs
-
 returns : tie.Need-returns
 returns c = simp (← c .no-family .ensures)
 
 pub refused-book-spec : {M : Type 1} → statement M
-refused-book-spec = tie.close (tie.spec no-family-requires returns)
+refused-book-spec = tie.close (tie.spec (λ c κs. search needs) returns)

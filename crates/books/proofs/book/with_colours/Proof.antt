@@ -6,26 +6,11 @@ use borrow.Author.Needs.{needs}
 use Rattle.books.proofs.book.with_colours.Statement.{statement}
 use Rattle.books.proofs.book.with_colours.Tie as tie
 
-read-figures-requires : tie.Need-read-figures-requires
-read-figures-requires c κs = search needs
-
-enum-known-r : tie.Need-enum-known-r
-enum-known-r c = search needs
-
-refused-book-requires : tie.Need-refused-book-requires
-refused-book-requires c κs = search needs
-
-enum-known-r-2 : tie.Need-enum-known-r-2
-enum-known-r-2 c = search needs
-
 read-rules-requires : tie.Need-read-rules-requires
 read-rules-requires c κs =
     let figures = sym (c .before .before .before .read-figures .ensures) ∙ c .before .r2 .given .1 in
     let g = figures-lie _ _ _ _ figures in
     omega (arith, c .before .before .before .before .before .pre)
-
-with-rules-requires : tie.Need-with-rules-requires
-with-rules-requires c κs = search needs
 
 returns : tie.Need-returns
 returns c =
@@ -41,11 +26,11 @@ pub with-colours-spec : {M : Type 1} → statement M
 with-colours-spec =
     tie.close
     (tie.spec
-    read-figures-requires
-    enum-known-r
-    refused-book-requires
-    enum-known-r-2
+    (λ c κs. search needs)
+    (λ c. search needs)
+    (λ c κs. search needs)
+    (λ c. search needs)
     read-rules-requires
-    with-rules-requires
+    (λ c κs. search needs)
     returns
     returns-2)

@@ -5,15 +5,9 @@ use borrow.Author.Needs.{needs}
 use Rattle.books.proofs.book.with_rules.Statement.{statement}
 use Rattle.books.proofs.book.with_rules.Tie as tie
 
-refused-book-requires : tie.Need-refused-book-requires
-refused-book-requires c κs = search needs
-
 returns : tie.Need-returns
 unfolding endedAt
 returns c = simp (← c .refused-book .ensures, ne-eqb _ _ (c .before .if1 .taken))
-
-refused-book-requires-2 : tie.Need-refused-book-requires-2
-refused-book-requires-2 c κs = search needs
 
 returns-2 : tie.Need-returns-2
 unfolding endedAt
@@ -25,4 +19,4 @@ returns-3 c = simp (eq-eqb _ _ (c .before .before .if1 .left), le-leb _ _ (c .be
 
 pub with-rules-spec : {M : Type 1} → statement M
 with-rules-spec =
-    tie.close (tie.spec refused-book-requires returns refused-book-requires-2 returns-2 returns-3)
+    tie.close (tie.spec (λ c κs. search needs) returns (λ c κs. search needs) returns-2 returns-3)

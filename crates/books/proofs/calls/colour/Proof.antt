@@ -10,9 +10,6 @@ use borrow.Author.Needs.{needs}
 use Rattle.books.proofs.calls.colour.Statement.{statement}
 use Rattle.books.proofs.calls.colour.Tie as tie
 
-read-book-requires : tie.Need-read-book-requires
-read-book-requires c κs = search needs
-
 -- the colours of the book that was read, each of which lies within it
 places : (c : tie.Then1) → Places (now (c .before .before .before .before .before .args .book)) (c .before .before .before .read-book .result .family .colours)
 places c = rw (c .before .before .before .read-book .ensures) (book-places (now (c .before .before .before .before .before .args .book)))
@@ -23,29 +20,14 @@ mul-start c = omega (arith, places c .few)
 element-copy-out-start : tie.Need-element-copy-out-start
 element-copy-out-start c = omega (arith, places c .few)
 
-cast-start : tie.Need-cast-start
-cast-start c = search needs
-
 element-copy-out-end : tie.Need-element-copy-out-end
 element-copy-out-end c = omega (arith, places (c .before) .few)
-
-cast-end : tie.Need-cast-end
-cast-end c = search needs
 
 add-end : tie.Need-add-end
 add-end c = omega (arith, places (c .before .before) .inside _ (c .before .before .if1 .taken))
 
-sub-result : tie.Need-sub-result
-sub-result c = search needs
-
-part-result-start : tie.Need-part-result-start
-part-result-start c = search needs
-
 part-result-end : tie.Need-part-result-end
 part-result-end c = omega (arith, places (c .before .before) .inside _ (c .before .before .if1 .taken))
-
-slice-aggregate-result : tie.Need-slice-aggregate-result
-slice-aggregate-result c = search needs
 
 returns : tie.Need-returns
 returns c =
@@ -64,16 +46,16 @@ pub colour-spec : {M : Type 1} → statement M
 colour-spec =
     tie.close
     (tie.spec
-    read-book-requires
+    (λ c κs. search needs)
     mul-start
     element-copy-out-start
-    cast-start
+    (λ c. search needs)
     element-copy-out-end
-    cast-end
+    (λ c. search needs)
     add-end
-    sub-result
-    part-result-start
+    (λ c. search needs)
+    (λ c. search needs)
     part-result-end
-    slice-aggregate-result
+    (λ c. search needs)
     returns
     returns-2)

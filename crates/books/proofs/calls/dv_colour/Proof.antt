@@ -11,9 +11,6 @@ use borrow.Author.Needs.{needs}
 use Rattle.books.proofs.calls.dv_colour.Statement.{statement}
 use Rattle.books.proofs.calls.dv_colour.Tie as tie
 
-read-book-requires : tie.Need-read-book-requires
-read-book-requires c κs = search needs
-
 -- the colours of the book that was read, each of which lies within it
 places : (c : tie.Then1) → Places (now (c .before .before .before .before .before .args .book)) (c .before .before .before .read-book .result .family .colours)
 places c = rw (c .before .before .before .read-book .ensures) (book-places (now (c .before .before .before .before .before .args .book)))
@@ -24,14 +21,8 @@ mul-start c = omega (arith, places c .few)
 element-copy-out-start : tie.Need-element-copy-out-start
 element-copy-out-start c = omega (arith, places c .few)
 
-cast-start : tie.Need-cast-start
-cast-start c = search needs
-
 element-copy-out-len : tie.Need-element-copy-out-len
 element-copy-out-len c = omega (arith, places (c .before) .few)
-
-cast-len : tie.Need-cast-len
-cast-len c = search needs
 
 mul-result : tie.Need-mul-result
 mul-result c =
@@ -54,12 +45,12 @@ pub dv-colour-spec : {M : Type 1} → statement M
 dv-colour-spec =
     tie.close
     (tie.spec
-    read-book-requires
+    (λ c κs. search needs)
     mul-start
     element-copy-out-start
-    cast-start
+    (λ c. search needs)
     element-copy-out-len
-    cast-len
+    (λ c. search needs)
     mul-result
     add-result
     returns

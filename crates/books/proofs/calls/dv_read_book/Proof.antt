@@ -6,12 +6,6 @@ use borrow.Author.Needs.{needs}
 use Rattle.books.proofs.calls.dv_read_book.Statement.{statement}
 use Rattle.books.proofs.calls.dv_read_book.Tie as tie
 
-read-book-requires : tie.Need-read-book-requires
-read-book-requires c κs = search needs
-
-blame-requires : tie.Need-blame-requires
-blame-requires c κs = search needs
-
 pack-requires : tie.Need-pack-requires
 pack-requires c κs =
     let s = now (c .before .before .before .before .args .book) in
@@ -21,4 +15,4 @@ returns : tie.Need-returns
 returns c = rw (← c .before .before .before .read-book .ensures, ← c .before .blame .ensures) (c .pack .ensures)
 
 pub dv-read-book-spec : {M : Type 1} → statement M
-dv-read-book-spec = tie.close (tie.spec read-book-requires blame-requires pack-requires returns)
+dv-read-book-spec = tie.close (tie.spec (λ c κs. search needs) (λ c κs. search needs) pack-requires returns)

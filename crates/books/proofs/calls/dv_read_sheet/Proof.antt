@@ -6,12 +6,6 @@ use borrow.Author.Needs.{needs}
 use Rattle.books.proofs.calls.dv_read_sheet.Statement.{statement}
 use Rattle.books.proofs.calls.dv_read_sheet.Tie as tie
 
-read-sheet-requires : tie.Need-read-sheet-requires
-read-sheet-requires c κs = search needs
-
-blame-requires : tie.Need-blame-requires
-blame-requires c κs = search needs
-
 pack-requires : tie.Need-pack-requires
 pack-requires c κs =
     let s = now (c .before .before .before .before .args .sheet) in
@@ -21,4 +15,4 @@ returns : tie.Need-returns
 returns c = rw (← c .before .before .before .read-sheet .ensures, ← c .before .blame .ensures) (c .pack .ensures)
 
 pub dv-read-sheet-spec : {M : Type 1} → statement M
-dv-read-sheet-spec = tie.close (tie.spec read-sheet-requires blame-requires pack-requires returns)
+dv-read-sheet-spec = tie.close (tie.spec (λ c κs. search needs) (λ c κs. search needs) pack-requires returns)

@@ -19,35 +19,14 @@ loop-holds : tie.Need-loop-holds Inv-loop μ-loop
 unfolding cellsOf
 loop-holds c = (omega arith, simp left-all)
 
-read-below-requires : tie.Need-read-below-requires Inv-loop μ-loop
-read-below-requires c κs = tt
-
-enum-known-r : tie.Need-enum-known-r Inv-loop μ-loop
-enum-known-r c = search needs
-
-refused-cells-requires : tie.Need-refused-cells-requires Inv-loop μ-loop
-refused-cells-requires c κs = tt
-
 returns : tie.Need-returns Inv-loop μ-loop
 returns c =
     let less = c .before .before .before .before .before .loop-test .taken in
     let fault = sym (c .before .before .before .before .read-below .ensures) ∙ c .before .before .r .given .1 in
     c .refused-cells .ensures ∙ (simp (left-suc _ _ less, fault) at (c .before .before .before .before .before .before .loop .inv .1))
 
-enum-known-r-2 : tie.Need-enum-known-r-2 Inv-loop μ-loop
-enum-known-r-2 c = search needs
-
 cast-cells : tie.Need-cast-cells Inv-loop μ-loop
 cast-cells c = omega (arith, number-below _ _ _ 6 _ _ (sym (c .before .before .before .read-below .ensures) ∙ c .before .r2 .given .1))
-
-array-write-cells : tie.Need-array-write-cells Inv-loop μ-loop
-array-write-cells c = omega arith
-
-add-i : tie.Need-add-i Inv-loop μ-loop
-add-i c = omega arith
-
-loop-less : tie.Need-loop-less Inv-loop μ-loop
-loop-less c = omega arith
 
 loop-again : tie.Need-loop-again Inv-loop μ-loop
 loop-again c =
@@ -65,14 +44,14 @@ read-cells-spec =
     Inv-loop
     μ-loop
     loop-holds
-    read-below-requires
-    enum-known-r
-    refused-cells-requires
+    (λ c κs. tt)
+    (λ c. search needs)
+    (λ c κs. tt)
     returns
-    enum-known-r-2
+    (λ c. search needs)
     cast-cells
-    array-write-cells
-    add-i
-    loop-less
+    (λ c. omega arith)
+    (λ c. omega arith)
+    (λ c. omega arith)
     loop-again
     returns-2)

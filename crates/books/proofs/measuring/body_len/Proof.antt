@@ -8,29 +8,8 @@ use borrow.Author.Needs.{needs}
 use Rattle.books.proofs.measuring.body_len.Statement.{statement}
 use Rattle.books.proofs.measuring.body_len.Tie as tie
 
-enum-known-b : tie.Need-enum-known-b
-enum-known-b c = search needs
-
-cast-spelled-len : tie.Need-cast-spelled-len
-cast-spelled-len c = search needs
-
-spelled-len-requires : tie.Need-spelled-len-requires
-spelled-len-requires c κs = search needs
-
 add-result : tie.Need-add-result
 add-result c = omega (arith, spell-few (c .before .before .b .given .0 .0))
-
-enum-known-b-2 : tie.Need-enum-known-b-2
-enum-known-b-2 c = search needs
-
-join-len-requires : tie.Need-join-len-requires
-join-len-requires c κs = search needs
-
-enum-known-b-3 : tie.Need-enum-known-b-3
-enum-known-b-3 c = search needs
-
-join-len-requires-2 : tie.Need-join-len-requires-2
-join-len-requires-2 c κs = search needs
 
 returns : tie.Need-returns
 returns c =
@@ -55,14 +34,14 @@ pub body-len-spec : {M : Type 1} → statement M
 body-len-spec =
     tie.close
     (tie.spec
-    enum-known-b
-    cast-spelled-len
-    spelled-len-requires
+    (λ c. search needs)
+    (λ c. search needs)
+    (λ c κs. search needs)
     add-result
-    enum-known-b-2
-    join-len-requires
-    enum-known-b-3
-    join-len-requires-2
+    (λ c. search needs)
+    (λ c κs. search needs)
+    (λ c. search needs)
+    (λ c κs. search needs)
     returns
     returns-2
     returns-3)

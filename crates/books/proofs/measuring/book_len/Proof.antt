@@ -6,21 +6,6 @@ use borrow.Author.Needs.{needs}
 use Rattle.books.proofs.measuring.book_len.Statement.{statement}
 use Rattle.books.proofs.measuring.book_len.Tie as tie
 
-colours-len-requires : tie.Need-colours-len-requires
-colours-len-requires c κs = search needs
-
-figures-len-requires : tie.Need-figures-len-requires
-figures-len-requires c κs = search needs
-
-rules-len-requires : tie.Need-rules-len-requires
-rules-len-requires c κs = search needs
-
-add-result : tie.Need-add-result
-add-result c = search needs
-
-add-result-2 : tie.Need-add-result-2
-add-result-2 c = search needs
-
 returns : tie.Need-returns
 returns c =
     let a = c .before .before .before .before .before .before .before .before .before .args in
@@ -30,9 +15,9 @@ pub book-len-spec : {M : Type 1} → statement M
 book-len-spec =
     tie.close
     (tie.spec
-    colours-len-requires
-    figures-len-requires
-    rules-len-requires
-    add-result
-    add-result-2
+    (λ c κs. search needs)
+    (λ c κs. search needs)
+    (λ c κs. search needs)
+    (λ c. search needs)
+    (λ c. search needs)
     returns)

@@ -14,21 +14,6 @@ use borrow.Author.Needs.{needs}
 use Rattle.books.proofs.measuring.colours_len.Statement.{statement}
 use Rattle.books.proofs.measuring.colours_len.Tie as tie
 
-add-spelled-len : tie.Need-add-spelled-len
-add-spelled-len c = search needs
-
-spelled-len-requires : tie.Need-spelled-len-requires
-spelled-len-requires c κs = search needs
-
-names-len-requires : tie.Need-names-len-requires
-names-len-requires c κs = search needs
-
-names-len-requires-2 : tie.Need-names-len-requires-2
-names-len-requires-2 c κs = search needs
-
-add-result : tie.Need-add-result
-add-result c = search needs
-
 add-result-2 : tie.Need-add-result-2
 add-result-2 c = omega (arith, spell-few (c .before .before .before .before .before .before .before .args .c .count + c .before .before .before .before .before .before .before .args .more .count), c .names-len2 .ensures .1, c .before .names-len .ensures .1)
 
@@ -45,10 +30,10 @@ pub colours-len-spec : {M : Type 1} → statement M
 colours-len-spec =
     tie.close
     (tie.spec
-    add-spelled-len
-    spelled-len-requires
-    names-len-requires
-    names-len-requires-2
-    add-result
+    (λ c. search needs)
+    (λ c κs. search needs)
+    (λ c κs. search needs)
+    (λ c κs. search needs)
+    (λ c. search needs)
     add-result-2
     returns)

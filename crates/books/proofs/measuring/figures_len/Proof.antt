@@ -8,15 +8,6 @@ use borrow.Author.Needs.{needs}
 use Rattle.books.proofs.measuring.figures_len.Statement.{statement}
 use Rattle.books.proofs.measuring.figures_len.Tie as tie
 
-spelled-len-requires : tie.Need-spelled-len-requires
-spelled-len-requires c κs = search needs
-
-spelled-len-requires-2 : tie.Need-spelled-len-requires-2
-spelled-len-requires-2 c κs = search needs
-
-spelled-len-requires-3 : tie.Need-spelled-len-requires-3
-spelled-len-requires-3 c κs = search needs
-
 add-result : tie.Need-add-result
 add-result c = omega (arith, spell-few (c .before .before .before .args .motifs), spell-few (c .before .before .before .args .start), spell-few (c .before .before .before .args .count))
 
@@ -34,9 +25,9 @@ pub figures-len-spec : {M : Type 1} → statement M
 figures-len-spec =
     tie.close
     (tie.spec
-    spelled-len-requires
-    spelled-len-requires-2
-    spelled-len-requires-3
+    (λ c κs. search needs)
+    (λ c κs. search needs)
+    (λ c κs. search needs)
     add-result
     add-result-2
     returns)

@@ -5,12 +5,6 @@ use borrow.Author.Needs.{needs}
 use Rattle.books.proofs.measuring.join_len.Statement.{statement}
 use Rattle.books.proofs.measuring.join_len.Tie as tie
 
-spelled-len-requires : tie.Need-spelled-len-requires
-spelled-len-requires c κs = search needs
-
-spelled-len-requires-2 : tie.Need-spelled-len-requires-2
-spelled-len-requires-2 c κs = search needs
-
 add-result : tie.Need-add-result
 add-result c = omega (arith, spell-few (c .before .before .args .first), spell-few (c .before .before .args .second))
 
@@ -23,4 +17,4 @@ returns c = omega (arith, spell-few (c .before .before .args .first), spell-few 
 pub join-len-spec : {M : Type 1} → statement M
 join-len-spec =
     tie.close
-    (tie.spec spelled-len-requires spelled-len-requires-2 add-result add-result-2 returns)
+    (tie.spec (λ c κs. search needs) (λ c κs. search needs) add-result add-result-2 returns)

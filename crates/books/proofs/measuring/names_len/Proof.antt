@@ -24,30 +24,6 @@ abbrev μ-loop : tie.MeasureT-loop
 loop-holds : tie.Need-loop-holds Inv-loop μ-loop
 loop-holds c = (omega arith, simp left-all (omega arith), omega arith)
 
-mul-start : tie.Need-mul-start Inv-loop μ-loop
-mul-start c = omega arith
-
-element-copy-out-start : tie.Need-element-copy-out-start Inv-loop μ-loop
-element-copy-out-start c = omega arith
-
-cast-start : tie.Need-cast-start Inv-loop μ-loop
-cast-start c = search needs
-
-element-copy-out-len : tie.Need-element-copy-out-len Inv-loop μ-loop
-element-copy-out-len c = omega arith
-
-cast-len : tie.Need-cast-len Inv-loop μ-loop
-cast-len c = search needs
-
-tail-requires : tie.Need-tail-requires Inv-loop μ-loop
-tail-requires c κs = tt
-
-front-requires : tie.Need-front-requires Inv-loop μ-loop
-front-requires c κs = tt
-
-spelled-len-requires : tie.Need-spelled-len-requires Inv-loop μ-loop
-spelled-len-requires c κs = tt
-
 -- the part that is measured is the name at the loop's place
 part-named : (c : tie.After-spelled-len Inv-loop μ-loop) →
     let t = c .before .before .before .before .before .before in
@@ -70,12 +46,6 @@ add-sum c = omega (arith, spell-few (length (now (c .before .front .result))), p
 add-sum-2 : tie.Need-add-sum-2 Inv-loop μ-loop
 add-sum-2 c = omega (arith, spell-few (length (now (c .before .front .result))), part-few c)
 
-add-i : tie.Need-add-i Inv-loop μ-loop
-add-i c = omega arith
-
-loop-less : tie.Need-loop-less Inv-loop μ-loop
-loop-less c = omega arith
-
 loop-again : tie.Need-loop-again Inv-loop μ-loop
 loop-again c =
     let a = c .before .before .before .before .before .before .before .before .args in
@@ -97,17 +67,17 @@ names-len-spec =
     Inv-loop
     μ-loop
     loop-holds
-    mul-start
-    element-copy-out-start
-    cast-start
-    element-copy-out-len
-    cast-len
-    tail-requires
-    front-requires
-    spelled-len-requires
+    (λ c. omega arith)
+    (λ c. omega arith)
+    (λ c. search needs)
+    (λ c. omega arith)
+    (λ c. search needs)
+    (λ c κs. tt)
+    (λ c κs. tt)
+    (λ c κs. tt)
     add-sum
     add-sum-2
-    add-i
-    loop-less
+    (λ c. omega arith)
+    (λ c. omega arith)
     loop-again
     returns)

@@ -8,15 +8,6 @@ use borrow.Author.Needs.{needs}
 use Rattle.books.proofs.measuring.rule_len.Statement.{statement}
 use Rattle.books.proofs.measuring.rule_len.Tie as tie
 
-cast-spelled-len : tie.Need-cast-spelled-len
-cast-spelled-len c = search needs
-
-spelled-len-requires : tie.Need-spelled-len-requires
-spelled-len-requires c κs = search needs
-
-body-len-requires : tie.Need-body-len-requires
-body-len-requires c κs = search needs
-
 add-result : tie.Need-add-result
 add-result c = omega (arith, spell-few (c .before .before .before .args .r .head), c .body-len .ensures)
 
@@ -25,4 +16,4 @@ returns c = omega (arith, length-append (spellNumber (c .before .before .before 
 
 pub rule-len-spec : {M : Type 1} → statement M
 rule-len-spec =
-    tie.close (tie.spec cast-spelled-len spelled-len-requires body-len-requires add-result returns)
+    tie.close (tie.spec (λ c. search needs) (λ c κs. search needs) (λ c κs. search needs) add-result returns)

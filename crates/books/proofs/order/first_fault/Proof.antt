@@ -5,17 +5,11 @@ use borrow.Author.Needs.{needs}
 use Rattle.books.proofs.order.first_fault.Statement.{statement}
 use Rattle.books.proofs.order.first_fault.Tie as tie
 
-blame-requires : tie.Need-blame-requires
-blame-requires c κs = search needs
-
 returns : tie.Need-returns
 returns c = c .blame .ensures ∙ sym (book-first _ _ (c .before .if1 .taken))
-
-blame-requires-2 : tie.Need-blame-requires-2
-blame-requires-2 c κs = search needs
 
 returns-2 : tie.Need-returns-2
 returns-2 c = c .blame2 .ensures ∙ sym (sheet-second _ _ (c .before .if1 .left))
 
 pub first-fault-spec : {M : Type 1} → statement M
-first-fault-spec = tie.close (tie.spec blame-requires returns blame-requires-2 returns-2)
+first-fault-spec = tie.close (tie.spec (λ c κs. search needs) returns (λ c κs. search needs) returns-2)

@@ -3,8 +3,8 @@
 use denote.Ref.{now}
 use lib.ListN.{length, getD}
 use Rattle.names.specs.Colours.{nameIn, namesIn}
-use Rattle.names.proofs.Finding.{find-place}
-use Rattle.names.proofs.Places.{place-le}
+use Rattle.names.proofs.Finding.{find-listed}
+use Rattle.names.proofs.Listing.{listed-le}
 use Rattle.names.proofs.ReadingColours.{names-count}
 use borrow.Author.Needs.{needs}
 use native.Mathlib.Omega.{arith}
@@ -27,17 +27,8 @@ abbrev μ-loop : tie.MeasureT-loop
 abbrev began : tie.After-cell Inv-loop μ-loop → tie.Start Inv-loop μ-loop
 began c = c .before .before .before .before .before .before
 
-mul-count : tie.Need-mul-count Inv-loop μ-loop
-mul-count c = omega arith
-
 loop-holds : tie.Need-loop-holds Inv-loop μ-loop
 loop-holds c = (omega arith, refl)
-
-element-copy-out-cell : tie.Need-element-copy-out-cell Inv-loop μ-loop
-element-copy-out-cell c = search needs
-
-cast-cell : tie.Need-cast-cell Inv-loop μ-loop
-cast-cell c = search needs
 
 find-in-requires : tie.Need-find-in-requires Inv-loop μ-loop
 find-in-requires c κs = began c .pre .3 (c .before .before .loop .i) (c .before .loop-test .taken)
@@ -48,17 +39,8 @@ cast-numbers c =
     let book = now (a .book) in
     let few = began (c .before) .pre .0 in
     let name = nameIn (now (a .sheet)) (a .t4 .colours) (getD (a .t4 .cells) (c .before .before .before .loop .i) 0) in
-    let most = place-le (namesIn book (a .c)) name in
-    omega (arith, c .find-in .ensures, find-place book (a .c) name few, most, names-count book (a .c), few)
-
-array-write-numbers : tie.Need-array-write-numbers Inv-loop μ-loop
-array-write-numbers c = search needs
-
-add-i : tie.Need-add-i Inv-loop μ-loop
-add-i c = search needs
-
-loop-less : tie.Need-loop-less Inv-loop μ-loop
-loop-less c = search needs
+    let most = listed-le (namesIn book (a .c)) name in
+    omega (arith, c .find-in .ensures, find-listed book (a .c) name few, most, names-count book (a .c), few)
 
 loop-again : tie.Need-loop-again Inv-loop μ-loop
 loop-again c =
@@ -82,14 +64,14 @@ number-cells-spec =
     (tie.spec
     Inv-loop
     μ-loop
-    mul-count
+    (λ c. omega arith)
     loop-holds
-    element-copy-out-cell
-    cast-cell
+    (λ c. search needs)
+    (λ c. search needs)
     find-in-requires
     cast-numbers
-    array-write-numbers
-    add-i
-    loop-less
+    (λ c. search needs)
+    (λ c. search needs)
+    (λ c. search needs)
     loop-again
     returns)

@@ -9,12 +9,6 @@ use borrow.Author.Needs.{needs}
 use Rattle.books.proofs.order.read_order.Statement.{statement}
 use Rattle.books.proofs.order.read_order.Tie as tie
 
-read-book-requires : tie.Need-read-book-requires
-read-book-requires c κs = search needs
-
-read-sheet-requires : tie.Need-read-sheet-requires
-read-sheet-requires c κs = search needs
-
 number-cells-requires : tie.Need-number-cells-requires
 number-cells-requires c κs =
     let a = c .before .before .before .before .before .before .before .args in
@@ -22,9 +16,6 @@ number-cells-requires c κs =
     let s = c .before .before .before .read-sheet .ensures in
     let (area, all, fit) = subst (λ (r : SheetRead). CellsFit (r .sheet)) (sym s) (sheet-cells (now (a .sheet))) in
     (rw b (book-places (now (a .book)) .few), area, all, fit)
-
-first-fault-requires : tie.Need-first-fault-requires
-first-fault-requires c κs = search needs
 
 cast-t10 : tie.Need-cast-t10
 cast-t10 c =
@@ -43,9 +34,9 @@ pub read-order-spec : {M : Type 1} → statement M
 read-order-spec =
     tie.close
     (tie.spec
-    read-book-requires
-    read-sheet-requires
+    (λ c κs. search needs)
+    (λ c κs. search needs)
     number-cells-requires
-    first-fault-requires
+    (λ c κs. search needs)
     cast-t10
     returns)

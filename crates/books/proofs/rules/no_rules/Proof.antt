@@ -3,11 +3,8 @@ use borrow.Author.Needs.{needs}
 use Rattle.books.proofs.rules.no_rules.Statement.{statement}
 use Rattle.books.proofs.rules.no_rules.Tie as tie
 
-no-rule-requires : tie.Need-no-rule-requires
-no-rule-requires c κs = search needs
-
 returns : tie.Need-returns
 returns c = simp (← c .no-rule .ensures)
 
 pub no-rules-spec : {M : Type 1} → statement M
-no-rules-spec = tie.close (tie.spec no-rule-requires returns)
+no-rules-spec = tie.close (tie.spec (λ c κs. search needs) returns)

@@ -7,24 +7,6 @@ use borrow.Author.Needs.{needs}
 use Rattle.books.proofs.rules.read_rule.Statement.{statement}
 use Rattle.books.proofs.rules.read_rule.Tie as tie
 
-read-below-requires : tie.Need-read-below-requires
-read-below-requires c κs = search needs
-
-enum-known-r : tie.Need-enum-known-r
-enum-known-r c = search needs
-
-enum-known-r-2 : tie.Need-enum-known-r-2
-enum-known-r-2 c = search needs
-
-read-body-requires : tie.Need-read-body-requires
-read-body-requires c κs = search needs
-
-enum-known-b : tie.Need-enum-known-b
-enum-known-b c = search needs
-
-enum-known-b-2 : tie.Need-enum-known-b-2
-enum-known-b-2 c = search needs
-
 cast-t15 : tie.Need-cast-t15
 cast-t15 c =
     let head = c .before .before .before .before .before in
@@ -53,12 +35,12 @@ pub read-rule-spec : {M : Type 1} → statement M
 read-rule-spec =
     tie.close
     (tie.spec
-    read-below-requires
-    enum-known-r
-    enum-known-r-2
-    read-body-requires
-    enum-known-b
-    enum-known-b-2
+    (λ c κs. search needs)
+    (λ c. search needs)
+    (λ c. search needs)
+    (λ c κs. search needs)
+    (λ c. search needs)
+    (λ c. search needs)
     cast-t15
     returns
     returns-2

@@ -3,11 +3,8 @@ use borrow.Author.Needs.{needs}
 use Rattle.books.proofs.rules.refused_rules.Statement.{statement}
 use Rattle.books.proofs.rules.refused_rules.Tie as tie
 
-no-rules-requires : tie.Need-no-rules-requires
-no-rules-requires c κs = search needs
-
 returns : tie.Need-returns
 returns c = simp (← c .no-rules .ensures)
 
 pub refused-rules-spec : {M : Type 1} → statement M
-refused-rules-spec = tie.close (tie.spec no-rules-requires returns)
+refused-rules-spec = tie.close (tie.spec (λ c κs. search needs) returns)

@@ -11,28 +11,10 @@ use Rattle.books.proofs.ReadingSizes.{size-lies}
 use Rattle.books.proofs.sheet.read_sheet.Statement.{statement}
 use Rattle.books.proofs.sheet.read_sheet.Tie as tie
 
-read-colours-requires : tie.Need-read-colours-requires
-read-colours-requires c κs = search needs
-
-refused-sheet-requires : tie.Need-refused-sheet-requires
-refused-sheet-requires c κs = search needs
-
 returns : tie.Need-returns
 unfolding sheetOf coloursThen
 returns c =
     simp (← c .before .before .before .before .read-colours .ensures, ne-eqb _ _ (c .before .if1 .taken)) (c .refused-sheet .ensures)
-
-read-size-requires : tie.Need-read-size-requires
-read-size-requires c κs = search needs
-
-enum-known-size : tie.Need-enum-known-size
-enum-known-size c = search needs
-
-refused-sheet-requires-2 : tie.Need-refused-sheet-requires-2
-refused-sheet-requires-2 c κs = search needs
-
-enum-known-size-2 : tie.Need-enum-known-size-2
-enum-known-size-2 c = search needs
 
 mul-read-cells : tie.Need-mul-read-cells
 mul-read-cells c =
@@ -44,9 +26,6 @@ read-cells-requires : tie.Need-read-cells-requires
 read-cells-requires c κs =
     let size = size-lies _ _ greatest _ _ _ (sym (c .before .before .before .read-size .ensures) ∙ c .before .size2 .given .1) in
     (rw (c .before .before .before .before .before .before .before .before .read-colours .ensures) (colours-places _ .few), area _ _ greatest (size .rows-few) (size .cols-few))
-
-with-cells-requires : tie.Need-with-cells-requires
-with-cells-requires c κs = search needs
 
 returns-2 : tie.Need-returns-2
 unfolding sheetOf coloursThen
@@ -66,15 +45,15 @@ pub read-sheet-spec : {M : Type 1} → statement M
 read-sheet-spec =
     tie.close
     (tie.spec
-    read-colours-requires
-    refused-sheet-requires
+    (λ c κs. search needs)
+    (λ c κs. search needs)
     returns
-    read-size-requires
-    enum-known-size
-    refused-sheet-requires-2
-    enum-known-size-2
+    (λ c κs. search needs)
+    (λ c. search needs)
+    (λ c κs. search needs)
+    (λ c. search needs)
     mul-read-cells
     read-cells-requires
-    with-cells-requires
+    (λ c κs. search needs)
     returns-2
     returns-3)

@@ -5,15 +5,9 @@ use borrow.Author.Needs.{needs}
 use Rattle.books.proofs.sheet.with_cells.Statement.{statement}
 use Rattle.books.proofs.sheet.with_cells.Tie as tie
 
-refused-sheet-requires : tie.Need-refused-sheet-requires
-refused-sheet-requires c κs = search needs
-
 returns : tie.Need-returns
 unfolding cellsThen
 returns c = simp (ne-eqb _ _ (c .before .if1 .taken)) (c .refused-sheet .ensures)
-
-refused-sheet-requires-2 : tie.Need-refused-sheet-requires-2
-refused-sheet-requires-2 c κs = search needs
 
 returns-2 : tie.Need-returns-2
 unfolding cellsThen
@@ -26,4 +20,4 @@ returns-3 c = simp (eq-eqb _ _ (c .before .before .if1 .left), le-ltb _ _ (c .be
 pub with-cells-spec : {M : Type 1} → statement M
 with-cells-spec =
     tie.close
-    (tie.spec refused-sheet-requires returns refused-sheet-requires-2 returns-2 returns-3)
+    (tie.spec (λ c κs. search needs) returns (λ c κs. search needs) returns-2 returns-3)

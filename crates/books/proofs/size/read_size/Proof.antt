@@ -5,24 +5,6 @@ use borrow.Author.Needs.{needs}
 use Rattle.books.proofs.size.read_size.Statement.{statement}
 use Rattle.books.proofs.size.read_size.Tie as tie
 
-read-in-requires : tie.Need-read-in-requires
-read-in-requires c κs = search needs
-
-enum-known-r : tie.Need-enum-known-r
-enum-known-r c = search needs
-
-enum-known-r-2 : tie.Need-enum-known-r-2
-enum-known-r-2 c = search needs
-
-read-in-requires-2 : tie.Need-read-in-requires-2
-read-in-requires-2 c κs = search needs
-
-enum-known-q : tie.Need-enum-known-q
-enum-known-q c = search needs
-
-enum-known-q-2 : tie.Need-enum-known-q-2
-enum-known-q-2 c = search needs
-
 returns : tie.Need-returns
 unfolding sizeAt
 returns c = simp (sym (c .before .before .before .read-in .ensures) ∙ c .before .r .given .1)
@@ -43,12 +25,12 @@ pub read-size-spec : {M : Type 1} → statement M
 read-size-spec =
     tie.close
     (tie.spec
-    read-in-requires
-    enum-known-r
-    enum-known-r-2
-    read-in-requires-2
-    enum-known-q
-    enum-known-q-2
+    (λ c κs. search needs)
+    (λ c. search needs)
+    (λ c. search needs)
+    (λ c κs. search needs)
+    (λ c. search needs)
+    (λ c. search needs)
     returns
     returns-2
     returns-3)

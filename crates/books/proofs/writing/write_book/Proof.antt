@@ -25,9 +25,6 @@ room c =
     let a = c .before .before .before .before .before .args in
     omega (arith, draft-length (now (a .first)) (now (a .second)) (a .d) (c .before .before .before .before .before .pre), c .before .book-len .ensures, c .if1 .left)
 
-book-len-requires : tie.Need-book-len-requires
-book-len-requires c κs = search needs
-
 returns : tie.Need-returns
 returns c =
     let small = rw (c .before .book-len .ensures) at (c .if1 .taken) in
@@ -50,9 +47,6 @@ write-rules-requires c κs =
     let figures = c .before .before .before .write-figures .ensures in
     (c .before .before .before .before .before .before .before .before .before .before .before .before .before .before .before .before .before .before .pre .rules-few, omega (arith, room (c .before .before .before .before .before .before .before .before .before .before .before .before .before), colours .place, wrote-length colours, figures .place, wrote-length figures))
 
-same-length : tie.Need-same-length
-same-length c = search needs
-
 returns-2 : tie.Need-returns-2
 returns-2 c =
     let a = c .before .before .before .before .before .before .before .before .before .before .before .before .before .before .before .before .before .before .before .before .before .args in
@@ -70,10 +64,10 @@ pub write-book-spec : {M : Type 1} → statement M
 write-book-spec =
     tie.close
     (tie.spec
-    book-len-requires
+    (λ c κs. search needs)
     returns
     write-colours-requires
     write-figures-requires
     write-rules-requires
-    same-length
+    (λ c. search needs)
     returns-2)

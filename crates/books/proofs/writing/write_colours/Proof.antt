@@ -13,12 +13,6 @@ use borrow.Author.Needs.{needs}
 use Rattle.books.proofs.writing.write_colours.Statement.{statement}
 use Rattle.books.proofs.writing.write_colours.Tie as tie
 
-add-write-number : tie.Need-add-write-number
-add-write-number c = search needs
-
-write-number-requires : tie.Need-write-number-requires
-write-number-requires c κs = search needs
-
 write-names-requires : tie.Need-write-names-requires
 write-names-requires c κs =
     let a = c .before .before .before .before .before .before .before .before .before .before .args in
@@ -44,9 +38,6 @@ write-names-requires-2 c κs =
     let named = c .before .before .before .write-names .ensures in
     (c .before .before .before .before .before .before .before .before .before .before .before .before .before .before .pre .1, omega (arith, counted .place, wrote-length counted, named .place, wrote-length named))
 
-same-length : tie.Need-same-length
-same-length c = search needs
-
 returns : tie.Need-returns
 returns c =
     let a = c .before .before .before .before .before .before .before .before .before .before .before .before .before .before .before .before .before .args in
@@ -64,9 +55,9 @@ pub write-colours-spec : {M : Type 1} → statement M
 write-colours-spec =
     tie.close
     (tie.spec
-    add-write-number
-    write-number-requires
+    (λ c. search needs)
+    (λ c κs. search needs)
     write-names-requires
     write-names-requires-2
-    same-length
+    (λ c. search needs)
     returns)

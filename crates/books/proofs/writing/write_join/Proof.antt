@@ -10,18 +10,6 @@ use borrow.Author.Needs.{needs}
 use Rattle.books.proofs.writing.write_join.Statement.{statement}
 use Rattle.books.proofs.writing.write_join.Tie as tie
 
-write-number-requires : tie.Need-write-number-requires
-write-number-requires c κs = search needs
-
-write-number-requires-2 : tie.Need-write-number-requires-2
-write-number-requires-2 c κs = search needs
-
-write-number-requires-3 : tie.Need-write-number-requires-3
-write-number-requires-3 c κs = search needs
-
-same-length : tie.Need-same-length
-same-length c = search needs
-
 returns : tie.Need-returns
 returns c =
     let a = c .before .before .before .before .before .before .before .before .before .before .before .before .before .args in
@@ -40,8 +28,8 @@ pub write-join-spec : {M : Type 1} → statement M
 write-join-spec =
     tie.close
     (tie.spec
-    write-number-requires
-    write-number-requires-2
-    write-number-requires-3
-    same-length
+    (λ c κs. search needs)
+    (λ c κs. search needs)
+    (λ c κs. search needs)
+    (λ c. search needs)
     returns)

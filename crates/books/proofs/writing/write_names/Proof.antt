@@ -25,39 +25,6 @@ abbrev μ-loop : tie.MeasureT-loop
 loop-holds : tie.Need-loop-holds Inv-loop μ-loop
 loop-holds c = (omega arith, simp left-all (still-all _ _ _))
 
-mul-start : tie.Need-mul-start Inv-loop μ-loop
-mul-start c = omega arith
-
-element-copy-out-start : tie.Need-element-copy-out-start Inv-loop μ-loop
-element-copy-out-start c = omega arith
-
-cast-start : tie.Need-cast-start Inv-loop μ-loop
-cast-start c = search needs
-
-element-copy-out-len : tie.Need-element-copy-out-len Inv-loop μ-loop
-element-copy-out-len c = omega arith
-
-cast-len : tie.Need-cast-len Inv-loop μ-loop
-cast-len c = search needs
-
-tail-requires : tie.Need-tail-requires Inv-loop μ-loop
-tail-requires c κs = tt
-
-front-requires : tie.Need-front-requires Inv-loop μ-loop
-front-requires c κs = tt
-
-write-number-requires : tie.Need-write-number-requires Inv-loop μ-loop
-write-number-requires c κs = tt
-
-copy-name-requires : tie.Need-copy-name-requires Inv-loop μ-loop
-copy-name-requires c κs = tt
-
-add-i : tie.Need-add-i Inv-loop μ-loop
-add-i c = omega arith
-
-loop-less : tie.Need-loop-less Inv-loop μ-loop
-loop-less c = omega arith
-
 loop-again : tie.Need-loop-again Inv-loop μ-loop
 loop-again c =
     let k = c .before .before in
@@ -92,17 +59,17 @@ write-names-spec =
     Inv-loop
     μ-loop
     loop-holds
-    mul-start
-    element-copy-out-start
-    cast-start
-    element-copy-out-len
-    cast-len
-    tail-requires
-    front-requires
-    write-number-requires
-    copy-name-requires
-    add-i
-    loop-less
+    (λ c. omega arith)
+    (λ c. omega arith)
+    (λ c. search needs)
+    (λ c. omega arith)
+    (λ c. search needs)
+    (λ c κs. tt)
+    (λ c κs. tt)
+    (λ c κs. tt)
+    (λ c κs. tt)
+    (λ c. omega arith)
+    (λ c. omega arith)
     loop-again
     same-length
     returns)

@@ -8,21 +8,12 @@ use borrow.Author.Needs.{needs}
 use Rattle.books.proofs.writing.write_rule.Statement.{statement}
 use Rattle.books.proofs.writing.write_rule.Tie as tie
 
-cast-write-number : tie.Need-cast-write-number
-cast-write-number c = search needs
-
-write-number-requires : tie.Need-write-number-requires
-write-number-requires c κs = search needs
-
 write-body-requires : tie.Need-write-body-requires
 write-body-requires c κs =
     let r = c .before .before .before .before .before .before .before .args .r in
     let whole = length-append (spellNumber (r .head)) (spellBody (r .body)) in
     let one = wrote (spellNumber (r .head)) (c .before .before .before .write-number .ensures .0) (c .before .before .before .write-number .ensures .1) (omega (arith, c .before .before .before .before .before .before .before .pre)) in
     omega (arith, c .before .before .before .before .before .before .before .pre, one .place, wrote-length one)
-
-same-length : tie.Need-same-length
-same-length c = search needs
 
 returns : tie.Need-returns
 returns c =
@@ -33,4 +24,4 @@ returns c =
 pub write-rule-spec : {M : Type 1} → statement M
 write-rule-spec =
     tie.close
-    (tie.spec cast-write-number write-number-requires write-body-requires same-length returns)
+    (tie.spec (λ c. search needs) (λ c κs. search needs) write-body-requires (λ c. search needs) returns)

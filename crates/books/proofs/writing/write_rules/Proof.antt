@@ -18,24 +18,12 @@ abbrev μ-loop : tie.MeasureT-loop
 loop-holds : tie.Need-loop-holds Inv-loop μ-loop
 loop-holds c = (omega arith, still-all _ _ _)
 
-mul-r : tie.Need-mul-r Inv-loop μ-loop
-mul-r c = omega arith
-
-array-copy-out-r : tie.Need-array-copy-out-r Inv-loop μ-loop
-array-copy-out-r c = omega arith
-
 write-rule-requires : tie.Need-write-rule-requires Inv-loop μ-loop
 write-rule-requires c κs =
     let a = c .before .before .before .before .before .args in
     let still = c .before .before .before .loop .inv .1 in
     let on = rules-on-length (a .t1) (a .count) (c .before .before .before .loop .i) noRule (c .before .before .loop-test .taken) (omega arith) in
     omega (arith, still .place, still .sized, c .before .before .before .before .before .pre .1)
-
-add-i : tie.Need-add-i Inv-loop μ-loop
-add-i c = omega arith
-
-loop-less : tie.Need-loop-less Inv-loop μ-loop
-loop-less c = omega arith
 
 loop-again : tie.Need-loop-again Inv-loop μ-loop
 loop-again c =
@@ -58,11 +46,11 @@ write-rules-spec =
     Inv-loop
     μ-loop
     loop-holds
-    mul-r
-    array-copy-out-r
+    (λ c. omega arith)
+    (λ c. omega arith)
     write-rule-requires
-    add-i
-    loop-less
+    (λ c. omega arith)
+    (λ c. omega arith)
     loop-again
     same-length
     returns)

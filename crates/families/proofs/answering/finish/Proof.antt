@@ -2,18 +2,12 @@
 use mathlib.Core.Path.{refl}
 use native.Mathlib.Omega.{arith}
 use denote.Ref.{now}
-use Rattle.books.specs.Draft.{draftIn}
+use Rattle.books.specs.inner.Draft.{draftIn}
 use Rattle.books.proofs.Packing.{plain-packs}
 use Rattle.families.proofs.Finishing.{written-by, written-packs}
 use borrow.Author.Needs.{needs}
 use Rattle.families.proofs.answering.finish.Statement.{statement}
 use Rattle.families.proofs.answering.finish.Tie as tie
-
-write-book-requires : tie.Need-write-book-requires
-write-book-requires c κs = search needs
-
-unblamed-requires : tie.Need-unblamed-requires
-unblamed-requires c κs = search needs
 
 pack-requires : tie.Need-pack-requires
 pack-requires c κs =
@@ -21,14 +15,8 @@ pack-requires c κs =
     rw (c .unblamed .ensures, c .before .before .before .write-book .ensures .0)
     (written-packs (draftIn (now (a .first)) (now (a .second)) (a .m .draft)) (now (a .out)) (c .before .before .before .before .before .before .before .before .before .before .pre .count-fits (c .before .before .before .before .before .before .if1 .taken)))
 
-unblamed-requires-2 : tie.Need-unblamed-requires-2
-unblamed-requires-2 c κs = search needs
-
 pack-requires-2 : tie.Need-pack-requires-2
 pack-requires-2 c κs = rw (c .unblamed2 .ensures) (plain-packs 12 0 (omega arith) (omega arith))
-
-same-length : tie.Need-same-length
-same-length c = search needs
 
 returns : tie.Need-returns
 returns c =
@@ -43,11 +31,11 @@ pub finish-spec : {M : Type 1} → statement M
 finish-spec =
     tie.close
     (tie.spec
-    write-book-requires
-    unblamed-requires
+    (λ c κs. search needs)
+    (λ c κs. search needs)
     pack-requires
-    unblamed-requires-2
+    (λ c κs. search needs)
     pack-requires-2
-    same-length
+    (λ c. search needs)
     returns
     returns-2)

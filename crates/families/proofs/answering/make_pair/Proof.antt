@@ -3,24 +3,6 @@ use borrow.Author.Needs.{needs}
 use Rattle.families.proofs.answering.make_pair.Statement.{statement}
 use Rattle.families.proofs.answering.make_pair.Tie as tie
 
-enum-told : tie.Need-enum-told
-enum-told c = search needs
-
-make-either-of-requires : tie.Need-make-either-of-requires
-make-either-of-requires c κs = search needs
-
-enum-told-2 : tie.Need-enum-told-2
-enum-told-2 c = search needs
-
-make-joined-requires : tie.Need-make-joined-requires
-make-joined-requires c κs = search needs
-
-enum-told-3 : tie.Need-enum-told-3
-enum-told-3 c = search needs
-
-make-joined-requires-2 : tie.Need-make-joined-requires-2
-make-joined-requires-2 c κs = search needs
-
 returns : tie.Need-returns
 returns c = rw (c .before .enum-told .given .1) (c .make-either-of .ensures)
 
@@ -34,12 +16,12 @@ pub make-pair-spec : {M : Type 1} → statement M
 make-pair-spec =
     tie.close
     (tie.spec
-    enum-told
-    make-either-of-requires
-    enum-told-2
-    make-joined-requires
-    enum-told-3
-    make-joined-requires-2
+    (λ c. search needs)
+    (λ c κs. search needs)
+    (λ c. search needs)
+    (λ c κs. search needs)
+    (λ c. search needs)
+    (λ c κs. search needs)
     returns
     returns-2
     returns-3)

@@ -3,36 +3,6 @@ use borrow.Author.Needs.{needs}
 use Rattle.families.proofs.answering.make_single.Statement.{statement}
 use Rattle.families.proofs.answering.make_single.Tie as tie
 
-enum-told : tie.Need-enum-told
-enum-told c = search needs
-
-make-repeated-requires : tie.Need-make-repeated-requires
-make-repeated-requires c κs = search needs
-
-enum-told-2 : tie.Need-enum-told-2
-enum-told-2 c = search needs
-
-make-repeated-requires-2 : tie.Need-make-repeated-requires-2
-make-repeated-requires-2 c κs = search needs
-
-enum-told-3 : tie.Need-enum-told-3
-enum-told-3 c = search needs
-
-make-changed-requires : tie.Need-make-changed-requires
-make-changed-requires c κs = search needs
-
-enum-told-4 : tie.Need-enum-told-4
-enum-told-4 c = search needs
-
-make-changed-requires-2 : tie.Need-make-changed-requires-2
-make-changed-requires-2 c κs = search needs
-
-enum-told-5 : tie.Need-enum-told-5
-enum-told-5 c = search needs
-
-make-changed-requires-3 : tie.Need-make-changed-requires-3
-make-changed-requires-3 c κs = search needs
-
 returns : tie.Need-returns
 returns c = rw (c .before .enum-told .given .1) (c .make-repeated .ensures)
 
@@ -52,16 +22,16 @@ pub make-single-spec : {M : Type 1} → statement M
 make-single-spec =
     tie.close
     (tie.spec
-    enum-told
-    make-repeated-requires
-    enum-told-2
-    make-repeated-requires-2
-    enum-told-3
-    make-changed-requires
-    enum-told-4
-    make-changed-requires-2
-    enum-told-5
-    make-changed-requires-3
+    (λ c. search needs)
+    (λ c κs. search needs)
+    (λ c. search needs)
+    (λ c κs. search needs)
+    (λ c. search needs)
+    (λ c κs. search needs)
+    (λ c. search needs)
+    (λ c κs. search needs)
+    (λ c. search needs)
+    (λ c κs. search needs)
     returns
     returns-2
     returns-3

@@ -4,20 +4,14 @@ use mathlib.Core.List.{List}
 use native.Mathlib.Omega.{arith}
 use denote.Ref.{now}
 use Rattle.books.specs.Contents.{Contents}
-use Rattle.books.specs.Held.{contentsIn}
-use Rattle.families.specs.Lent.{Lent}
-use Rattle.families.specs.Calls.{alone}
+use Rattle.books.specs.ContentsIn.{contentsIn}
+use Rattle.families.specs.inner.Lent.{Lent}
+use Rattle.families.specs.inner.Calls.{alone}
 use Rattle.families.proofs.Reading.{read-lent, read-accepted, blamed-packs, blamed-leaves}
 use Rattle.families.proofs.Finishing.{alone-keeps, finishes, finished-leaves}
 use borrow.Author.Needs.{needs}
 use Rattle.families.proofs.answering.on_one.Statement.{statement}
 use Rattle.families.proofs.answering.on_one.Tie as tie
-
-read-book-requires : tie.Need-read-book-requires
-read-book-requires c κs = search needs
-
-blame-requires : tie.Need-blame-requires
-blame-requires c κs = search needs
 
 pack-requires : tie.Need-pack-requires
 pack-requires c κs = blamed-packs (now (c .before .before .before .before .before .before .before .args .book)) _ (c .before .before .before .before .read-book .ensures) 1 _ (c .blame .ensures) (omega arith)
@@ -40,9 +34,6 @@ finish-requires c κs =
     finishes s s (alone (a .single) book) (c .before .make-single .result) (c .before .make-single .ensures s s)
     (alone-keeps (a .single) book (book-lent (c .before .before) .keeps))
 
-same-length : tie.Need-same-length
-same-length c = search needs
-
 returns-2 : tie.Need-returns-2
 returns-2 c =
     let a = c .before .before .before .before .before .before .before .before .before .before .before .before .args in
@@ -56,11 +47,11 @@ pub on-one-spec : {M : Type 1} → statement M
 on-one-spec =
     tie.close
     (tie.spec
-    read-book-requires
-    blame-requires
+    (λ c κs. search needs)
+    (λ c κs. search needs)
     pack-requires
     returns
     make-single-requires
     finish-requires
-    same-length
+    (λ c. search needs)
     returns-2)

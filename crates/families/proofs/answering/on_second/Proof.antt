@@ -2,20 +2,14 @@
 use native.Mathlib.Omega.{arith}
 use denote.Ref.{now}
 use Rattle.books.specs.Contents.{Contents}
-use Rattle.books.specs.Held.{contentsIn}
-use Rattle.families.specs.Lent.{Lent}
-use Rattle.families.specs.Calls.{paired}
+use Rattle.books.specs.ContentsIn.{contentsIn}
+use Rattle.families.specs.inner.Lent.{Lent}
+use Rattle.families.specs.inner.Calls.{paired}
 use Rattle.families.proofs.Reading.{read-lent, read-accepted, blamed-packs, blamed-leaves}
 use Rattle.families.proofs.Finishing.{paired-keeps, finishes, finished-leaves}
 use borrow.Author.Needs.{needs}
 use Rattle.families.proofs.answering.on_second.Statement.{statement}
 use Rattle.families.proofs.answering.on_second.Tie as tie
-
-read-book-requires : tie.Need-read-book-requires
-read-book-requires c κs = search needs
-
-blame-requires : tie.Need-blame-requires
-blame-requires c κs = search needs
 
 pack-requires : tie.Need-pack-requires
 pack-requires c κs = blamed-packs (now (c .before .before .before .before .before .before .before .before .args .second)) _ (c .before .before .before .before .read-book .ensures) 2 _ (c .blame .ensures) (omega arith)
@@ -38,9 +32,6 @@ finish-requires c κs =
     finishes (now (a .first)) (now (a .second)) (paired (a .pairing) first second) (c .before .make-pair .result) (c .before .make-pair .ensures)
     (paired-keeps (a .pairing) first second (c .before .before .before .before .before .before .before .before .before .before .pre .keeps) (second-lent (c .before .before) .keeps))
 
-same-length : tie.Need-same-length
-same-length c = search needs
-
 returns-2 : tie.Need-returns-2
 returns-2 c =
     let a = c .before .before .before .before .before .before .before .before .before .before .before .before .before .args in
@@ -55,11 +46,11 @@ pub on-second-spec : {M : Type 1} → statement M
 on-second-spec =
     tie.close
     (tie.spec
-    read-book-requires
-    blame-requires
+    (λ c κs. search needs)
+    (λ c κs. search needs)
     pack-requires
     returns
     make-pair-requires
     finish-requires
-    same-length
+    (λ c. search needs)
     returns-2)

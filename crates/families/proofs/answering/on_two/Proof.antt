@@ -2,17 +2,11 @@
 use native.Mathlib.Omega.{arith}
 use denote.Ref.{now}
 use Rattle.families.specs.Outcome.{onSecond}
-use Rattle.families.specs.Calls.{paired}
+use Rattle.families.specs.inner.Calls.{paired}
 use Rattle.families.proofs.Reading.{read-lent, read-accepted, blamed-packs, blamed-leaves}
 use borrow.Author.Needs.{needs}
 use Rattle.families.proofs.answering.on_two.Statement.{statement}
 use Rattle.families.proofs.answering.on_two.Tie as tie
-
-read-book-requires : tie.Need-read-book-requires
-read-book-requires c κs = search needs
-
-blame-requires : tie.Need-blame-requires
-blame-requires c κs = search needs
 
 pack-requires : tie.Need-pack-requires
 pack-requires c κs = blamed-packs (now (c .before .before .before .before .before .before .before .before .args .first)) _ (c .before .before .before .before .read-book .ensures) 1 _ (c .blame .ensures) (omega arith)
@@ -22,9 +16,6 @@ returns c = blamed-leaves (now (c .before .before .before .before .before .befor
 
 on-second-requires : tie.Need-on-second-requires
 on-second-requires c κs = read-lent (now (c .before .before .before .before .before .before .before .before .before .args .first)) _ (c .before .before .before .before .before .read-book .ensures) (λ i. c .before .before .before .before .before .before .before .before .shared-slice-known .given i .fits) (c .before .before .if1 .left)
-
-same-length : tie.Need-same-length
-same-length c = search needs
 
 returns-2 : tie.Need-returns-2
 returns-2 c =
@@ -36,10 +27,10 @@ pub on-two-spec : {M : Type 1} → statement M
 on-two-spec =
     tie.close
     (tie.spec
-    read-book-requires
-    blame-requires
+    (λ c κs. search needs)
+    (λ c κs. search needs)
     pack-requires
     returns
     on-second-requires
-    same-length
+    (λ c. search needs)
     returns-2)

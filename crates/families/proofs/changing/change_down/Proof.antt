@@ -3,15 +3,6 @@ use borrow.Author.Needs.{needs}
 use Rattle.families.proofs.changing.change_down.Statement.{statement}
 use Rattle.families.proofs.changing.change_down.Tie as tie
 
-enum-told : tie.Need-enum-told
-enum-told c = search needs
-
-enum-told-2 : tie.Need-enum-told-2
-enum-told-2 c = search needs
-
-enum-told-3 : tie.Need-enum-told-3
-enum-told-3 c = search needs
-
 returns : tie.Need-returns
 returns c = simp (c .enum-told .given .1)
 
@@ -23,4 +14,4 @@ returns-3 c = simp (c .enum-told3 .given .1)
 
 pub change-down-spec : {M : Type 1} → statement M
 change-down-spec =
-    tie.close (tie.spec enum-told enum-told-2 enum-told-3 returns returns-2 returns-3)
+    tie.close (tie.spec (λ c. search needs) (λ c. search needs) (λ c. search needs) returns returns-2 returns-3)

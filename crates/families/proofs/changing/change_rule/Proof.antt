@@ -2,10 +2,10 @@
 use Prim.Native.Nat.{ℕ}
 use mathlib.Core.Path.{_≡_, refl}
 use Rattle.books.specs.declared.rule.Body.the-variants.{Colour}
-use Rattle.families.specs.Changed.{changedBody}
+use Rattle.families.specs.inner.Changed.{changedBody}
 use Rattle.families.specs.declared.changing.Change.{Change}
 use Rattle.families.specs.declared.changing.Change.the-variants.{Mirrored, Flipped, Transposed}
-use Rattle.families.specs.Changed.{changedRule}
+use Rattle.families.specs.inner.Changed.{changedRule}
 use borrow.Author.Needs.{needs}
 use Rattle.families.proofs.changing.change_rule.Statement.{statement}
 use Rattle.families.proofs.changing.change_rule.Tie as tie
@@ -15,21 +15,6 @@ colour-stays : (k : Change) (x : ℕ) → changedBody k (Colour x) ≡ Colour x
 colour-stays Mirrored x = refl
 colour-stays Flipped x = refl
 colour-stays Transposed x = refl
-
-enum-known-body : tie.Need-enum-known-body
-enum-known-body c = search needs
-
-enum-known-body-2 : tie.Need-enum-known-body-2
-enum-known-body-2 c = search needs
-
-change-across-requires : tie.Need-change-across-requires
-change-across-requires c κs = search needs
-
-enum-known-body-3 : tie.Need-enum-known-body-3
-enum-known-body-3 c = search needs
-
-change-down-requires : tie.Need-change-down-requires
-change-down-requires c κs = search needs
 
 returns : tie.Need-returns
 unfolding changedRule
@@ -47,11 +32,11 @@ pub change-rule-spec : {M : Type 1} → statement M
 change-rule-spec =
     tie.close
     (tie.spec
-    enum-known-body
-    enum-known-body-2
-    change-across-requires
-    enum-known-body-3
-    change-down-requires
+    (λ c. search needs)
+    (λ c. search needs)
+    (λ c κs. search needs)
+    (λ c. search needs)
+    (λ c κs. search needs)
     returns
     returns-2
     returns-3)

@@ -5,8 +5,8 @@ use mathlib.Core.List.{map}
 use native.Mathlib.Omega.{arith}
 use lib.ListN.{drop}
 use lib.Seq.{sets}
-use Rattle.families.specs.Gathered.{standing}
-use Rattle.families.specs.Changed.{changedRule}
+use Rattle.families.specs.inner.Gathered.{standing}
+use Rattle.families.specs.inner.Changed.{changedRule}
 use Rattle.families.proofs.AddingRules.{one-written, left-next, left-none}
 use Rattle.families.proofs.changing.change_rules.Statement.{statement}
 use Rattle.families.proofs.changing.change_rules.Tie as tie
@@ -19,27 +19,6 @@ abbrev μ-loop : tie.MeasureT-loop
 
 loop-holds : tie.Need-loop-holds Inv-loop μ-loop
 loop-holds c = (omega arith, refl)
-
-mul-change-rule : tie.Need-mul-change-rule Inv-loop μ-loop
-mul-change-rule c = omega arith
-
-element-copy-out-change-rule : tie.Need-element-copy-out-change-rule Inv-loop μ-loop
-element-copy-out-change-rule c = omega arith
-
-change-rule-requires : tie.Need-change-rule-requires Inv-loop μ-loop
-change-rule-requires c κs = tt
-
-mul-rules : tie.Need-mul-rules Inv-loop μ-loop
-mul-rules c = omega arith
-
-array-set-from-rules : tie.Need-array-set-from-rules Inv-loop μ-loop
-array-set-from-rules c = omega arith
-
-add-i : tie.Need-add-i Inv-loop μ-loop
-add-i c = omega arith
-
-loop-less : tie.Need-loop-less Inv-loop μ-loop
-loop-less c = omega arith
 
 loop-again : tie.Need-loop-again Inv-loop μ-loop
 loop-again c =
@@ -60,12 +39,12 @@ change-rules-spec =
     Inv-loop
     μ-loop
     loop-holds
-    mul-change-rule
-    element-copy-out-change-rule
-    change-rule-requires
-    mul-rules
-    array-set-from-rules
-    add-i
-    loop-less
+    (λ c. omega arith)
+    (λ c. omega arith)
+    (λ c κs. tt)
+    (λ c. omega arith)
+    (λ c. omega arith)
+    (λ c. omega arith)
+    (λ c. omega arith)
     loop-again
     returns)

@@ -3,20 +3,14 @@ use Prim.Native.Nat.{_+_}
 use mathlib.Core.Path.{_≡_}
 use native.Mathlib.Omega.{arith}
 use Rattle.families.specs.Combine.{copies}
-use Rattle.families.specs.Gathered.{standing, followed, raisedBy}
-use Rattle.families.specs.Lent.{rulesOf}
-use Rattle.families.specs.Combined.{raisedRules, bothRules, eitherRules}
+use Rattle.families.specs.inner.Gathered.{standing, followed, raisedBy}
+use Rattle.families.specs.inner.Lent.{rulesOf}
+use Rattle.families.specs.inner.Combined.{raisedRules, bothRules, eitherRules}
 use Rattle.families.proofs.Counting.{copies-length}
 use Rattle.families.proofs.AddingRules.{changed-rows, changed-count, headed-raised}
 use borrow.Author.Needs.{needs}
 use Rattle.families.proofs.combining.either_rules.Statement.{statement}
 use Rattle.families.proofs.combining.either_rules.Tie as tie
-
-rules-of-requires : tie.Need-rules-of-requires
-rules-of-requires c κs = search needs
-
-rules-of-requires-2 : tie.Need-rules-of-requires-2
-rules-of-requires-2 c κs = search needs
 
 raise-rules-requires : tie.Need-raise-rules-requires
 raise-rules-requires c κs = let p = c .before .before .pre in rw (c .rules-of2 .ensures) (p .0 .motifs-few, p .1 .sized .rows, p .1 .fits)
@@ -33,9 +27,6 @@ both c = simp (risen (c .before .before .before), c .before .before .before .bef
 longer : (c : tie.After-add-copies) → let a = c .before .before .before .before .before .before .before .args in
     c .add-copies .result ≡ followed (bothRules (a .f) (a .g) (a .numbers)) (copies (a .f .motifs + a .g .motifs) (a .f .start) (standing (rulesOf (a .f))))
 longer c = simp (both (c .before), c .before .before .before .before .before .before .rules-of .ensures) at (c .add-copies .ensures)
-
-add-start : tie.Need-add-start
-add-start c = search needs
 
 add-rules-requires : tie.Need-add-rules-requires
 add-rules-requires c κs =
@@ -75,10 +66,10 @@ pub either-rules-spec : {M : Type 1} → statement M
 either-rules-spec =
     tie.close
     (tie.spec
-    rules-of-requires
-    rules-of-requires-2
+    (λ c κs. search needs)
+    (λ c κs. search needs)
     raise-rules-requires
-    add-start
+    (λ c. search needs)
     add-rules-requires
     add-copies-requires
     add-add-copies

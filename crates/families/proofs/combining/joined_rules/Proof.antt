@@ -1,22 +1,16 @@
 -- The raised rules stand after the first family's, and the joining rule after them: there is room for all.
 use mathlib.Core.Path.{_≡_}
 use native.Mathlib.Omega.{arith}
-use Rattle.families.specs.Gathered.{raisedBy}
-use Rattle.families.specs.Lent.{rulesOf}
-use Rattle.families.specs.Combined.{bothRules, joinedRules}
+use Rattle.families.specs.inner.Gathered.{raisedBy}
+use Rattle.families.specs.inner.Lent.{rulesOf}
+use Rattle.families.specs.inner.Combined.{bothRules, joinedRules}
 use Rattle.families.proofs.AddingRules.{changed-rows, changed-count}
 use borrow.Author.Needs.{needs}
 use Rattle.families.proofs.combining.joined_rules.Statement.{statement}
 use Rattle.families.proofs.combining.joined_rules.Tie as tie
 
-rules-of-requires : tie.Need-rules-of-requires
-rules-of-requires c κs = search needs
-
 raise-rules-requires : tie.Need-raise-rules-requires
 raise-rules-requires c κs = let p = c .before .pre in rw (c .rules-of .ensures) (p .0 .motifs-few, p .1 .sized .rows, p .1 .fits)
-
-rules-of-requires-2 : tie.Need-rules-of-requires-2
-rules-of-requires-2 c κs = search needs
 
 add-rules-requires : tie.Need-add-rules-requires
 add-rules-requires c κs =
@@ -27,15 +21,6 @@ add-rules-requires c κs =
 -- both families' rules
 gathered : (c : tie.After-add-rules) → let a = c .before .before .before .before .args in c .add-rules .result ≡ bothRules (a .f) (a .g) (a .numbers)
 gathered c = simp (c .before .rules-of2 .ensures, c .before .before .raise-rules .ensures, c .before .before .before .rules-of .ensures) at (c .add-rules .ensures)
-
-add-start : tie.Need-add-start
-add-start c = search needs
-
-add-join-rule : tie.Need-add-join-rule
-add-join-rule c = search needs
-
-join-rule-requires : tie.Need-join-rule-requires
-join-rule-requires c κs = search needs
 
 add-rule-requires : tie.Need-add-rule-requires
 add-rule-requires c κs =
@@ -53,12 +38,12 @@ pub joined-rules-spec : {M : Type 1} → statement M
 joined-rules-spec =
     tie.close
     (tie.spec
-    rules-of-requires
+    (λ c κs. search needs)
     raise-rules-requires
-    rules-of-requires-2
+    (λ c κs. search needs)
     add-rules-requires
-    add-start
-    add-join-rule
-    join-rule-requires
+    (λ c. search needs)
+    (λ c. search needs)
+    (λ c κs. search needs)
     add-rule-requires
     returns)

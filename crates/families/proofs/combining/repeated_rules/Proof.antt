@@ -2,16 +2,13 @@
 use mathlib.Core.Path.{_≡_}
 use native.Mathlib.Omega.{arith}
 use Rattle.families.specs.Combine.{copies}
-use Rattle.families.specs.Gathered.{standing, followed}
-use Rattle.families.specs.Lent.{rulesOf}
-use Rattle.families.specs.Combined.{repeatedRules}
+use Rattle.families.specs.inner.Gathered.{standing, followed}
+use Rattle.families.specs.inner.Lent.{rulesOf}
+use Rattle.families.specs.inner.Combined.{repeatedRules}
 use Rattle.families.proofs.Counting.{copies-length}
 use borrow.Author.Needs.{needs}
 use Rattle.families.proofs.combining.repeated_rules.Statement.{statement}
 use Rattle.families.proofs.combining.repeated_rules.Tie as tie
-
-rules-of-requires : tie.Need-rules-of-requires
-rules-of-requires c κs = search needs
 
 add-copies-requires : tie.Need-add-copies-requires
 add-copies-requires c κs = let p = c .before .pre in simp (c .rules-of .ensures) (omega (arith, p .1), p .0 .rows, omega (arith, p .0 .motifs-few))
@@ -20,9 +17,6 @@ add-copies-requires c κs = let p = c .before .pre in simp (c .rules-of .ensures
 gathered : (c : tie.After-add-copies) → let f = c .before .before .args .f in
     c .add-copies .result ≡ followed (rulesOf f) (copies (f .motifs) (f .start) (standing (rulesOf f)))
 gathered c = simp (c .before .rules-of .ensures) at (c .add-copies .ensures)
-
-join-rule-requires : tie.Need-join-rule-requires
-join-rule-requires c κs = search needs
 
 add-rule-requires : tie.Need-add-rule-requires
 add-rule-requires c κs =
@@ -37,4 +31,4 @@ returns c = simp (gathered (c .before .before), c .before .join-rule .ensures) a
 pub repeated-rules-spec : {M : Type 1} → statement M
 repeated-rules-spec =
     tie.close
-    (tie.spec rules-of-requires add-copies-requires join-rule-requires add-rule-requires returns)
+    (tie.spec (λ c κs. search needs) add-copies-requires (λ c κs. search needs) add-rule-requires returns)

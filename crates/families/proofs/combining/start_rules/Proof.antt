@@ -3,9 +3,6 @@ use borrow.Author.Needs.{needs}
 use Rattle.families.proofs.combining.start_rules.Statement.{statement}
 use Rattle.families.proofs.combining.start_rules.Tie as tie
 
-rules-of-requires : tie.Need-rules-of-requires
-rules-of-requires c κs = search needs
-
 count-headed-requires : tie.Need-count-headed-requires
 count-headed-requires c κs = rw (c .rules-of .ensures) (c .before .pre .rows)
 
@@ -13,4 +10,4 @@ returns : tie.Need-returns
 returns c = rw (c .before .rules-of .ensures) at (c .count-headed .ensures)
 
 pub start-rules-spec : {M : Type 1} → statement M
-start-rules-spec = tie.close (tie.spec rules-of-requires count-headed-requires returns)
+start-rules-spec = tie.close (tie.spec (λ c κs. search needs) count-headed-requires returns)

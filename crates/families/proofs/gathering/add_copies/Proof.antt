@@ -7,7 +7,7 @@ use borrow.Author.Needs.{needs}
 use lib.ListN.{length, drop}
 use lib.Seq.{sets}
 use Rattle.families.specs.Combine.{copies}
-use Rattle.families.specs.Gathered.{standing}
+use Rattle.families.specs.inner.Gathered.{standing}
 use Rattle.families.proofs.Counting.{copies-length}
 use Rattle.families.proofs.AddingRules.{one-written, left-none, copies-here, copies-elsewhere}
 use Rattle.families.proofs.gathering.add_copies.Statement.{statement}
@@ -21,18 +21,6 @@ abbrev μ-loop : tie.MeasureT-loop
 
 loop-holds : tie.Need-loop-holds Inv-loop μ-loop
 loop-holds c = (omega arith, refl, refl)
-
-mul-rule : tie.Need-mul-rule Inv-loop μ-loop
-mul-rule c = omega arith
-
-element-copy-out-rule : tie.Need-element-copy-out-rule Inv-loop μ-loop
-element-copy-out-rule c = omega arith
-
-cast-if1 : tie.Need-cast-if1 Inv-loop μ-loop
-cast-if1 c = search needs
-
-cast-t17 : tie.Need-cast-t17 Inv-loop μ-loop
-cast-t17 c = omega arith
 
 -- a rule that is to be copied has a place
 placed : (c : tie.Then1 Inv-loop μ-loop) → c .before .before .before .before .loop .at < 200
@@ -51,12 +39,6 @@ array-set-from-rules c = omega (arith, placed c)
 
 add-at : tie.Need-add-at Inv-loop μ-loop
 add-at c = omega (arith, placed c)
-
-add-i : tie.Need-add-i Inv-loop μ-loop
-add-i c = omega arith
-
-loop-less : tie.Need-loop-less Inv-loop μ-loop
-loop-less c = omega arith
 
 loop-again : tie.Need-loop-again Inv-loop μ-loop
 loop-again c =
@@ -89,14 +71,14 @@ add-copies-spec =
     Inv-loop
     μ-loop
     loop-holds
-    mul-rule
-    element-copy-out-rule
-    cast-if1
-    cast-t17
+    (λ c. omega arith)
+    (λ c. omega arith)
+    (λ c. search needs)
+    (λ c. omega arith)
     mul-rules
     array-set-from-rules
     add-at
-    add-i
-    loop-less
+    (λ c. omega arith)
+    (λ c. omega arith)
     loop-again
     returns)

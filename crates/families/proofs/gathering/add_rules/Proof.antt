@@ -5,7 +5,7 @@ use native.Mathlib.Omega.{arith}
 use native.Mathlib.Nat.{add-zero}
 use lib.ListN.{drop}
 use lib.Seq.{sets}
-use Rattle.families.specs.Gathered.{standing}
+use Rattle.families.specs.inner.Gathered.{standing}
 use Rattle.families.proofs.AddingRules.{next-place, one-written, standing-length, left-next, left-none}
 use Rattle.families.proofs.gathering.add_rules.Statement.{statement}
 use Rattle.families.proofs.gathering.add_rules.Tie as tie
@@ -19,36 +19,12 @@ abbrev μ-loop : tie.MeasureT-loop
 loop-holds : tie.Need-loop-holds Inv-loop μ-loop
 loop-holds c = (omega arith, rw (add-zero (c .before .args .l .count)))
 
-mul-rules : tie.Need-mul-rules Inv-loop μ-loop
-mul-rules c = omega arith
-
-element-copy-out-rules : tie.Need-element-copy-out-rules Inv-loop μ-loop
-element-copy-out-rules c = omega arith
-
-add-rules : tie.Need-add-rules Inv-loop μ-loop
-add-rules c = omega arith
-
-mul-rules-2 : tie.Need-mul-rules-2 Inv-loop μ-loop
-mul-rules-2 c = omega arith
-
-array-set-from-rules : tie.Need-array-set-from-rules Inv-loop μ-loop
-array-set-from-rules c = omega arith
-
-add-i : tie.Need-add-i Inv-loop μ-loop
-add-i c = omega arith
-
-loop-less : tie.Need-loop-less Inv-loop μ-loop
-loop-less c = omega arith
-
 loop-again : tie.Need-loop-again Inv-loop μ-loop
 loop-again c =
     let less = c .before .loop-test .taken in
     let l = c .before .before .loop in
     let a = c .before .before .before .before .args in
     (omega arith, simp (next-place, one-written) (simp (left-next (a .t2) (c .before .before .before .before .pre .1) (l .i) less) at (l .inv .1)))
-
-add-t17 : tie.Need-add-t17 Inv-loop μ-loop
-add-t17 c = omega arith
 
 returns : tie.Need-returns Inv-loop μ-loop
 returns c =
@@ -64,13 +40,13 @@ add-rules-spec =
     Inv-loop
     μ-loop
     loop-holds
-    mul-rules
-    element-copy-out-rules
-    add-rules
-    mul-rules-2
-    array-set-from-rules
-    add-i
-    loop-less
+    (λ c. omega arith)
+    (λ c. omega arith)
+    (λ c. omega arith)
+    (λ c. omega arith)
+    (λ c. omega arith)
+    (λ c. omega arith)
+    (λ c. omega arith)
     loop-again
-    add-t17
+    (λ c. omega arith)
     returns)

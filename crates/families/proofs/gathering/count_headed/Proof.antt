@@ -5,8 +5,8 @@ use mathlib.Core.Logic.{⊎-elim}
 use native.Mathlib.Omega.{arith}
 use borrow.Author.Needs.{needs}
 use lib.ListN.{drop}
-use Rattle.families.specs.Counts.{headed}
-use Rattle.families.specs.Gathered.{standing}
+use Rattle.families.specs.inner.Counts.{headed}
+use Rattle.families.specs.inner.Gathered.{standing}
 use Rattle.families.proofs.AddingRules.{left-none, headed-here, headed-elsewhere}
 use Rattle.families.proofs.gathering.count_headed.Statement.{statement}
 use Rattle.families.proofs.gathering.count_headed.Tie as tie
@@ -16,27 +16,6 @@ Inv-loop head k count n₀ i₀ n i = (i ≤ count) × (n ≤ i) × (n + headed 
 
 abbrev μ-loop : tie.MeasureT-loop
 μ-loop head k count n₀ i₀ n i = count - i
-
-loop-holds : tie.Need-loop-holds Inv-loop μ-loop
-loop-holds c = omega arith
-
-mul-rule : tie.Need-mul-rule Inv-loop μ-loop
-mul-rule c = omega arith
-
-element-copy-out-rule : tie.Need-element-copy-out-rule Inv-loop μ-loop
-element-copy-out-rule c = omega arith
-
-cast-if1 : tie.Need-cast-if1 Inv-loop μ-loop
-cast-if1 c = search needs
-
-add-n : tie.Need-add-n Inv-loop μ-loop
-add-n c = omega arith
-
-add-i : tie.Need-add-i Inv-loop μ-loop
-add-i c = omega arith
-
-loop-less : tie.Need-loop-less Inv-loop μ-loop
-loop-less c = omega arith
 
 loop-again : tie.Need-loop-again Inv-loop μ-loop
 loop-again c =
@@ -62,12 +41,12 @@ count-headed-spec =
     (tie.spec
     Inv-loop
     μ-loop
-    loop-holds
-    mul-rule
-    element-copy-out-rule
-    cast-if1
-    add-n
-    add-i
-    loop-less
+    (λ c. omega arith)
+    (λ c. omega arith)
+    (λ c. omega arith)
+    (λ c. search needs)
+    (λ c. omega arith)
+    (λ c. omega arith)
+    (λ c. omega arith)
     loop-again
     returns)

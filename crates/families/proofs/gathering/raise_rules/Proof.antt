@@ -5,7 +5,7 @@ use mathlib.Core.List.{map}
 use native.Mathlib.Omega.{arith}
 use lib.ListN.{drop}
 use lib.Seq.{sets}
-use Rattle.families.specs.Gathered.{standing, raisedBy}
+use Rattle.families.specs.inner.Gathered.{standing, raisedBy}
 use Rattle.families.proofs.AddingRules.{one-written, left-next, left-none, rule-stands}
 use Rattle.families.proofs.gathering.raise_rules.Statement.{statement}
 use Rattle.families.proofs.gathering.raise_rules.Tie as tie
@@ -19,29 +19,11 @@ abbrev μ-loop : tie.MeasureT-loop
 loop-holds : tie.Need-loop-holds Inv-loop μ-loop
 loop-holds c = (omega arith, refl)
 
-mul-raised-rule : tie.Need-mul-raised-rule Inv-loop μ-loop
-mul-raised-rule c = omega arith
-
-element-copy-out-raised-rule : tie.Need-element-copy-out-raised-rule Inv-loop μ-loop
-element-copy-out-raised-rule c = omega arith
-
 raised-rule-requires : tie.Need-raised-rule-requires Inv-loop μ-loop
 raised-rule-requires c κs =
     let a = c .before .before .before .before .args in
     let p = c .before .before .before .before .pre in
     (p .0, p .2 _ (rule-stands (a .t1) (p .1) (c .before .before .loop .i) (c .before .loop-test .taken)))
-
-mul-rules : tie.Need-mul-rules Inv-loop μ-loop
-mul-rules c = omega arith
-
-array-set-from-rules : tie.Need-array-set-from-rules Inv-loop μ-loop
-array-set-from-rules c = omega arith
-
-add-i : tie.Need-add-i Inv-loop μ-loop
-add-i c = omega arith
-
-loop-less : tie.Need-loop-less Inv-loop μ-loop
-loop-less c = omega arith
 
 loop-again : tie.Need-loop-again Inv-loop μ-loop
 loop-again c =
@@ -62,12 +44,12 @@ raise-rules-spec =
     Inv-loop
     μ-loop
     loop-holds
-    mul-raised-rule
-    element-copy-out-raised-rule
+    (λ c. omega arith)
+    (λ c. omega arith)
     raised-rule-requires
-    mul-rules
-    array-set-from-rules
-    add-i
-    loop-less
+    (λ c. omega arith)
+    (λ c. omega arith)
+    (λ c. omega arith)
+    (λ c. omega arith)
     loop-again
     returns)

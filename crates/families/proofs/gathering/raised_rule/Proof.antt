@@ -1,36 +1,18 @@
 -- Raised motifs and a colour's number fit a byte, since the rule fits the greatest counts.
 use native.Mathlib.Omega.{arith}
-use Rattle.families.specs.Gathered.{raisedBy}
+use Rattle.families.specs.inner.Gathered.{raisedBy}
 use borrow.Author.Needs.{needs}
 use Rattle.families.proofs.gathering.raised_rule.Statement.{statement}
 use Rattle.families.proofs.gathering.raised_rule.Tie as tie
 
-cast-up : tie.Need-cast-up
-cast-up c = search needs
-
-add-head : tie.Need-add-head
-add-head c = search needs
-
-enum-known-body : tie.Need-enum-known-body
-enum-known-body c = search needs
-
-cast-t14 : tie.Need-cast-t14
-cast-t14 c = search needs
-
 array-read-t17 : tie.Need-array-read-t17
 array-read-t17 c = simp (c .before .body .given .1) at (c .before .before .before .before .pre .1 .body-fits)
-
-enum-known-body-2 : tie.Need-enum-known-body-2
-enum-known-body-2 c = search needs
 
 add-t19 : tie.Need-add-t19
 add-t19 c = let fits = simp (c .before .body2 .given .1) at (c .before .before .before .before .pre .1 .body-fits) in omega (arith, fits, c .before .before .before .before .pre .0)
 
 add-t20 : tie.Need-add-t20
 add-t20 c = let fits = simp (c .before .body2 .given .1) at (c .before .before .before .before .pre .1 .body-fits) in omega (arith, fits, c .before .before .before .before .pre .0)
-
-enum-known-body-3 : tie.Need-enum-known-body-3
-enum-known-body-3 c = search needs
 
 add-t22 : tie.Need-add-t22
 add-t22 c = let fits = simp (c .before .body3 .given .1) at (c .before .before .before .before .pre .1 .body-fits) in omega (arith, fits, c .before .before .before .before .pre .0)
@@ -54,15 +36,15 @@ pub raised-rule-spec : {M : Type 1} → statement M
 raised-rule-spec =
     tie.close
     (tie.spec
-    cast-up
-    add-head
-    enum-known-body
-    cast-t14
+    (λ c. search needs)
+    (λ c. search needs)
+    (λ c. search needs)
+    (λ c. search needs)
     array-read-t17
-    enum-known-body-2
+    (λ c. search needs)
     add-t19
     add-t20
-    enum-known-body-3
+    (λ c. search needs)
     add-t22
     add-t23
     returns

@@ -1,21 +1,12 @@
 -- No count changes, and the draft has the changed rules.
-use Rattle.families.specs.Changed.{changedBody, changedRule}
+use Rattle.families.specs.inner.Changed.{changedBody, changedRule}
 use Rattle.families.proofs.Drafts.{rebodied-makes}
 use borrow.Author.Needs.{needs}
 use Rattle.families.proofs.making.make_changed.Statement.{statement}
 use Rattle.families.proofs.making.make_changed.Tie as tie
 
-rules-of-requires : tie.Need-rules-of-requires
-rules-of-requires c κs = search needs
-
 change-rules-requires : tie.Need-change-rules-requires
 change-rules-requires c κs = rw (c .rules-of .ensures) (c .before .pre .rows)
-
-no-colours-requires : tie.Need-no-colours-requires
-no-colours-requires c κs = search needs
-
-drafting-requires : tie.Need-drafting-requires
-drafting-requires c κs = search needs
 
 returns : tie.Need-returns
 unfolding changedRule
@@ -28,8 +19,8 @@ pub make-changed-spec : {M : Type 1} → statement M
 make-changed-spec =
     tie.close
     (tie.spec
-    rules-of-requires
+    (λ c κs. search needs)
     change-rules-requires
-    no-colours-requires
-    drafting-requires
+    (λ c κs. search needs)
+    (λ c κs. search needs)
     returns)

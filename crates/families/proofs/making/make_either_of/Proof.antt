@@ -3,11 +3,11 @@ use Prim.Native.Nat.{_+_, _≤_}
 use mathlib.Core.Path.{_≡_, sym, _∙_}
 use native.Mathlib.Omega.{arith}
 use denote.Ref.{now}
-use Rattle.books.specs.Held.{contentsIn}
+use Rattle.books.specs.ContentsIn.{contentsIn}
 use Rattle.families.specs.Combine.{either-of}
-use Rattle.families.specs.Counts.{headed}
-use Rattle.families.specs.Gathered.{standing}
-use Rattle.families.specs.Lent.{rulesOf}
+use Rattle.families.specs.inner.Counts.{headed}
+use Rattle.families.specs.inner.Gathered.{standing}
+use Rattle.families.specs.inner.Lent.{rulesOf}
 use Rattle.families.specs.Within.{few?, within?}
 use Rattle.families.proofs.Testing.{few-true}
 use Rattle.families.proofs.Counting.{headed-few}
@@ -17,24 +17,6 @@ use Rattle.families.proofs.DraftsOfTwo.{either-of-test, either-of-makes
 use borrow.Author.Needs.{needs}
 use Rattle.families.proofs.making.make_either_of.Statement.{statement}
 use Rattle.families.proofs.making.make_either_of.Tie as tie
-
-merge-requires : tie.Need-merge-requires
-merge-requires c κs = search needs
-
-add-start : tie.Need-add-start
-add-start c = search needs
-
-start-rules-requires : tie.Need-start-rules-requires
-start-rules-requires c κs = search needs
-
-start-rules-requires-2 : tie.Need-start-rules-requires-2
-start-rules-requires-2 c κs = search needs
-
-add-within : tie.Need-add-within
-add-within c = search needs
-
-add-within-2 : tie.Need-add-within-2
-add-within-2 c = search needs
 
 -- the counts of rules are small
 counted : (c : tie.After-struct-known6) → let a = c .before .before .before .before .before .before .before .before .before .before .before .before .args in
@@ -61,9 +43,6 @@ add-within-4 c = omega (arith, counted c)
 add-within-5 : tie.Need-add-within-5
 add-within-5 c = omega (arith, counted c)
 
-within-requires : tie.Need-within-requires
-within-requires c κs = search needs
-
 -- the test, and what it says where it holds
 counts : (c : tie.After-within) → let a = c .before .before .before .before .before .before .before .before .before .before .before .before .before .args in
     c .within .result
@@ -88,12 +67,6 @@ either-rules-requires c κs = let p = c .before .before .before .before .before 
 add-drafting : tie.Need-add-drafting
 add-drafting c = let p = c .before .before .before .before .before .before .before .before .before .before .before .before .before .before .before .before .pre in omega (arith, p .0 .fitted .sized .motifs-few, p .1 .fitted .sized .motifs-few)
 
-drafting-requires : tie.Need-drafting-requires
-drafting-requires c κs = search needs
-
-exceeding-requires : tie.Need-exceeding-requires
-exceeding-requires c κs = search needs
-
 returns : tie.Need-returns
 returns c =
     let a = c .before .before .before .before .before .before .before .before .before .before .before .before .before .before .before .before .before .args in
@@ -110,19 +83,19 @@ pub make-either-of-spec : {M : Type 1} → statement M
 make-either-of-spec =
     tie.close
     (tie.spec
-    merge-requires
-    add-start
-    start-rules-requires
-    start-rules-requires-2
-    add-within
-    add-within-2
+    (λ c κs. search needs)
+    (λ c. search needs)
+    (λ c κs. search needs)
+    (λ c κs. search needs)
+    (λ c. search needs)
+    (λ c. search needs)
     add-within-3
     add-within-4
     add-within-5
-    within-requires
+    (λ c κs. search needs)
     either-rules-requires
     add-drafting
-    drafting-requires
-    exceeding-requires
+    (λ c κs. search needs)
+    (λ c κs. search needs)
     returns
     returns-2)

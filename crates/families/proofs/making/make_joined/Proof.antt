@@ -3,9 +3,9 @@ use Prim.Native.Nat.{_+_, _≤_}
 use mathlib.Core.Path.{_≡_, sym, _∙_}
 use native.Mathlib.Omega.{arith}
 use denote.Ref.{now}
-use Rattle.books.specs.Held.{contentsIn}
+use Rattle.books.specs.ContentsIn.{contentsIn}
 use Rattle.families.specs.Combine.{joined}
-use Rattle.families.specs.Changed.{direction}
+use Rattle.families.specs.inner.Changed.{direction}
 use Rattle.families.specs.Within.{within?}
 use Rattle.families.proofs.Testing.{few-true}
 use Rattle.families.proofs.Drafts.{exceeding-makes}
@@ -14,26 +14,11 @@ use borrow.Author.Needs.{needs}
 use Rattle.families.proofs.making.make_joined.Statement.{statement}
 use Rattle.families.proofs.making.make_joined.Tie as tie
 
-merge-requires : tie.Need-merge-requires
-merge-requires c κs = search needs
-
-add-start : tie.Need-add-start
-add-start c = search needs
-
-add-within : tie.Need-add-within
-add-within c = search needs
-
-add-within-2 : tie.Need-add-within-2
-add-within-2 c = search needs
-
 add-within-3 : tie.Need-add-within-3
 add-within-3 c = let p = c .before .before .before .before .before .before .before .before .before .before .pre in omega (arith, p .0 .fitted .sized .rows .few, p .1 .fitted .sized .rows .few)
 
 add-within-4 : tie.Need-add-within-4
 add-within-4 c = let p = c .before .before .before .before .before .before .before .before .before .before .pre in omega (arith, p .0 .fitted .sized .rows .few, p .1 .fitted .sized .rows .few)
-
-within-requires : tie.Need-within-requires
-within-requires c κs = search needs
 
 -- the test, and what it says where it holds
 tested : (c : tie.After-within) → let a = c .before .before .before .before .before .before .before .before .before .before .before .args in
@@ -52,12 +37,6 @@ joined-rules-requires c κs = let p = c .before .before .before .before .before 
 add-drafting : tie.Need-add-drafting
 add-drafting c = let p = c .before .before .before .before .before .before .before .before .before .before .before .before .before .before .pre in omega (arith, p .0 .fitted .sized .motifs-few, p .1 .fitted .sized .motifs-few)
 
-drafting-requires : tie.Need-drafting-requires
-drafting-requires c κs = search needs
-
-exceeding-requires : tie.Need-exceeding-requires
-exceeding-requires c κs = search needs
-
 returns : tie.Need-returns
 returns c =
     let a = c .before .before .before .before .before .before .before .before .before .before .before .before .before .before .before .args in
@@ -74,16 +53,16 @@ pub make-joined-spec : {M : Type 1} → statement M
 make-joined-spec =
     tie.close
     (tie.spec
-    merge-requires
-    add-start
-    add-within
-    add-within-2
+    (λ c κs. search needs)
+    (λ c. search needs)
+    (λ c. search needs)
+    (λ c. search needs)
     add-within-3
     add-within-4
-    within-requires
+    (λ c κs. search needs)
     joined-rules-requires
     add-drafting
-    drafting-requires
-    exceeding-requires
+    (λ c κs. search needs)
+    (λ c κs. search needs)
     returns
     returns-2)

@@ -3,12 +3,12 @@ use Prim.Native.Nat.{ℕ, _+_, _≤_}
 use mathlib.Core.Path.{_≡_, sym, _∙_}
 use mathlib.Core.List.{List}
 use native.Mathlib.Omega.{arith}
-use Rattle.books.specs.Held.{contentsIn}
+use Rattle.books.specs.ContentsIn.{contentsIn}
 use Rattle.families.specs.Combine.{repeated}
-use Rattle.families.specs.Changed.{direction}
-use Rattle.families.specs.Counts.{headed}
-use Rattle.families.specs.Gathered.{standing}
-use Rattle.families.specs.Lent.{rulesOf}
+use Rattle.families.specs.inner.Changed.{direction}
+use Rattle.families.specs.inner.Counts.{headed}
+use Rattle.families.specs.inner.Gathered.{standing}
+use Rattle.families.specs.inner.Lent.{rulesOf}
 use Rattle.families.specs.Within.{within?}
 use Rattle.families.proofs.Testing.{few-true}
 use Rattle.families.proofs.Counting.{headed-few}
@@ -17,12 +17,6 @@ use Rattle.families.proofs.Drafts.{exceeding-makes, repeated-test, repe
 use borrow.Author.Needs.{needs}
 use Rattle.families.proofs.making.make_repeated.Statement.{statement}
 use Rattle.families.proofs.making.make_repeated.Tie as tie
-
-start-rules-requires : tie.Need-start-rules-requires
-start-rules-requires c κs = search needs
-
-add-within : tie.Need-add-within
-add-within c = search needs
 
 -- the counts of rules are small
 counted : (c : tie.After-struct-known2) → let a = c .before .before .before .args in (a .f .count ≤ 200) × (c .before .before .start-rules .result ≤ 200)
@@ -38,9 +32,6 @@ add-within-2 c = omega (arith, counted c)
 add-within-3 : tie.Need-add-within-3
 add-within-3 c = omega (arith, counted c)
 
-within-requires : tie.Need-within-requires
-within-requires c κs = search needs
-
 -- the test, and what it says where it holds
 tested : (c : tie.After-within) (s : List ℕ) → let a = c .before .before .before .before .args in c .within .result ≡ within? (repeated (direction (a .way)) (contentsIn s (a .f)))
 tested c s =
@@ -52,18 +43,6 @@ room c = few-true _ _ _ (sym (rw (c .before .before .before .before .start-rules
 
 repeated-rules-requires : tie.Need-repeated-rules-requires
 repeated-rules-requires c κs = (c .before .before .before .before .before .pre, room c)
-
-no-colours-requires : tie.Need-no-colours-requires
-no-colours-requires c κs = search needs
-
-add-drafting : tie.Need-add-drafting
-add-drafting c = search needs
-
-drafting-requires : tie.Need-drafting-requires
-drafting-requires c κs = search needs
-
-exceeding-requires : tie.Need-exceeding-requires
-exceeding-requires c κs = search needs
 
 returns : tie.Need-returns
 returns c s t =
@@ -80,15 +59,15 @@ pub make-repeated-spec : {M : Type 1} → statement M
 make-repeated-spec =
     tie.close
     (tie.spec
-    start-rules-requires
-    add-within
+    (λ c κs. search needs)
+    (λ c. search needs)
     add-within-2
     add-within-3
-    within-requires
+    (λ c κs. search needs)
     repeated-rules-requires
-    no-colours-requires
-    add-drafting
-    drafting-requires
-    exceeding-requires
+    (λ c κs. search needs)
+    (λ c. search needs)
+    (λ c κs. search needs)
+    (λ c κs. search needs)
     returns
     returns-2)

@@ -13,56 +13,8 @@ Inv-loop first f second g more₀ numbers₀ own count i₀ more numbers i = SoF
 abbrev μ-loop : tie.MeasureT-loop
 μ-loop first f second g more₀ numbers₀ own count i₀ more numbers i = count - i
 
-no-colours-requires : tie.Need-no-colours-requires Inv-loop μ-loop
-no-colours-requires c κs = tt
-
 loop-holds : tie.Need-loop-holds Inv-loop μ-loop
 loop-holds c = rw (c .no-colours .ensures) (so-far-none _ _ _ _ (c .before .before .before .pre .0) (c .before .before .before .pre .1) _ refl)
-
-find-in-requires : tie.Need-find-in-requires Inv-loop μ-loop
-find-in-requires c κs = omega arith
-
-cast-numbers : tie.Need-cast-numbers Inv-loop μ-loop
-cast-numbers c = omega arith
-
-array-write-numbers : tie.Need-array-write-numbers Inv-loop μ-loop
-array-write-numbers c = omega arith
-
-mul-start : tie.Need-mul-start Inv-loop μ-loop
-mul-start c = omega arith
-
-element-copy-out-start : tie.Need-element-copy-out-start Inv-loop μ-loop
-element-copy-out-start c = omega arith
-
-element-copy-out-len : tie.Need-element-copy-out-len Inv-loop μ-loop
-element-copy-out-len c = omega arith
-
-add-numbers : tie.Need-add-numbers Inv-loop μ-loop
-add-numbers c = omega arith
-
-cast-numbers-2 : tie.Need-cast-numbers-2 Inv-loop μ-loop
-cast-numbers-2 c = omega arith
-
-array-write-numbers-2 : tie.Need-array-write-numbers-2 Inv-loop μ-loop
-array-write-numbers-2 c = omega arith
-
-mul-more : tie.Need-mul-more Inv-loop μ-loop
-mul-more c = omega arith
-
-element-write-more : tie.Need-element-write-more Inv-loop μ-loop
-element-write-more c = omega arith
-
-element-write-more-2 : tie.Need-element-write-more-2 Inv-loop μ-loop
-element-write-more-2 c = omega arith
-
-add-more : tie.Need-add-more Inv-loop μ-loop
-add-more c = omega arith
-
-add-i : tie.Need-add-i Inv-loop μ-loop
-add-i c = omega arith
-
-loop-less : tie.Need-loop-less Inv-loop μ-loop
-loop-less c = omega arith
 
 loop-again : tie.Need-loop-again Inv-loop μ-loop
 loop-again c =
@@ -92,22 +44,22 @@ merge-spec =
     (tie.spec
     Inv-loop
     μ-loop
-    no-colours-requires
+    (λ c κs. tt)
     loop-holds
-    find-in-requires
-    cast-numbers
-    array-write-numbers
-    mul-start
-    element-copy-out-start
-    element-copy-out-len
-    add-numbers
-    cast-numbers-2
-    array-write-numbers-2
-    mul-more
-    element-write-more
-    element-write-more-2
-    add-more
-    add-i
-    loop-less
+    (λ c κs. omega arith)
+    (λ c. omega arith)
+    (λ c. omega arith)
+    (λ c. omega arith)
+    (λ c. omega arith)
+    (λ c. omega arith)
+    (λ c. omega arith)
+    (λ c. omega arith)
+    (λ c. omega arith)
+    (λ c. omega arith)
+    (λ c. omega arith)
+    (λ c. omega arith)
+    (λ c. omega arith)
+    (λ c. omega arith)
+    (λ c. omega arith)
     loop-again
     returns)

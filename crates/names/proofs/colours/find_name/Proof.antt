@@ -9,7 +9,7 @@ use lib.ListN.{take}
 use borrow.Author.Tests.{lt-ltb}
 use borrow.Author.Needs.{needs}
 use Rattle.names.specs.Colours.{findName}
-use Rattle.names.proofs.Finding.{find-place, found-from, found-all, found-here, found-later, found-nowhere}
+use Rattle.names.proofs.Finding.{find-listed, found-from, found-all, found-here, found-later, found-nowhere}
 use Rattle.names.proofs.colours.find_name.Statement.{statement}
 use Rattle.names.proofs.colours.find_name.Tie as tie
 
@@ -26,27 +26,6 @@ returns c = simp (lt-ltb _ _ (c .if1 .taken))
 loop-holds : tie.Need-loop-holds Inv-loop μ-loop
 loop-holds c = (omega arith, refl)
 
-mul-start : tie.Need-mul-start Inv-loop μ-loop
-mul-start c = omega arith
-
-element-copy-out-start : tie.Need-element-copy-out-start Inv-loop μ-loop
-element-copy-out-start c = omega arith
-
-cast-start : tie.Need-cast-start Inv-loop μ-loop
-cast-start c = search needs
-
-element-copy-out-size : tie.Need-element-copy-out-size Inv-loop μ-loop
-element-copy-out-size c = omega arith
-
-cast-size : tie.Need-cast-size Inv-loop μ-loop
-cast-size c = search needs
-
-tail-requires : tie.Need-tail-requires Inv-loop μ-loop
-tail-requires c κs = tt
-
-same-name-requires : tie.Need-same-name-requires Inv-loop μ-loop
-same-name-requires c κs = tt
-
 -- what the comparison says of the name at the loop's place
 compared : (c : tie.After-same-name Inv-loop μ-loop) → let a = c .before .before .before .before .before .before .before .before .before .args in
     c .same-name .result ≡ sameName (nameIn (now (a .s)) (a .t2) (c .before .before .before .before .before .loop .j)) (take (a .len) (now (a .name)))
@@ -62,13 +41,7 @@ returns-2 c =
     let less = c .before .before .before .before .before .loop-test .taken in
     let few = c .before .before .before .before .before .before .before .if1 .left in
     sym (found-here (now (a .s)) (a .t2) n (a .t2 .count) j less (sym (compared (c .before)) ∙ c .if2 .taken))
-    ∙ (inv ∙ (found-all (now (a .s)) (a .t2) n (a .t2 .count) ∙ sym (find-place (now (a .s)) (a .t2) n few)))
-
-add-j : tie.Need-add-j Inv-loop μ-loop
-add-j c = omega arith
-
-loop-less : tie.Need-loop-less Inv-loop μ-loop
-loop-less c = omega arith
+    ∙ (inv ∙ (found-all (now (a .s)) (a .t2) n (a .t2 .count) ∙ sym (find-listed (now (a .s)) (a .t2) n few)))
 
 loop-again : tie.Need-loop-again Inv-loop μ-loop
 loop-again c =
@@ -86,7 +59,7 @@ returns-3 c =
     let j = c .before .loop .j in
     let end : j ≡ a .t2 .count = omega arith in
     sym end ∙ (sym (found-nowhere (now (a .s)) (a .t2) n (a .t2 .count) j (c .loop-test .left))
-    ∙ (c .before .loop .inv .1 ∙ (found-all (now (a .s)) (a .t2) n (a .t2 .count) ∙ sym (find-place (now (a .s)) (a .t2) n (c .before .before .if1 .left)))))
+    ∙ (c .before .loop .inv .1 ∙ (found-all (now (a .s)) (a .t2) n (a .t2 .count) ∙ sym (find-listed (now (a .s)) (a .t2) n (c .before .before .if1 .left)))))
 
 pub find-name-spec : {M : Type 1} → statement M
 find-name-spec =
@@ -96,15 +69,15 @@ find-name-spec =
     μ-loop
     returns
     loop-holds
-    mul-start
-    element-copy-out-start
-    cast-start
-    element-copy-out-size
-    cast-size
-    tail-requires
-    same-name-requires
+    (λ c. omega arith)
+    (λ c. omega arith)
+    (λ c. search needs)
+    (λ c. omega arith)
+    (λ c. search needs)
+    (λ c κs. tt)
+    (λ c κs. tt)
     returns-2
-    add-j
-    loop-less
+    (λ c. omega arith)
+    (λ c. omega arith)
     loop-again
     returns-3)

@@ -11,30 +11,6 @@ use borrow.Author.Needs.{needs}
 use Rattle.names.proofs.colours.read_colour.Statement.{statement}
 use Rattle.names.proofs.colours.read_colour.Tie as tie
 
-read-in-requires : tie.Need-read-in-requires
-read-in-requires c κs = search needs
-
-enum-known-r : tie.Need-enum-known-r
-enum-known-r c = search needs
-
-enum-known-r-2 : tie.Need-enum-known-r-2
-enum-known-r-2 c = search needs
-
-tail-requires : tie.Need-tail-requires
-tail-requires c κs = search needs
-
-read-name-requires : tie.Need-read-name-requires
-read-name-requires c κs = search needs
-
-enum-told : tie.Need-enum-told
-enum-told c = search needs
-
-enum-told-2 : tie.Need-enum-told-2
-enum-told-2 c = search needs
-
-enum-known-n : tie.Need-enum-known-n
-enum-known-n c = search needs
-
 add-t14 : tie.Need-add-t14
 add-t14 c =
     let t = c .before .before .before .before in
@@ -76,14 +52,14 @@ pub read-colour-spec : {M : Type 1} → statement M
 read-colour-spec =
     tie.close
     (tie.spec
-    read-in-requires
-    enum-known-r
-    enum-known-r-2
-    tail-requires
-    read-name-requires
-    enum-told
-    enum-told-2
-    enum-known-n
+    (λ c κs. search needs)
+    (λ c. search needs)
+    (λ c. search needs)
+    (λ c κs. search needs)
+    (λ c κs. search needs)
+    (λ c. search needs)
+    (λ c. search needs)
+    (λ c. search needs)
     add-t14
     returns
     returns-2

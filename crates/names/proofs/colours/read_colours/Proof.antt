@@ -7,18 +7,6 @@ use borrow.Author.Needs.{needs}
 use Rattle.names.proofs.colours.read_colours.Statement.{statement}
 use Rattle.names.proofs.colours.read_colours.Tie as tie
 
-read-in-requires : tie.Need-read-in-requires
-read-in-requires c κs = search needs
-
-enum-known-r : tie.Need-enum-known-r
-enum-known-r c = search needs
-
-refused-colours-requires : tie.Need-refused-colours-requires
-refused-colours-requires c κs = search needs
-
-enum-known-r-2 : tie.Need-enum-known-r-2
-enum-known-r-2 c = search needs
-
 read-names-requires : tie.Need-read-names-requires
 read-names-requires c κs = let g = number-in _ _ 1 64 _ _ (sym (c .before .before .before .read-in .ensures) ∙ c .before .r2 .given .1) in omega arith
 
@@ -34,10 +22,10 @@ pub read-colours-spec : {M : Type 1} → statement M
 read-colours-spec =
     tie.close
     (tie.spec
-    read-in-requires
-    enum-known-r
-    refused-colours-requires
-    enum-known-r-2
+    (λ c κs. search needs)
+    (λ c. search needs)
+    (λ c κs. search needs)
+    (λ c. search needs)
     read-names-requires
     returns
     returns-2)

@@ -19,29 +19,14 @@ Inv-loop s count from c₀ at₀ i₀ c at i = (i ≤ count) × (c .count ≡ i)
 abbrev μ-loop : tie.MeasureT-loop
 μ-loop s count from c₀ at₀ i₀ c at i = count - i
 
-no-colours-requires : tie.Need-no-colours-requires Inv-loop μ-loop
-no-colours-requires c κs = tt
-
 loop-holds : tie.Need-loop-holds Inv-loop μ-loop
 loop-holds c = simp (left-all, c .no-colours .ensures) (omega arith, refl, refl, omega arith)
-
-read-colour-requires : tie.Need-read-colour-requires Inv-loop μ-loop
-read-colour-requires c κs = tt
-
-enum-known-r : tie.Need-enum-known-r Inv-loop μ-loop
-enum-known-r c = search needs
-
-refused-colours-requires : tie.Need-refused-colours-requires Inv-loop μ-loop
-refused-colours-requires c κs = tt
 
 returns : tie.Need-returns Inv-loop μ-loop
 returns c =
     let less = c .before .before .before .before .before .loop-test .taken in
     let fault = sym (c .before .before .before .before .read-colour .ensures) ∙ c .before .before .r .given .1 in
     c .refused-colours .ensures ∙ (simp (left-suc _ _ less, fault) at (c .before .before .before .before .before .before .loop .inv .2))
-
-enum-known-r-2 : tie.Need-enum-known-r-2 Inv-loop μ-loop
-enum-known-r-2 c = search needs
 
 -- the colour that was read at the loop's place
 colour : (c : tie.After-find-name Inv-loop μ-loop) →
@@ -57,15 +42,6 @@ found : (c : tie.After-find-name Inv-loop μ-loop) →
     ≡ findName s (c .before .before .before .before .before .before .before .loop .c) (take (c .before .before .before .r2 .given .0 .1 .0) (drop (c .before .before .before .r2 .given .0 .0) s))
 found c = rw (← c .before .tail .ensures) (c .find-name .ensures)
 
-tail-requires : tie.Need-tail-requires Inv-loop μ-loop
-tail-requires c κs = tt
-
-find-name-requires : tie.Need-find-name-requires Inv-loop μ-loop
-find-name-requires c κs = tt
-
-refused-colours-requires-2 : tie.Need-refused-colours-requires-2 Inv-loop μ-loop
-refused-colours-requires-2 c κs = tt
-
 returns-2 : tie.Need-returns-2 Inv-loop μ-loop
 returns-2 c =
     let less = c .before .before .before .before .before .before .before .before .loop-test .taken in
@@ -76,26 +52,11 @@ returns-2 c =
 cast-c : tie.Need-cast-c Inv-loop μ-loop
 cast-c c = omega (arith, colour-lies _ _ _ _ (colour (c .before)))
 
-mul-c : tie.Need-mul-c Inv-loop μ-loop
-mul-c c = omega arith
-
-element-write-c : tie.Need-element-write-c Inv-loop μ-loop
-element-write-c c = omega arith
-
 cast-c-2 : tie.Need-cast-c-2 Inv-loop μ-loop
 cast-c-2 c = omega (arith, colour-lies _ _ _ _ (colour (c .before)))
 
-element-write-c-2 : tie.Need-element-write-c-2 Inv-loop μ-loop
-element-write-c-2 c = omega arith
-
 add-at : tie.Need-add-at Inv-loop μ-loop
 add-at c = omega (arith, colour-lies _ _ _ _ (colour (c .before)))
-
-add-i : tie.Need-add-i Inv-loop μ-loop
-add-i c = omega arith
-
-loop-less : tie.Need-loop-less Inv-loop μ-loop
-loop-less c = omega arith
 
 loop-again : tie.Need-loop-again Inv-loop μ-loop
 loop-again c =
@@ -113,24 +74,24 @@ read-names-spec =
     (tie.spec
     Inv-loop
     μ-loop
-    no-colours-requires
+    (λ c κs. tt)
     loop-holds
-    read-colour-requires
-    enum-known-r
-    refused-colours-requires
+    (λ c κs. tt)
+    (λ c. search needs)
+    (λ c κs. tt)
     returns
-    enum-known-r-2
-    tail-requires
-    find-name-requires
-    refused-colours-requires-2
+    (λ c. search needs)
+    (λ c κs. tt)
+    (λ c κs. tt)
+    (λ c κs. tt)
     returns-2
     cast-c
-    mul-c
-    element-write-c
+    (λ c. omega arith)
+    (λ c. omega arith)
     cast-c-2
-    element-write-c-2
+    (λ c. omega arith)
     add-at
-    add-i
-    loop-less
+    (λ c. omega arith)
+    (λ c. omega arith)
     loop-again
     returns-3)

@@ -20,37 +20,19 @@ abbrev μ-loop : tie.MeasureT-loop
 returns : tie.Need-returns Inv-loop μ-loop
 returns c = let h : length (now (c .before .args .out)) < c .before .args .at + length (now (c .before .args .name)) = omega arith in (sym (past-out _ _ _ h), sym (put-out _ _ _ h))
 
-sub-if2 : tie.Need-sub-if2 Inv-loop μ-loop
-sub-if2 c = omega arith
-
 returns-2 : tie.Need-returns-2 Inv-loop μ-loop
 returns-2 c = let h : length (now (c .before .before .args .out)) < c .before .before .args .at + length (now (c .before .before .args .name)) = omega arith in (sym (past-out _ _ _ h), sym (put-out _ _ _ h))
 
 loop-holds : tie.Need-loop-holds Inv-loop μ-loop
 loop-holds c = let a = c .before .before .args in (omega arith, paste-zero (now (a .out)) (a .at) (now (a .name)))
 
-shared-slice-read-out : tie.Need-shared-slice-read-out Inv-loop μ-loop
-shared-slice-read-out c = omega arith
-
-add-out : tie.Need-add-out Inv-loop μ-loop
-add-out c = omega arith
-
 slice-write-out : tie.Need-slice-write-out Inv-loop μ-loop
 slice-write-out c = let a = c .before .before .before .before .before .args in
     omega (arith, ap length (c .before .before .loop .inv .1), length-paste (now (a .out)) (a .at) (now (a .name)) (c .before .before .loop .i) (omega arith) (omega arith))
 
-add-i : tie.Need-add-i Inv-loop μ-loop
-add-i c = omega arith
-
-loop-less : tie.Need-loop-less Inv-loop μ-loop
-loop-less c = omega arith
-
 loop-again : tie.Need-loop-again Inv-loop μ-loop
 loop-again c = let a = c .before .before .before .before .before .args in
     (omega arith, rw (c .before .before .loop .inv .1, add-one) (paste-suc (now (a .out)) (a .at) (now (a .name)) (c .before .before .loop .i) 0 (omega arith) (omega arith)))
-
-add-result : tie.Need-add-result Inv-loop μ-loop
-add-result c = omega arith
 
 same-length : tie.Need-same-length Inv-loop μ-loop
 same-length c = let a = c .before .before .before .before .args in
@@ -71,15 +53,15 @@ copy-bytes-spec =
     Inv-loop
     μ-loop
     returns
-    sub-if2
+    (λ c. omega arith)
     returns-2
     loop-holds
-    shared-slice-read-out
-    add-out
+    (λ c. omega arith)
+    (λ c. omega arith)
     slice-write-out
-    add-i
-    loop-less
+    (λ c. omega arith)
+    (λ c. omega arith)
     loop-again
-    add-result
+    (λ c. omega arith)
     same-length
     returns-3)

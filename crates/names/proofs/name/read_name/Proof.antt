@@ -21,20 +21,11 @@ loop-holds c = (omega arith, simp left-all)
 returns : tie.Need-returns Inv-loop μ-loop
 returns c = simp (left-suc _ _ (c .before .loop-test .taken), le-leb _ _ (c .if1 .taken)) at (c .before .before .loop .inv .1)
 
-shared-slice-read-b : tie.Need-shared-slice-read-b Inv-loop μ-loop
-shared-slice-read-b c = omega arith
-
 returns-2 : tie.Need-returns-2 Inv-loop μ-loop
 returns-2 c = simp (left-suc _ _ (c .before .before .before .loop-test .taken), lt-leb _ _ (c .before .before .if1 .left), lt-ltb _ _ (c .if2 .taken)) at (c .before .before .before .before .loop .inv .1)
 
 returns-3 : tie.Need-returns-3 Inv-loop μ-loop
 returns-3 c = simp (left-suc _ _ (c .before .before .before .before .loop-test .taken), lt-leb _ _ (c .before .before .before .if1 .left), le-ltb _ _ (c .before .if2 .left), lt-ltb _ _ (c .if3 .taken)) at (c .before .before .before .before .before .loop .inv .1)
-
-add-i : tie.Need-add-i Inv-loop μ-loop
-add-i c = omega arith
-
-loop-less : tie.Need-loop-less Inv-loop μ-loop
-loop-less c = omega arith
 
 loop-again : tie.Need-loop-again Inv-loop μ-loop
 loop-again c = (omega arith, simp (left-suc _ _ (c .before .before .before .before .loop-test .taken), lt-leb _ _ (c .before .before .before .if1 .left), le-ltb _ _ (c .before .if2 .left), le-ltb _ _ (c .if3 .left)) at (c .before .before .before .before .before .loop .inv .1))
@@ -50,10 +41,10 @@ read-name-spec =
     μ-loop
     loop-holds
     returns
-    shared-slice-read-b
+    (λ c. omega arith)
     returns-2
     returns-3
-    add-i
-    loop-less
+    (λ c. omega arith)
+    (λ c. omega arith)
     loop-again
     returns-4)

@@ -6,15 +6,6 @@ use borrow.Author.Needs.{needs}
 use Rattle.names.proofs.number.read_below.Statement.{statement}
 use Rattle.names.proofs.number.read_below.Tie as tie
 
-read-number-requires : tie.Need-read-number-requires
-read-number-requires c κs = search needs
-
-enum-known-r : tie.Need-enum-known-r
-enum-known-r c = search needs
-
-enum-known-r-2 : tie.Need-enum-known-r-2
-enum-known-r-2 c = search needs
-
 returns : tie.Need-returns
 unfolding numberBelow
 returns c = simp (sym (c .before .before .before .read-number .ensures) ∙ c .before .r .given .1)
@@ -30,4 +21,4 @@ returns-3 c = simp ((sym (c .before .before .before .before .read-number .ensure
 pub read-below-spec : {M : Type 1} → statement M
 read-below-spec =
     tie.close
-    (tie.spec read-number-requires enum-known-r enum-known-r-2 returns returns-2 returns-3)
+    (tie.spec (λ c κs. search needs) (λ c. search needs) (λ c. search needs) returns returns-2 returns-3)

@@ -5,15 +5,6 @@ use borrow.Author.Needs.{needs}
 use Rattle.names.proofs.number.read_in.Statement.{statement}
 use Rattle.names.proofs.number.read_in.Tie as tie
 
-read-number-requires : tie.Need-read-number-requires
-read-number-requires c κs = search needs
-
-enum-known-r : tie.Need-enum-known-r
-enum-known-r c = search needs
-
-enum-known-r-2 : tie.Need-enum-known-r-2
-enum-known-r-2 c = search needs
-
 returns : tie.Need-returns
 unfolding numberIn
 returns c = simp (← c .before .before .before .before .read-number .ensures, c .before .before .r2 .given .1, lt-ltb _ _ (c .if1 .taken))
@@ -34,9 +25,9 @@ pub read-in-spec : {M : Type 1} → statement M
 read-in-spec =
     tie.close
     (tie.spec
-    read-number-requires
-    enum-known-r
-    enum-known-r-2
+    (λ c κs. search needs)
+    (λ c. search needs)
+    (λ c. search needs)
     returns
     returns-2
     returns-3

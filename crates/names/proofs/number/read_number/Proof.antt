@@ -11,31 +11,16 @@ returns : tie.Need-returns
 unfolding numberAt
 returns c = simp (le-leb _ _ (c .if1 .taken))
 
-shared-slice-read-low : tie.Need-shared-slice-read-low
-shared-slice-read-low c = search needs
-
 cast-low : tie.Need-cast-low
 cast-low c = omega (arith, c .shared-slice-known .given (c .before .before .args .at))
-
-add-t11 : tie.Need-add-t11
-add-t11 c = search needs
 
 returns-2 : tie.Need-returns-2
 unfolding numberAt
 returns-2 c = simp (lt-leb _ _ (c .before .before .if1 .left), lt-ltb _ _ (c .if2 .taken))
 
-add-if3 : tie.Need-add-if3
-add-if3 c = search needs
-
 returns-3 : tie.Need-returns-3
 unfolding numberAt
 returns-3 c = simp (lt-leb _ _ (c .before .before .before .if1 .left), le-ltb _ _ (c .before .if2 .left), le-leb _ _ (c .if3 .taken))
-
-add-high : tie.Need-add-high
-add-high c = search needs
-
-shared-slice-read-high : tie.Need-shared-slice-read-high
-shared-slice-read-high c = search needs
 
 cast-high : tie.Need-cast-high
 cast-high c = omega (arith, c .shared-slice-known2 .given (c .before .before .before .before .before .args .at + 1))
@@ -43,15 +28,6 @@ cast-high c = omega (arith, c .shared-slice-known2 .given (c .before .before .be
 returns-4 : tie.Need-returns-4
 unfolding numberAt
 returns-4 c = simp (lt-leb _ _ (c .before .before .before .before .before .if1 .left), le-ltb _ _ (c .before .before .before .if2 .left), lt-leb _ _ (c .before .before .if3 .left), eq-eqb _ _ (c .if4 .taken))
-
-mul-t19 : tie.Need-mul-t19
-mul-t19 c = search needs
-
-add-t20 : tie.Need-add-t20
-add-t20 c = omega arith
-
-add-t21 : tie.Need-add-t21
-add-t21 c = search needs
 
 returns-5 : tie.Need-returns-5
 unfolding numberAt
@@ -66,18 +42,18 @@ read-number-spec =
     tie.close
     (tie.spec
     returns
-    shared-slice-read-low
+    (λ c. search needs)
     cast-low
-    add-t11
+    (λ c. search needs)
     returns-2
-    add-if3
+    (λ c. search needs)
     returns-3
-    add-high
-    shared-slice-read-high
+    (λ c. search needs)
+    (λ c. search needs)
     cast-high
     returns-4
-    mul-t19
-    add-t20
-    add-t21
+    (λ c. search needs)
+    (λ c. omega arith)
+    (λ c. search needs)
     returns-5
     returns-6)

@@ -16,18 +16,6 @@ returns c = let a = c .before .before .args in
     let none : length (now (a .out)) < a .at + 1 = omega arith in
     rw (spell-one _ (c .before .if1 .taken)) (sym (past-out _ _ _ none), sym (put-out _ _ _ none))
 
-cast-out : tie.Need-cast-out
-cast-out c = search needs
-
-slice-write-out : tie.Need-slice-write-out
-slice-write-out c = search needs
-
-add-result : tie.Need-add-result
-add-result c = search needs
-
-same-length : tie.Need-same-length
-same-length c = search needs
-
 returns-2 : tie.Need-returns-2
 returns-2 c = let a = c .before .before .args in
     let room : a .at + 1 ≤ length (now (a .out)) = omega arith in
@@ -41,37 +29,13 @@ returns-4 c = let a = c .before .before .before .args in
     let none : length (now (a .out)) < a .at + 2 = omega arith in
     rw (spell-two _ (c .before .before .if1 .left) (c .before .if3 .left)) (sym (past-out _ _ _ none), sym (put-out _ _ _ none))
 
-sub-if5 : tie.Need-sub-if5
-sub-if5 c = search needs
-
 returns-5 : tie.Need-returns-5
 returns-5 c = let a = c .before .before .before .before .args in
     let none : length (now (a .out)) < a .at + 2 = omega arith in
     rw (spell-two _ (c .before .before .before .if1 .left) (c .before .before .if3 .left)) (sym (past-out _ _ _ none), sym (put-out _ _ _ none))
 
-add-out : tie.Need-add-out
-add-out c = search needs
-
-cast-out-2 : tie.Need-cast-out-2
-cast-out-2 c = search needs
-
-slice-write-out-2 : tie.Need-slice-write-out-2
-slice-write-out-2 c = search needs
-
-cast-out-3 : tie.Need-cast-out-3
-cast-out-3 c = search needs
-
-add-out-2 : tie.Need-add-out-2
-add-out-2 c = search needs
-
 slice-write-out-3 : tie.Need-slice-write-out-3
 slice-write-out-3 c = simp length-set (omega arith)
-
-add-result-2 : tie.Need-add-result-2
-add-result-2 c = search needs
-
-same-length-2 : tie.Need-same-length-2
-same-length-2 c = search needs
 
 returns-6 : tie.Need-returns-6
 returns-6 c = let a = c .before .before .before .before .args in
@@ -83,21 +47,21 @@ write-number-spec =
     tie.close
     (tie.spec
     returns
-    cast-out
-    slice-write-out
-    add-result
-    same-length
+    (λ c. search needs)
+    (λ c. search needs)
+    (λ c. search needs)
+    (λ c. search needs)
     returns-2
     returns-3
     returns-4
-    sub-if5
+    (λ c. search needs)
     returns-5
-    add-out
-    cast-out-2
-    slice-write-out-2
-    cast-out-3
-    add-out-2
+    (λ c. search needs)
+    (λ c. search needs)
+    (λ c. search needs)
+    (λ c. search needs)
+    (λ c. search needs)
     slice-write-out-3
-    add-result-2
-    same-length-2
+    (λ c. search needs)
+    (λ c. search needs)
     returns-6)

@@ -3,7 +3,7 @@ use mathlib.Core.Path.{_≡_, refl}
 use Prim.Native.Nat.{_-_, _≤_}
 use native.Mathlib.Omega.{arith}
 use lib.ListN.{length, length-set}
-use Rattle.pieces.specs.Painted.{Begun}
+use Rattle.pieces.specs.inner.Painted.{Begun}
 use Rattle.pieces.proofs.Painting.{begun-start, begun-step}
 use borrow.Author.Needs.{needs}
 use Rattle.pieces.proofs.cells.paint_cells.Statement.{statement}
@@ -17,9 +17,6 @@ abbrev μ-loop : tie.MeasureT-loop
 
 loop-holds : tie.Need-loop-holds Inv-loop μ-loop
 loop-holds c = (omega arith, begun-start _ _ _, refl)
-
-shared-slice-read-at : tie.Need-shared-slice-read-at Inv-loop μ-loop
-shared-slice-read-at c = search needs
 
 cast-at : tie.Need-cast-at Inv-loop μ-loop
 cast-at c =
@@ -42,18 +39,6 @@ shared-slice-read-work c =
     let s = t .before in
     omega (arith, s .pre .0, s .pre .3 (t .loop .i) (c .before .before .loop-test .taken))
 
-mul-work-2 : tie.Need-mul-work-2 Inv-loop μ-loop
-mul-work-2 c = search needs
-
-slice-write-work : tie.Need-slice-write-work Inv-loop μ-loop
-slice-write-work c = search needs
-
-add-i : tie.Need-add-i Inv-loop μ-loop
-add-i c = search needs
-
-loop-less : tie.Need-loop-less Inv-loop μ-loop
-loop-less c = search needs
-
 loop-again : tie.Need-loop-again Inv-loop μ-loop
 loop-again c =
     let t = c .before .before .before in
@@ -72,15 +57,15 @@ paint-cells-spec =
     Inv-loop
     μ-loop
     loop-holds
-    shared-slice-read-at
+    (λ c. search needs)
     cast-at
     add-at
     mul-work
     shared-slice-read-work
-    mul-work-2
-    slice-write-work
-    add-i
-    loop-less
+    (λ c. search needs)
+    (λ c. search needs)
+    (λ c. search needs)
+    (λ c. search needs)
     loop-again
     same-length
     returns)

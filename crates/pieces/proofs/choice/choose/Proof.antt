@@ -30,18 +30,6 @@ loop-holds : tie.Need-loop-holds Inv-loop μ-loop
 unfolding lowest
 loop-holds c = (search needs, rw (sub-zero, long (c .before .before)))
 
-mul-rule : tie.Need-mul-rule Inv-loop μ-loop
-mul-rule c = search needs
-
-array-copy-out-rule : tie.Need-array-copy-out-rule Inv-loop μ-loop
-array-copy-out-rule c = search needs
-
-offer-requires : tie.Need-offer-requires Inv-loop μ-loop
-offer-requires c κs = search needs
-
-enum-told : tie.Need-enum-told Inv-loop μ-loop
-enum-told c = search needs
-
 returns : tie.Need-returns Inv-loop μ-loop
 unfolding taken
 returns c =
@@ -55,12 +43,6 @@ returns c =
     let here = takes-own _ _ _ _ (c .before .before .if1 .taken) ∙ offered .0 in
     let low = sym (least-found _ _ _ below (rw tried here)) ∙ t .before .loop .inv .1 in
     offered .1 ∙ sym (choose-rule _ _ _ _ _ low (rw (long s) below) _ _ (sym tried) refl)
-
-add-i : tie.Need-add-i Inv-loop μ-loop
-add-i c = search needs
-
-loop-less : tie.Need-loop-less Inv-loop μ-loop
-loop-less c = search needs
 
 loop-again : tie.Need-loop-again Inv-loop μ-loop
 unfolding taken
@@ -88,12 +70,12 @@ choose-spec =
     Inv-loop
     μ-loop
     loop-holds
-    mul-rule
-    array-copy-out-rule
-    offer-requires
-    enum-told
+    (λ c. search needs)
+    (λ c. search needs)
+    (λ c κs. search needs)
+    (λ c. search needs)
     returns
-    add-i
-    loop-less
+    (λ c. search needs)
+    (λ c. search needs)
     loop-again
     returns-2)

@@ -8,12 +8,6 @@ use Rattle.pieces.proofs.Fitting.{covers-cell, covers-high, covers-wide
 use Rattle.pieces.proofs.choice.covers.Statement.{statement}
 use Rattle.pieces.proofs.choice.covers.Tie as tie
 
-times-requires : tie.Need-times-requires
-times-requires c κs = search needs
-
-add-at : tie.Need-add-at
-add-at c = search needs
-
 shared-slice-read-result : tie.Need-shared-slice-read-result
 shared-slice-read-result c =
     let s = c .before .before .before .before .before .before .before .before in
@@ -31,4 +25,4 @@ returns-3 c = sym (covers-high _ _ _ (c .if1 .left))
 
 pub covers-spec : {M : Type 1} → statement M
 covers-spec =
-    tie.close (tie.spec times-requires add-at shared-slice-read-result returns returns-2 returns-3)
+    tie.close (tie.spec (λ c κs. search needs) (λ c. search needs) shared-slice-read-result returns returns-2 returns-3)

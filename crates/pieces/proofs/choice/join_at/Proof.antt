@@ -5,7 +5,7 @@ use native.Mathlib.Omega.{arith}
 use borrow.Author.Needs.{needs}
 use borrow.Author.Tests.{lt-ltb, le-ltb}
 use Rattle.pieces.specs.View.{hasBit}
-use Rattle.pieces.specs.Choice.{least, works, cutOf, joinedAt}
+use Rattle.pieces.specs.Choice.{least, works, cutOf, joinOffered}
 use Rattle.pieces.proofs.Cutting.{reach-pos}
 use Rattle.pieces.proofs.Least.{least-found, least-passed, least-none}
 use Rattle.pieces.proofs.choice.join_at.Statement.{statement}
@@ -30,18 +30,12 @@ works-requires c κs =
     (given .0, given .1, c .before .loop .inv .0, rw (← given .2) (c .loop-test .taken))
 
 returns : tie.Need-returns Inv-loop μ-loop
-unfolding joinedAt
+unfolding joinOffered
 returns c =
     let l = c .before .before .before in
     let inside = c .before .before .loop-test .taken in
     let cut = sym (least-found _ _ _ inside (sym (c .before .works .ensures) ∙ c .if1 .taken)) ∙ l .loop .inv .2 in
     rw (← cut, ← l .before .before .pre .2, lt-ltb _ _ inside)
-
-add-k : tie.Need-add-k Inv-loop μ-loop
-add-k c = search needs
-
-loop-less : tie.Need-loop-less Inv-loop μ-loop
-loop-less c = search needs
 
 loop-again : tie.Need-loop-again Inv-loop μ-loop
 loop-again c =
@@ -50,7 +44,7 @@ loop-again c =
     (omega (arith, l .loop .inv .0), omega (arith, inside), sym (least-passed _ _ _ inside (sym (c .before .works .ensures) ∙ c .if1 .left)) ∙ l .loop .inv .2)
 
 returns-2 : tie.Need-returns-2 Inv-loop μ-loop
-unfolding joinedAt
+unfolding joinOffered
 returns-2 c =
     let l = c .before in
     let cut = sym (least-none _ _ _ (c .loop-test .left)) ∙ l .loop .inv .2 in
@@ -65,7 +59,7 @@ join-at-spec =
     loop-holds
     works-requires
     returns
-    add-k
-    loop-less
+    (λ c. search needs)
+    (λ c. search needs)
     loop-again
     returns-2)

@@ -8,35 +8,8 @@ use borrow.Author.Needs.{needs}
 use Rattle.pieces.proofs.course.across_course.Statement.{statement}
 use Rattle.pieces.proofs.course.across_course.Tie as tie
 
-sub-places : tie.Need-sub-places
-sub-places c = search needs
-
-sub-places-2 : tie.Need-sub-places-2
-sub-places-2 c = search needs
-
-slot-requires : tie.Need-slot-requires
-slot-requires c κs = search needs
-
-sub-t7 : tie.Need-sub-t7
-sub-t7 c = search needs
-
-times-requires : tie.Need-times-requires
-times-requires c κs = search needs
-
 sub-t10 : tie.Need-sub-t10
 sub-t10 c = let s = c .before .before .before .before .before in omega (arith, c .before .times .ensures .0, rise-begins across (s .pre .1) (s .pre .1 .wide))
-
-add-times : tie.Need-add-times
-add-times c = search needs
-
-sub-times : tie.Need-sub-times
-sub-times c = search needs
-
-times-requires-2 : tie.Need-times-requires-2
-times-requires-2 c κs = search needs
-
-add-t14 : tie.Need-add-t14
-add-t14 c = search needs
 
 sub-t15 : tie.Need-sub-t15
 sub-t15 c = let s = c .before .before .before .before .before .before .before .before in omega (arith, c .before .times2 .ensures .0, fall-begins across (s .pre .1))
@@ -52,15 +25,15 @@ pub across-course-spec : {M : Type 1} → statement M
 across-course-spec =
     tie.close
     (tie.spec
-    sub-places
-    sub-places-2
-    slot-requires
-    sub-t7
-    times-requires
+    (λ c. search needs)
+    (λ c. search needs)
+    (λ c κs. search needs)
+    (λ c. search needs)
+    (λ c κs. search needs)
     sub-t10
-    add-times
-    sub-times
-    times-requires-2
-    add-t14
+    (λ c. search needs)
+    (λ c. search needs)
+    (λ c κs. search needs)
+    (λ c. search needs)
     sub-t15
     returns)

@@ -8,41 +8,11 @@ use borrow.Author.Needs.{needs}
 use Rattle.pieces.proofs.course.down_course.Statement.{statement}
 use Rattle.pieces.proofs.course.down_course.Tie as tie
 
-stretches-of-requires : tie.Need-stretches-of-requires
-stretches-of-requires c κs = search needs
-
-slot-requires : tie.Need-slot-requires
-slot-requires c κs = search needs
-
-sub-t8 : tie.Need-sub-t8
-sub-t8 c = search needs
-
-times-requires : tie.Need-times-requires
-times-requires c κs = search needs
-
-sub-stretches-of : tie.Need-sub-stretches-of
-sub-stretches-of c = search needs
-
-stretches-of-requires-2 : tie.Need-stretches-of-requires-2
-stretches-of-requires-2 c κs = search needs
-
 sub-t12 : tie.Need-sub-t12
 sub-t12 c =
     let t = c .before .before .before .before .before in
     let s = t .before in
     omega (arith, c .before .before .times .ensures .0, ap (λ (x : ℕ). s .args .m * x) (t .stretches-of .ensures .0), c .stretches-of2 .ensures .0, rise-begins down (s .pre .1) (s .pre .1 .tall))
-
-add-times : tie.Need-add-times
-add-times c = search needs
-
-sub-times : tie.Need-sub-times
-sub-times c = search needs
-
-times-requires-2 : tie.Need-times-requires-2
-times-requires-2 c κs = search needs
-
-stretches-of-requires-3 : tie.Need-stretches-of-requires-3
-stretches-of-requires-3 c κs = search needs
 
 sub-t17 : tie.Need-sub-t17
 sub-t17 c =
@@ -63,16 +33,16 @@ pub down-course-spec : {M : Type 1} → statement M
 down-course-spec =
     tie.close
     (tie.spec
-    stretches-of-requires
-    slot-requires
-    sub-t8
-    times-requires
-    sub-stretches-of
-    stretches-of-requires-2
+    (λ c κs. search needs)
+    (λ c κs. search needs)
+    (λ c. search needs)
+    (λ c κs. search needs)
+    (λ c. search needs)
+    (λ c κs. search needs)
     sub-t12
-    add-times
-    sub-times
-    times-requires-2
-    stretches-of-requires-3
+    (λ c. search needs)
+    (λ c. search needs)
+    (λ c κs. search needs)
+    (λ c κs. search needs)
     sub-t17
     returns)

@@ -8,18 +8,6 @@ use borrow.Author.Needs.{needs}
 use Rattle.pieces.proofs.cut.has.Statement.{statement}
 use Rattle.pieces.proofs.cut.has.Tie as tie
 
-slot-requires : tie.Need-slot-requires
-slot-requires c κs = search needs
-
-mul-result : tie.Need-mul-result
-mul-result c = search needs
-
-shared-slice-read-result : tie.Need-shared-slice-read-result
-shared-slice-read-result c = search needs
-
-shr-result : tie.Need-shr-result
-shr-result c = search needs
-
 returns : tie.Need-returns
 unfolding hasBit bit
 returns c = rw (c .before .before .slot .ensures .0)
@@ -34,4 +22,4 @@ returns-2 c =
 pub has-spec : {M : Type 1} → statement M
 has-spec =
     tie.close
-    (tie.spec slot-requires mul-result shared-slice-read-result shr-result returns returns-2)
+    (tie.spec (λ c κs. search needs) (λ c. search needs) (λ c. search needs) (λ c. search needs) returns returns-2)

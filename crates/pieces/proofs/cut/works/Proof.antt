@@ -7,9 +7,6 @@ use borrow.Author.Needs.{needs}
 use Rattle.pieces.proofs.cut.works.Statement.{statement}
 use Rattle.pieces.proofs.cut.works.Tie as tie
 
-parts-of-requires : tie.Need-parts-of-requires
-parts-of-requires c κs = search needs
-
 has-requires : tie.Need-has-requires
 has-requires c κs =
     let a = c .before .before in
@@ -32,4 +29,4 @@ unfolding works
 returns-2 c = sym (and-off _ _ (rw (c .before .before .parts-of .ensures) at (sym (c .before .has .ensures) ∙ c .if1 .left)))
 
 pub works-spec : {M : Type 1} → statement M
-works-spec = tie.close (tie.spec parts-of-requires has-requires has-requires-2 returns returns-2)
+works-spec = tie.close (tie.spec (λ c κs. search needs) has-requires has-requires-2 returns returns-2)

@@ -41,9 +41,6 @@ enough : (l : tie.After-lack) → l .lack .result ≡ 0 →
     (total (o .rows) (o .cols) ≤ length (now (a .work))) × (treeSize (whole (o .rows) (o .cols)) ≤ length (now (a .tree)))
 enough l z = nothing-lacks _ _ _ _ (sym (l .lack .ensures) ∙ z)
 
-read-order-requires : tie.Need-read-order-requires
-read-order-requires c κs = search needs
-
 returns : tie.Need-returns
 returns c =
     let k = c .before .before .before in
@@ -55,9 +52,6 @@ lack-requires c κs =
     let k = c .before .before in
     ordered _ _ (k .read-order .ensures) (book-bytes k) (sheet-bytes k) (c .if1 .left) .sizes
 
-unblamed-requires : tie.Need-unblamed-requires
-unblamed-requires c κs = search needs
-
 returns-2 : tie.Need-returns-2
 returns-2 c =
     let l = c .before .before in
@@ -66,9 +60,6 @@ returns-2 c =
     rw (lacks _ _ (k .read-order .ensures) (book-bytes k) (sheet-bytes k) (l .before .if1 .left) (now (a .work)) (now (a .tree))
     (λ z. c .before .if2 .taken (l .lack .ensures ∙ z)))
     (c .unblamed .ensures ∙ ap plain (l .lack .ensures), (refl, refl))
-
-slice-aggregate-fill-table : tie.Need-slice-aggregate-fill-table
-slice-aggregate-fill-table c = search needs
 
 fill-table-requires : tie.Need-fill-table-requires
 fill-table-requires c κs =
@@ -88,15 +79,6 @@ judge-requires c κs =
     let long = le-trans (room .0) (le-of-eq (sym (t .fill-table .kept .1 .1 .1 .1 .1 .0))) in
     (o .rules-small .few, record { tabled = record { sizes = o .sizes; entries = long }; cells = o .cells-all }, room .1)
 
-unblamed-requires-2 : tie.Need-unblamed-requires-2
-unblamed-requires-2 c κs = search needs
-
-same-length : tie.Need-same-length
-same-length c = search needs
-
-same-length-2 : tie.Need-same-length-2
-same-length-2 c = search needs
-
 returns-3 : tie.Need-returns-3
 returns-3 c =
     let j = c .before .before .before .judge in
@@ -113,16 +95,16 @@ pub derive-spec : {M : Type 1} → statement M
 derive-spec =
     tie.close
     (tie.spec
-    read-order-requires
+    (λ c κs. search needs)
     returns
     lack-requires
-    unblamed-requires
+    (λ c κs. search needs)
     returns-2
-    slice-aggregate-fill-table
+    (λ c. search needs)
     fill-table-requires
     slice-aggregate-judge
     judge-requires
-    unblamed-requires-2
-    same-length
-    same-length-2
+    (λ c κs. search needs)
+    (λ c. search needs)
+    (λ c. search needs)
     returns-3)

@@ -9,20 +9,11 @@ use Rattle.pieces.proofs.derive.dv_derive.Tie as tie
 abbrev began : tie.After-derive → tie.Start
 began k = k .before .before .before .before .before .before .before
 
-derive-requires : tie.Need-derive-requires
-derive-requires c κs = search needs
-
 pack-requires : tie.Need-pack-requires
 pack-requires c κs =
     let k = c .before .before .before .before in
     let a = began k .args in
     rw (k .derive .ensures .0) (derivation-packs (now (a .book)) (now (a .sheet)) (now (a .work)) (now (a .tree)))
-
-same-length : tie.Need-same-length
-same-length c = search needs
-
-same-length-2 : tie.Need-same-length-2
-same-length-2 c = search needs
 
 returns : tie.Need-returns
 returns c =
@@ -31,4 +22,4 @@ returns c =
 
 pub dv-derive-spec : {M : Type 1} → statement M
 dv-derive-spec =
-    tie.close (tie.spec derive-requires pack-requires same-length same-length-2 returns)
+    tie.close (tie.spec (λ c κs. search needs) pack-requires (λ c. search needs) (λ c. search needs) returns)

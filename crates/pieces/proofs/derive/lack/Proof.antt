@@ -1,20 +1,14 @@
 -- The two tests are those of the definition.
 
 use borrow.Author.Tests.{lt-ltb, le-ltb}
-use Rattle.pieces.specs.Verdict.{lacking}
+use Rattle.pieces.specs.inner.Verdict.{lacking}
 use borrow.Author.Needs.{needs}
 use Rattle.pieces.proofs.derive.lack.Statement.{statement}
 use Rattle.pieces.proofs.derive.lack.Tie as tie
 
-count-requires : tie.Need-count-requires
-count-requires c κs = search needs
-
 returns : tie.Need-returns
 unfolding lacking
 returns c = rw (lt-ltb _ _ (rw (c .before .count .ensures .0) at (c .if1 .taken)))
-
-numbers-requires : tie.Need-numbers-requires
-numbers-requires c κs = search needs
 
 returns-2 : tie.Need-returns-2
 unfolding lacking
@@ -31,4 +25,4 @@ returns-3 c =
     rw (le-ltb _ _ work, le-ltb _ _ tree)
 
 pub lack-spec : {M : Type 1} → statement M
-lack-spec = tie.close (tie.spec count-requires returns numbers-requires returns-2 returns-3)
+lack-spec = tie.close (tie.spec (λ c κs. search needs) returns (λ c κs. search needs) returns-2 returns-3)

@@ -8,11 +8,8 @@ use borrow.Author.Needs.{needs}
 use Rattle.pieces.proofs.masks.mask.Statement.{statement}
 use Rattle.pieces.proofs.masks.mask.Tie as tie
 
-shl-result : tie.Need-shl-result
-shl-result c = search needs
-
 returns : tie.Need-returns
 returns c = shl-exact 1 (c .args .a) 32 (omega arith) (omega arith) ∙ one-mul (2 ^ c .args .a)
 
 pub mask-spec : {M : Type 1} → statement M
-mask-spec = tie.close (tie.spec shl-result returns)
+mask-spec = tie.close (tie.spec (λ c. search needs) returns)

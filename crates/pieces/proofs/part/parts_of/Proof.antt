@@ -6,9 +6,6 @@ use borrow.Author.Needs.{needs}
 use Rattle.pieces.proofs.part.parts_of.Statement.{statement}
 use Rattle.pieces.proofs.part.parts_of.Tie as tie
 
-enum-told : tie.Need-enum-told
-enum-told c = search needs
-
 sub-t6 : tie.Need-sub-t6
 unfolding reach
 sub-t6 c = rw (c .before .enum-told .given .1) at (c .before .before .before .pre .0)
@@ -19,9 +16,6 @@ add-t7 c =
     let a = c .before .before .before .before .args in
     let h : a .k ≤ a .p .width = rw (c .before .before .enum-told .given .1) at (c .before .before .before .before .pre .0) in
     omega arith
-
-enum-told-2 : tie.Need-enum-told-2
-enum-told-2 c = search needs
 
 sub-t10 : tie.Need-sub-t10
 unfolding reach
@@ -44,4 +38,4 @@ returns-2 c = rw (c .before .before .enum-told2 .given .1)
 
 pub parts-of-spec : {M : Type 1} → statement M
 parts-of-spec =
-    tie.close (tie.spec enum-told sub-t6 add-t7 enum-told-2 sub-t10 add-t11 returns returns-2)
+    tie.close (tie.spec (λ c. search needs) sub-t6 add-t7 (λ c. search needs) sub-t10 add-t11 returns returns-2)

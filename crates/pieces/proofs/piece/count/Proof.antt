@@ -6,15 +6,6 @@ use borrow.Author.Needs.{needs}
 use Rattle.pieces.proofs.piece.count.Statement.{statement}
 use Rattle.pieces.proofs.piece.count.Tie as tie
 
-stretches-of-requires : tie.Need-stretches-of-requires
-stretches-of-requires c κs = search needs
-
-stretches-of-requires-2 : tie.Need-stretches-of-requires-2
-stretches-of-requires-2 c κs = search needs
-
-times-requires : tie.Need-times-requires
-times-requires c κs = search needs
-
 returns : tie.Need-returns
 returns c =
     let a = c .before .before .before .args in (
@@ -25,4 +16,4 @@ returns c =
 
 pub count-spec : {M : Type 1} → statement M
 count-spec =
-    tie.close (tie.spec stretches-of-requires stretches-of-requires-2 times-requires returns)
+    tie.close (tie.spec (λ c κs. search needs) (λ c κs. search needs) (λ c κs. search needs) returns)

@@ -8,18 +8,6 @@ use borrow.Author.Needs.{needs}
 use Rattle.pieces.proofs.piece.stretches_of.Statement.{statement}
 use Rattle.pieces.proofs.piece.stretches_of.Tie as tie
 
-mul-times : tie.Need-mul-times
-mul-times c = search needs
-
-add-times : tie.Need-add-times
-add-times c = search needs
-
-sub-times : tie.Need-sub-times
-sub-times c = search needs
-
-times-requires : tie.Need-times-requires
-times-requires c κs = search needs
-
 returns : tie.Need-returns
 returns c =
     let a = c .before .args in
@@ -28,4 +16,4 @@ returns c =
     (e, omega (arith, stretches-few (a .n) (a .k) (omega arith) (omega arith)))
 
 pub stretches-of-spec : {M : Type 1} → statement M
-stretches-of-spec = tie.close (tie.spec mul-times add-times sub-times times-requires returns)
+stretches-of-spec = tie.close (tie.spec (λ c. search needs) (λ c. search needs) (λ c. search needs) (λ c κs. search needs) returns)

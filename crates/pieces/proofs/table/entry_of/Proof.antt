@@ -5,8 +5,8 @@ use lib.Bits.{bitOr}
 use lib.ListN.{drop, length-drop}
 use lib.Seq.{length-take-le}
 use Rattle.books.specs.Picture.{across, down}
-use Rattle.pieces.specs.Joined.{along}
-use Rattle.pieces.specs.Settled.{plan}
+use Rattle.pieces.specs.inner.Firing.{along}
+use Rattle.pieces.specs.inner.Settled.{plan}
 use Rattle.pieces.specs.declared.course.Course.{Course}
 use Rattle.pieces.proofs.Courses.{course-runs}
 use Rattle.pieces.proofs.AllCuts.{along-cuts}
@@ -17,9 +17,6 @@ use Rattle.pieces.proofs.table.entry_of.Tie as tie
 slice-aggregate-join-along : tie.Need-slice-aggregate-join-along
 slice-aggregate-join-along c = let s = c .before .before .before in sym (length-take-le 600 (s .args .rules .now) (omega (arith, s .pre .1)))
 
-across-course-requires : tie.Need-across-course-requires
-across-course-requires c κs = search needs
-
 join-along-requires : tie.Need-join-along-requires
 join-along-requires c κs =
     let s = c .before .before .before .before in (
@@ -27,18 +24,6 @@ join-along-requires c κs =
       length-take-le 600 (s .args .rules .now) (omega (arith, s .pre .1)),
       s .pre .1 .1,
     )
-
-sub-join-along : tie.Need-sub-join-along
-sub-join-along c = search needs
-
-part-join-along-start : tie.Need-part-join-along-start
-part-join-along-start c = search needs
-
-part-join-along-end : tie.Need-part-join-along-end
-part-join-along-end c = search needs
-
-down-course-requires : tie.Need-down-course-requires
-down-course-requires c κs = search needs
 
 join-along-requires-2 : tie.Need-join-along-requires-2
 join-along-requires-2 c κs =
@@ -67,11 +52,11 @@ entry-of-spec =
     tie.close
     (tie.spec
     slice-aggregate-join-along
-    across-course-requires
+    (λ c κs. search needs)
     join-along-requires
-    sub-join-along
-    part-join-along-start
-    part-join-along-end
-    down-course-requires
+    (λ c. search needs)
+    (λ c. search needs)
+    (λ c. search needs)
+    (λ c κs. search needs)
     join-along-requires-2
     returns)

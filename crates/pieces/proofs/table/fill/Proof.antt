@@ -3,7 +3,7 @@ use mathlib.Core.Path.{sym}
 use Prim.Native.Nat.{_-_}
 use native.Mathlib.Nat.{lt-of-lt-of-le, le-of-eq}
 use native.Mathlib.Omega.{arith}
-use Rattle.pieces.specs.Settled.{plan}
+use Rattle.pieces.specs.inner.Settled.{plan}
 use Rattle.pieces.proofs.CellsFirst.{last-cell-inside}
 use Rattle.pieces.proofs.Settling.{Filling, filling-start, filling-step, filling-end}
 use borrow.Author.Needs.{needs}
@@ -16,20 +16,8 @@ Inv-loop work₀ rules joins m n end p₀ k₀ work p k = Filling (plan m n rule
 abbrev μ-loop : tie.MeasureT-loop
 μ-loop work₀ rules joins m n end p₀ k₀ work p k = end - k
 
-count-requires : tie.Need-count-requires Inv-loop μ-loop
-count-requires c κs = search needs
-
-sub-t10 : tie.Need-sub-t10 Inv-loop μ-loop
-sub-t10 c = search needs
-
-sub-t11 : tie.Need-sub-t11 Inv-loop μ-loop
-sub-t11 c = search needs
-
 next-requires : tie.Need-next-requires Inv-loop μ-loop
 next-requires c κs = let s = c .before .before .before in (s .pre .0 .0, last-cell-inside _ _ (s .pre .0 .0 .rows-some) (s .pre .0 .0 .cols-some))
-
-times-requires : tie.Need-times-requires Inv-loop μ-loop
-times-requires c κs = search needs
 
 loop-holds : tie.Need-loop-holds Inv-loop μ-loop
 loop-holds c =
@@ -62,12 +50,6 @@ next-requires-2 c κs =
     let less = lt-of-lt-of-le (c .before .before .loop-test .taken) (le-of-eq (t .before .before .before .count .ensures .0)) in
     (s .pre .0 .0, t .loop .inv .inside less)
 
-add-k : tie.Need-add-k Inv-loop μ-loop
-add-k c = search needs
-
-loop-less : tie.Need-loop-less Inv-loop μ-loop
-loop-less c = search needs
-
 loop-again : tie.Need-loop-again Inv-loop μ-loop
 loop-again c =
     let t = c .before .before .before .before in
@@ -87,18 +69,18 @@ fill-spec =
     (tie.spec
     Inv-loop
     μ-loop
-    count-requires
-    sub-t10
-    sub-t11
+    (λ c κs. search needs)
+    (λ c. search needs)
+    (λ c. search needs)
     next-requires
-    times-requires
+    (λ c κs. search needs)
     loop-holds
     entry-of-requires
     mul-work
     slice-write-work
     next-requires-2
-    add-k
-    loop-less
+    (λ c. search needs)
+    (λ c. search needs)
     loop-again
     same-length
     returns)

@@ -9,27 +9,12 @@ use borrow.Author.Needs.{needs}
 use Rattle.pieces.proofs.table.fill_table.Statement.{statement}
 use Rattle.pieces.proofs.table.fill_table.Tie as tie
 
-slice-aggregate-split : tie.Need-slice-aggregate-split
-slice-aggregate-split c = search needs
-
-split-requires : tie.Need-split-requires
-split-requires c κs = search needs
-
-slice-aggregate-paint-cells : tie.Need-slice-aggregate-paint-cells
-slice-aggregate-paint-cells c = search needs
-
-times-requires : tie.Need-times-requires
-times-requires c κs = search needs
-
 paint-cells-requires : tie.Need-paint-cells-requires
 paint-cells-requires c κs =
     let s = c .before .before .before .before .before .before .before .before in
     let e = c .before .times .ensures .0 in
     let few = cells-few _ _ (s .pre .0 .1 .rows-some) (s .pre .0 .1 .cols-some) in
     (c .before .before .before .before .split .kept .1 .1 .0, rw e (s .pre .1 .0), omega (arith, e, few, s .pre .0 .2), rw e (s .pre .1 .1))
-
-slice-aggregate-fill : tie.Need-slice-aggregate-fill
-slice-aggregate-fill c = search needs
 
 fill-requires : tie.Need-fill-requires
 fill-requires c κs =
@@ -38,9 +23,6 @@ fill-requires c κs =
     let s = v .before .before .before .before in
     let few = split-few _ _ _ _ (s .pre .0 .0) (v .split .ensures) in
     ((s .pre .0 .1, le-trans (s .pre .0 .2) (le-of-eq (sym (t .paint-cells .kept .1 .1 .1 .0)))), (v .split .kept .1 .1 .0, few .0, few .1))
-
-same-length : tie.Need-same-length
-same-length c = search needs
 
 returns : tie.Need-returns
 returns c =
@@ -54,12 +36,12 @@ pub fill-table-spec : {M : Type 1} → statement M
 fill-table-spec =
     tie.close
     (tie.spec
-    slice-aggregate-split
-    split-requires
-    slice-aggregate-paint-cells
-    times-requires
+    (λ c. search needs)
+    (λ c κs. search needs)
+    (λ c. search needs)
+    (λ c κs. search needs)
     paint-cells-requires
-    slice-aggregate-fill
+    (λ c. search needs)
     fill-requires
-    same-length
+    (λ c. search needs)
     returns)

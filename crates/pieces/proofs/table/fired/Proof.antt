@@ -1,6 +1,6 @@
 -- The two tests are those of the definition.
 use borrow.Author.Tests.{eq-eqb, ne-eqb}
-use Rattle.pieces.specs.Joined.{firing}
+use Rattle.pieces.specs.inner.Firing.{firing}
 use Rattle.pieces.proofs.table.fired.Statement.{statement}
 use Rattle.pieces.proofs.table.fired.Tie as tie
 

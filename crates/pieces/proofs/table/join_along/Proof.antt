@@ -4,8 +4,8 @@ use Prim.Native.Nat.{ℕ, _-_, _≤_, _<_}
 use native.Mathlib.Omega.{arith}
 use lib.Bits.{bitOr}
 use lib.ListN.{length, getD}
-use Rattle.pieces.specs.Course.{step, after, Steps}
-use Rattle.pieces.specs.Joined.{gathered, joined, atCut, along}
+use Rattle.pieces.specs.inner.Course.{step, after, Steps}
+use Rattle.pieces.specs.inner.Firing.{gathered, allFired, atCut, along}
 use Rattle.pieces.specs.declared.course.Course.{Course}
 use Rattle.pieces.proofs.Courses.{after-next}
 use Rattle.pieces.proofs.Gathered.{gathered-next}
@@ -46,15 +46,6 @@ mul-join-2 c =
 shared-slice-read-join-2 : tie.Need-shared-slice-read-join-2 Inv-loop μ-loop
 shared-slice-read-join-2 c = let s = c .before .before in rw (s .next-cut .ensures) (at-cut (s .before) .2)
 
-join-requires : tie.Need-join-requires Inv-loop μ-loop
-join-requires c κs = search needs
-
-add-k : tie.Need-add-k Inv-loop μ-loop
-add-k c = search needs
-
-loop-less : tie.Need-loop-less Inv-loop μ-loop
-loop-less c = search needs
-
 loop-again : tie.Need-loop-again Inv-loop μ-loop
 loop-again c =
     let s = c .before .before .before in
@@ -62,7 +53,7 @@ loop-again c =
     let a = t .before .before .before .args in
     let w = a .work .now in
     let e = s .next-cut .ensures ∙ ap step (t .loop .inv .1) in
-    let here = ap₂ (λ (x y : Course). joined (a .masks .now) (a .count) (getD w (x .first) 0) (getD w (y .second) 0)) (t .loop .inv .1) e in
+    let here = ap₂ (λ (x y : Course). allFired (a .masks .now) (a .count) (getD w (x .first) 0) (getD w (y .second) 0)) (t .loop .inv .1) e in
     (omega arith, e ∙ sym (after-next _ _), ap₂ bitOr (t .loop .inv .2) (c .join .ensures ∙ here) ∙ sym (gathered-next (t .loop .k) _))
 
 returns : tie.Need-returns Inv-loop μ-loop
@@ -84,8 +75,8 @@ join-along-spec =
     shared-slice-read-join
     mul-join-2
     shared-slice-read-join-2
-    join-requires
-    add-k
-    loop-less
+    (λ c κs. search needs)
+    (λ c. search needs)
+    (λ c. search needs)
     loop-again
     returns)

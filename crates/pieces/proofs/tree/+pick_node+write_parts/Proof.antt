@@ -11,7 +11,7 @@ use borrow.Fn.Kinds.{In}
 use borrow.Fn.PlainCycle.{Measures, is, falls, and}
 use Rattle.pieces.specs.declared.choice.Choice.the-variants.{NoRule}
 use Rattle.pieces.specs.Area.{area}
-use Rattle.pieces.specs.Wrote.{Wrote}
+use Rattle.pieces.specs.inner.TreeWrote.{TreeWrote}
 use Rattle.pieces.proofs.Cutting.{area-pos}
 use Rattle.pieces.proofs.TreeSteps.{tree-length}
 use Rattle.pieces.proofs.Nodes.{Chose, JoinFits, room-some, leaf-small, join-fits, tree-of}
@@ -146,14 +146,14 @@ module _ (t : ℕ) where
       (omega (arith, s .pre .0, p), (g .0, p .front-in, p .back-in, g .2, omega (arith, g .3, j .rooms, long)))
 
   pick-node-returns : pick-node-lts.Need-returns (picks t) (pick-node-at t) pick-node.Post
-  unfolding Wrote
+  unfolding TreeWrote
   pick-node-returns c = rw (tree-of (known (c .before .before)) NoRule (c .enum-told .given .1)) (refl, refl)
 
   pick-node-same-length : pick-node-lts.Need-same-length (picks t) (pick-node-at t) pick-node.Post
   pick-node-same-length c = search needs
 
   pick-node-returns-2 : pick-node-lts.Need-returns-2 (picks t) (pick-node-at t) pick-node.Post
-  unfolding Wrote
+  unfolding TreeWrote
   pick-node-returns-2 c =
       let k = c .before .before .before .before in
       rw (tree-of (known (k .before .before .before)) _ (k .before .choice .given .1)) (refl, c .before .before .put-node .ensures)

@@ -4,7 +4,7 @@ use mathlib.Core.Bool.{true}
 use denote.Ref.{now}
 use Rattle.pieces.specs.Area.{whole}
 use Rattle.pieces.specs.View.{hasBit}
-use Rattle.pieces.specs.Verdict.{verdict}
+use Rattle.pieces.specs.inner.Verdict.{verdict}
 use Rattle.pieces.proofs.Writing.{wrote-found, wrote-lost}
 use borrow.Author.Needs.{needs}
 use Rattle.pieces.proofs.tree.judge.Statement.{statement}
@@ -16,35 +16,11 @@ marked : (k : tie.After-pick-node) →
     hasBit (a .rows) (a .cols) (now (a .work)) (a .start) (whole (a .rows) (a .cols)) ≡ true
 marked k = let test = k .before .before in sym (test .before .has .ensures) ∙ test .if1 .taken
 
-has-requires : tie.Need-has-requires
-has-requires c κs = search needs
-
-pick-node-requires : tie.Need-pick-node-requires
-pick-node-requires c κs = search needs
-
-enum-told : tie.Need-enum-told
-enum-told c = search needs
-
-enum-told-2 : tie.Need-enum-told-2
-enum-told-2 c = search needs
-
-numbers-requires : tie.Need-numbers-requires
-numbers-requires c κs = search needs
-
-clear-requires : tie.Need-clear-requires
-clear-requires c κs = search needs
-
-same-length : tie.Need-same-length
-same-length c = search needs
-
 returns : tie.Need-returns
 unfolding verdict
 returns c =
     let k = c .before .before .before .before in
     rw (marked k) (wrote-found _ _ _ _ _ (rw (c .enum-told .given .1) at (k .pick-node .ensures)))
-
-same-length-2 : tie.Need-same-length-2
-same-length-2 c = search needs
 
 returns-2 : tie.Need-returns-2
 unfolding verdict
@@ -62,14 +38,14 @@ pub judge-spec : {M : Type 1} → statement M
 judge-spec =
     tie.close
     (tie.spec
-    has-requires
-    pick-node-requires
-    enum-told
-    enum-told-2
-    numbers-requires
-    clear-requires
-    same-length
+    (λ c κs. search needs)
+    (λ c κs. search needs)
+    (λ c. search needs)
+    (λ c. search needs)
+    (λ c κs. search needs)
+    (λ c κs. search needs)
+    (λ c. search needs)
     returns
-    same-length-2
+    (λ c. search needs)
     returns-2
     returns-3)

@@ -21,7 +21,7 @@ draftIn first second d =
     }
 
 -- the counts are within the arrays
-pub record Ready (d : Draft) : Type 0 where
+pub record DraftFits (d : Draft) : Type 0 where
   pub colours-few : d .family .colours .count ≤ 64
   pub more-few : d .more .count ≤ 64
   pub rules-few : d .family .count ≤ 200

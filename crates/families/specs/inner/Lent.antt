@@ -1,12 +1,12 @@
 -- A family as it was read from a lent book.
 use mathlib.Core.List.{List, List·Memᴰ}
 use Prim.Native.Nat.{ℕ, _≤_, _<_}
-use Rattle.books.specs.Held.{contentsIn}
+use Rattle.books.specs.ContentsIn.{contentsIn}
 use Rattle.books.specs.Keeps.{RuleFits, Keeps}
 use Rattle.books.specs.declared.family.Family.{Family}
 use Rattle.books.specs.declared.rule.Rule.{Rule}
-use Rattle.families.specs.Merges.{Lists}
-use Rattle.families.specs.Gathered.{standing, Rows}
+use Rattle.families.specs.inner.Merges.{Lists}
+use Rattle.families.specs.inner.Gathered.{standing, Rows}
 use Rattle.families.specs.declared.gathering.Rules.{Rules}
 
 abbrev pub rulesOf : Family → Rules

@@ -8,8 +8,8 @@ use Rattle.names.specs.Pick.{pick}
 use Rattle.books.specs.declared.rule.Rule.{Rule}
 use Rattle.books.specs.declared.rule.Body.{Body}
 use Rattle.books.specs.declared.rule.Body.the-variants.{Colour, Across, Down}
-use Rattle.pieces.specs.Joined.{gathered}
-use Rattle.pieces.specs.Masks.{Serves, Small, masksOf, countOf}
+use Rattle.pieces.specs.inner.Firing.{gathered}
+use Rattle.pieces.specs.inner.Masks.{Serves, Small, masksOf, countOf}
 use Rattle.books.specs.Rules.{noRule}
 use Rattle.pieces.specs.declared.masks.Joins.{Joins}
 

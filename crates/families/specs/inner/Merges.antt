@@ -3,7 +3,7 @@ use Prim.Native.Nat.{ℕ, _+_, _≤_, _<_}
 use mathlib.Core.Path.{_≡_}
 use mathlib.Core.List.{List, _++_}
 use lib.ListN.{length, getD}
-use Rattle.names.specs.Name.{place}
+use Rattle.names.specs.Name.{listed}
 use Rattle.names.specs.Spelling.{Distinct}
 use Rattle.names.specs.Colours.{nameIn, namesIn}
 use Rattle.names.specs.declared.colours.Colours.{Colours}
@@ -21,5 +21,5 @@ pub record Lists (s : List ℕ) (c : Colours) : Type 0 where
 -- the first book's colours with these parts of the second are the merged list, where each of the second's colours has its number
 pub record Merges (s : List ℕ) (f : Colours) (t : List ℕ) (g : Colours) (m : Merged) : Type 0 where
   pub names : namesIn s f ++ namesIn t (m .more) ≡ merged (namesIn s f) (namesIn t g)
-  pub numbered : (i : ℕ) → i < g .count → getD (m .numbers) i 0 ≡ place (merged (namesIn s f) (namesIn t g)) (nameIn t g i)
+  pub numbered : (i : ℕ) → i < g .count → getD (m .numbers) i 0 ≡ listed (merged (namesIn s f) (namesIn t g)) (nameIn t g i)
   pub few : m .more .count ≤ g .count

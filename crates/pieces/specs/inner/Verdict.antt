@@ -9,8 +9,7 @@ use Rattle.pieces.specs.Pieces.{total}
 use Rattle.pieces.specs.Area.{whole, treeSize}
 use Rattle.pieces.specs.View.{View}
 use Rattle.pieces.specs.Tree.{treeOf}
-use Rattle.pieces.specs.Wrote.{outcome}
-use Rattle.pieces.specs.Derivation.{treeAnswer}
+use Rattle.pieces.specs.Derivation.{treeAnswer, outcome}
 
 -- the answer's number, and what stands in the tree slice
 pub record Verdict : Type 0 where

@@ -4,8 +4,8 @@ use mathlib.Core.List.{List, [], _∷_}
 use Rattle.books.specs.Picture.{Dir, joins}
 use Rattle.books.specs.declared.family.Family.{Family}
 use Rattle.families.specs.Combine.{copies}
-use Rattle.families.specs.Gathered.{standing, followed, raisedBy, changed}
-use Rattle.families.specs.Lent.{rulesOf}
+use Rattle.families.specs.inner.Gathered.{standing, followed, raisedBy, changed}
+use Rattle.families.specs.inner.Lent.{rulesOf}
 use Rattle.families.specs.declared.gathering.Rules.{Rules}
 
 -- the second family's rules, raised

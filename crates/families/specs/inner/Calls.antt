@@ -6,7 +6,7 @@ use mathlib.Core.Bool.{true}
 use lib.ListN.{length}
 use Rattle.names.specs.Pick.{pick}
 use Rattle.books.specs.Contents.{Contents}
-use Rattle.books.specs.Draft.{draftIn, Ready}
+use Rattle.books.specs.inner.Draft.{draftIn, DraftFits}
 use Rattle.books.specs.SpellBook.{spellBook}
 use Rattle.books.specs.Answer.{plain}
 use Rattle.families.specs.Combine.{either-of, beside, above, run, stack, mirrored, flipped, transposed}
@@ -35,5 +35,5 @@ finished s t m out = pick (m .within) (written (draftIn s t (m .draft)) out) (re
 
 -- a draft that can be written, whose length can be answered
 pub record Finishes (s t : List ℕ) (m : Made) : Type 0 where
-  pub ready : Ready (m .draft)
+  pub ready : DraftFits (m .draft)
   pub count-fits : m .within ≡ true → length (spellBook (draftIn s t (m .draft))) < 2 ^ 32

@@ -7,7 +7,7 @@ use Rattle.names.specs.Colours.{noColours}
 use Rattle.names.specs.declared.colours.Colours.{Colours}
 use Rattle.books.specs.declared.family.Family.{Family}
 use Rattle.books.specs.Contents.{Contents}
-use Rattle.books.specs.Draft.{draftIn, Ready}
+use Rattle.books.specs.inner.Draft.{draftIn, DraftFits}
 use Rattle.families.specs.Within.{within?}
 use Rattle.families.specs.declared.gathering.Rules.{Rules}
 use Rattle.families.specs.declared.making.Made.{Made}
@@ -31,4 +31,4 @@ tooMuch f = record { within = false; draft = record { family = f; more = noColou
 pub record Makes (s t : List ℕ) (c : Contents) (m : Made) : Type 0 where
   pub tested : m .within ≡ within? c
   pub drafted : m .within ≡ true → draftIn s t (m .draft) ≡ c
-  pub ready : Ready (m .draft)
+  pub ready : DraftFits (m .draft)

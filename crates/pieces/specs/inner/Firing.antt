@@ -5,7 +5,7 @@ use lib.ListN.{getD}
 use lib.Bits.{bitAnd, bitOr}
 use lib.Dec.{eqb}
 use Rattle.names.specs.Pick.{pick}
-use Rattle.pieces.specs.Course.{step, after}
+use Rattle.pieces.specs.inner.Course.{step, after}
 use Rattle.pieces.specs.declared.course.Course.{Course}
 
 -- one join at one cut: its head, where the entries l and r of the two parts have the motifs of its first and its second part
@@ -18,12 +18,12 @@ gathered zero f = 0
 gathered (suc n) f = bitOr (gathered n f) (f n)
 
 -- all joins at one cut: the masks of their first parts, of their second parts from 200 on, and of their heads from 400 on
-unfoldable pub joined : List ℕ → ℕ → ℕ → ℕ → ℕ
-joined masks count l r = gathered count (λ i. firing l r (getD masks i 0) (getD masks (200 + i) 0) (getD masks (400 + i) 0))
+unfoldable pub allFired : List ℕ → ℕ → ℕ → ℕ → ℕ
+allFired masks count l r = gathered count (λ i. firing l r (getD masks i 0) (getD masks (200 + i) 0) (getD masks (400 + i) 0))
 
 -- all joins at the k-th cut of a course over the table t, and at all its cuts
 abbrev pub atCut : List ℕ → List ℕ → ℕ → Course → ℕ → ℕ
-atCut t masks count c k = joined masks count (getD t (after k c .first) 0) (getD t (step (after k c) .second) 0)
+atCut t masks count c k = allFired masks count (getD t (after k c .first) 0) (getD t (step (after k c) .second) 0)
 
 unfoldable pub along : List ℕ → List ℕ → ℕ → Course → ℕ
 along t masks count c = gathered (c .cuts) (atCut t masks count c)

@@ -8,9 +8,9 @@ use Rattle.books.specs.Picture.{Dir, across, down}
 use Rattle.books.specs.declared.rule.Rule.{Rule}
 use Rattle.pieces.specs.Pieces.{Inside, total, slotOf}
 use Rattle.pieces.specs.Parts.{extent, firstPart, restPart}
-use Rattle.pieces.specs.Joined.{gathered, joined}
-use Rattle.pieces.specs.Masks.{Serves, masksOf, countOf}
-use Rattle.pieces.specs.Painted.{paintersOf}
+use Rattle.pieces.specs.inner.Firing.{gathered, allFired}
+use Rattle.pieces.specs.inner.Masks.{Serves, masksOf, countOf}
+use Rattle.pieces.specs.inner.Painted.{paintersOf}
 use Rattle.pieces.specs.declared.piece.Piece.{Piece}
 use Rattle.pieces.specs.declared.masks.Joins.{Joins}
 
@@ -31,7 +31,7 @@ at j t p = getD t (slotOf (j .rows) (j .cols) p) 0
 -- what the cuts of a piece in one direction give
 unfoldable pub cutsOf : Plan → List ℕ → Dir → Piece → ℕ
 cutsOf j t d p =
-    gathered (extent d p - 1) (λ k. joined (j .masks d) (j .count d) (at j t (firstPart d (k + 1) p)) (at j t (restPart d (k + 1) p)))
+    gathered (extent d p - 1) (λ k. allFired (j .masks d) (j .count d) (at j t (firstPart d (k + 1) p)) (at j t (restPart d (k + 1) p)))
 
 -- the entry that a piece of more than one cell has by those of its parts
 abbrev pub entryOf : Plan → List ℕ → Piece → ℕ
@@ -51,7 +51,7 @@ pub record Filled (j : Plan) (before after : List ℕ) : Type 0 where
 
 -- a table that was made for the first so many rules and the numbers of a sheet's cells: a cell has the motifs that paint it, and every other piece the entry
 -- that those of its parts give
-pub record Made (rs : List Rule) (few : ℕ) (colours : List ℕ) (m n : ℕ) (before after : List ℕ) : Type 0 where
+pub record TableMade (rs : List Rule) (few : ℕ) (colours : List ℕ) (m n : ℕ) (before after : List ℕ) : Type 0 where
   pub masks : Dir → List ℕ
   pub count : Dir → ℕ
   pub serves : Serves (take few rs) masks count
