@@ -7,13 +7,14 @@ use mathlib.Core.List.{List, [], _∷_, List·Memᴰ, List·Memᴰ·head, List·
 use mathlib.Core.Logic.{_↔_, _⊎_, inl, inr, ⊎-elim}
 use native.Mathlib.Nat.{eq-or-lt-of-le}
 use native.Mathlib.Omega.{arith}
-use borrow.Author.Tests.{eqb-true, eq-eqb}
+use borrow.Author.Tests.{eqb-true, eq-eqb, ltb-true, lt-ltb}
+use Rattle.names.specs.Name.{Name}
 use Rattle.names.proofs.SameNames.{same-name}
 use Rattle.names.proofs.Tests.{not-true-false}
-use Rattle.books.specs.Contents.{Contents, Has}
+use Rattle.books.specs.Contents.{Contents, Has, Called}
 use Rattle.books.specs.Picture.{Picture, Same, Dir, across, down, joins, size, first, rest}
 use Rattle.books.specs.Derives.{Derives, paint, join}
-use Rattle.books.specs.Decide.{andThen, orElse, anyCut, fitsBody, anyRule, derivesIn, derives?}
+use Rattle.books.specs.Decide.{andThen, orElse, called?, anyCut, fitsBody, anyRule, derivesIn, derives?}
 use Rattle.books.specs.declared.rule.Rule.{Rule}
 use Rattle.books.specs.declared.rule.Body.{Body}
 use Rattle.books.specs.declared.rule.Body.the-variants.{Colour, Across, Down}
@@ -45,6 +46,14 @@ pub or-right : (t : Bool) (k : Unit {0} → Bool) → k tt ≡ true → orElse t
 unfolding orElse
 or-right true k e = refl
 or-right false k e = e
+
+-- A colour's name is found where its number is listed.
+pub called : (b : Contents) (c : ℕ) (n : Name) → (called? b c n ≡ true) ↔ Called b c n
+unfolding called?
+called b c n = (
+  λ e. let (x, y) = and-both _ _ e in (ltb-true _ _ x, same-name _ _ .0 y),
+  λ e. and-make _ _ (lt-ltb _ _ (e .0)) (same-name _ _ .1 (e .1)),
+)
 
 -- A cut at n or below it is found exactly where one is.
 module _ (t : ℕ → Picture → Bool) (d : Dir) (l r : ℕ) (p : Picture) where
@@ -81,7 +90,7 @@ module _ (t : ℕ → Picture → Bool) (b : Contents) (p : Picture) (sound : (a
   body-sound a (Colour c) h e =
       let (x, u) = and-both _ _ e in
       let (y, z) = and-both _ _ u in
-      paint c h (eqb-true _ _ x) (eqb-true _ _ y) (same-name _ _ .0 z)
+      paint c h (eqb-true _ _ x) (eqb-true _ _ y) (called b c (p .cell 0 0) .0 z)
   body-sound a (Across l r) h e = joins-sound across a l r h e
   body-sound a (Down u v) h e = joins-sound down a u v h e
 
@@ -130,7 +139,7 @@ module _ (t : ℕ → Picture → Bool) (b : Contents) (p : Picture)
   pub rules-complete : (a : ℕ) → Derives b a p → anyRule t b a p (b .rules) ≡ true
   rules-complete a (paint c h hr hc e) =
       rule-complete t b p a (Colour c) (b .rules) h
-      (unfold fitsBody in (and-make _ _ (eq-eqb _ _ hr) (and-make _ _ (eq-eqb _ _ hc) (same-name _ _ .1 e))))
+      (unfold fitsBody in (and-make _ _ (eq-eqb _ _ hr) (and-make _ _ (eq-eqb _ _ hc) (called b c (p .cell 0 0) .1 e))))
   rules-complete a (join d l r k h hk hs x y) =
       rule-complete t b p a (joins d l r) (b .rules) h
       (fits-joins t b p d l r

@@ -1,7 +1,10 @@
 -- Document 01's three bullets say what `Derives` says: an across join and a down join are the two directions of one join.
-use Prim.Native.Nat.{ℕ}
+use Prim.Native.Nat.{ℕ, _≤_}
 use mathlib.Core.Logic.{_↔_}
-use Rattle.books.specs.Contents.{Contents}
+use native.Mathlib.Omega.{arith}
+use lib.ListN.{length}
+use Rattle.names.specs.Name.{Name}
+use Rattle.books.specs.Contents.{Contents, Called}
 use Rattle.books.specs.Picture.{Picture, across, down}
 use Rattle.books.specs.Derives.{Derives, paint, join}
 use Rattle.books.specs.Plain.{Plain, coloured, joined-across, joined-down}
@@ -18,3 +21,7 @@ back (join down u v k h hk hs x y) = joined-down u v k h hk hs (back x) (back y)
 
 pub plainly : (b : Contents) (a : ℕ) (p : Picture) → Plain b a p ↔ Derives b a p
 plainly b a p = (there, back)
+
+-- A rule whose colour number is past the list paints no cell, whatever the cell's name.
+pub paints-nothing : (b : Contents) (c : ℕ) (n : Name) → length (b .colours) ≤ c → Called b c n → ⊥
+paints-nothing b c n past (low, is) = omega arith

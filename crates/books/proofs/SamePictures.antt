@@ -54,7 +54,7 @@ same-rest down k s =
 -- Derivation goes by what stands inside alone.
 pub derives-same : {b : Contents} {a : ℕ} {p q : Picture} → Same p q → Derives b a p → Derives b a q
 derives-same {p = p} {q = q} s (paint c h hr hc e) =
-    paint c h (sym (s .same-rows) ∙ hr) (sym (s .same-cols) ∙ hc) (sym (s .same-cell 0 0 (omega arith) (omega arith)) ∙ e)
+    paint c h (sym (s .same-rows) ∙ hr) (sym (s .same-cols) ∙ hc) (e .0, sym (s .same-cell 0 0 (omega arith) (omega arith)) ∙ e .1)
 derives-same {q = q} s (join d l r k h hk hs x y) =
     join {p = q} d l r k h hk (omega (arith, same-size d s))
     (derives-same (same-first d k (omega arith) s) x)

@@ -2,8 +2,9 @@
 use Prim.Native.Nat.{ℕ, zero, suc, _+_, _-_}
 use mathlib.Core.Bool.{Bool, true, false}
 use mathlib.Core.List.{List, [], _∷_}
-use lib.Dec.{eqb}
-use Rattle.names.specs.Name.{sameName}
+use lib.Dec.{eqb, ltb}
+use lib.ListN.{length}
+use Rattle.names.specs.Name.{Name, sameName}
 use Rattle.books.specs.Contents.{Contents, name}
 use Rattle.books.specs.Picture.{Picture, Dir, across, down, first, rest}
 use Rattle.books.specs.declared.rule.Rule.{Rule}
@@ -25,8 +26,12 @@ anyCut t d l r p zero = false
 anyCut t d l r p (suc n) =
     orElse (andThen (t l (first d (suc n) p)) (λ _. t r (rest d (suc n) p))) (λ _. anyCut t d l r p n)
 
+-- whether the colour with a number has a name
+unfoldable pub called? : Contents → ℕ → Name → Bool
+called? b c n = andThen (ltb c (length (b .colours))) (λ _. sameName n (name b c))
+
 unfoldable pub fitsBody : (ℕ → Picture → Bool) → Contents → Picture → Body → Bool
-fitsBody t b p (Colour c) = andThen (eqb (p .rows) 1) (λ _. andThen (eqb (p .cols) 1) (λ _. sameName (p .cell 0 0) (name b c)))
+fitsBody t b p (Colour c) = andThen (eqb (p .rows) 1) (λ _. andThen (eqb (p .cols) 1) (λ _. called? b c (p .cell 0 0)))
 fitsBody t b p (Across l r) = anyCut t across l r p (p .cols - 1)
 fitsBody t b p (Down u v) = anyCut t down u v p (p .rows - 1)
 

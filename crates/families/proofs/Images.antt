@@ -82,7 +82,7 @@ mirrored-first p k h = record { same-rows = refl; same-cols = omega arith; same-
 mirrored-forth : {b : Contents} {a : ℕ} {p : Picture} → Derives b a p → Derives (mirrored b) a (reversed across p)
 mirrored-forth {p = p} (paint c h hr hc e) =
     let first-last : p .cols - 1 - 0 ≡ 0 = omega arith in
-    paint c (Memᴰ·map _ h) hr hc (ap (p .cell 0) first-last ∙ e)
+    paint c (Memᴰ·map _ h) hr hc (e .0, ap (p .cell 0) first-last ∙ e .1)
 mirrored-forth {p = p} (join across l r k h hk hs x y) =
     join {p = reversed across p} across r l (p .cols - k) (Memᴰ·map _ h) (omega arith) (omega arith)
     (derives-same (mirrored-rest p k hs) (mirrored-forth y))

@@ -4,7 +4,7 @@ use Prim.Native.Nat.{ℕ, _<_}
 use mathlib.Core.Path.{_≡_, refl, sym, _∙_, ap}
 use mathlib.Core.List.{Memᴰ·cast}
 use lib.ListN.{length}
-use Rattle.books.specs.Contents.{Contents, Has, name}
+use Rattle.books.specs.Contents.{Contents, Has, Called, name}
 use Rattle.books.specs.Picture.{Picture, Dir, across, down, joins}
 use Rattle.books.specs.Derives.{Derives, paint, join}
 use Rattle.books.specs.Keeps.{BodyFits, Sound}
@@ -16,7 +16,7 @@ use Rattle.families.specs.Combine.{moved}
 pub record Inside (f h : Contents) (m c : ℕ → ℕ) : Type 0 where
   pub forth : (a : ℕ) (x : Body) → Has f a x → Has h (m a) (moved m c x)
   pub back : (a : ℕ) (y : Body) → a < f .motifs → Has h (m a) y → (x : Body) × Has f a x × (y ≡ moved m c x)
-  pub named : (k : ℕ) → k < length (f .colours) → name h (c k) ≡ name f k
+  pub named : (k : ℕ) → k < length (f .colours) → Called h (c k) (name f k)
 
 moved-joins : (m c : ℕ → ℕ) (d : Dir) (l r : ℕ) → joins d (m l) (m r) ≡ moved m c (joins d l r)
 moved-joins m c across l r = refl
@@ -48,7 +48,7 @@ has-cast b p q h = Memᴰ·cast (λ i. record { head = p i; body = q i }) h
 module _ (f h : Contents) (m c : ℕ → ℕ) (sf : Sound f) (s : Inside f h m c) where
   pub inside-forth : {a : ℕ} {p : Picture} → Derives f a p → Derives h (m a) p
   inside-forth {a} (paint k has hr hc e) =
-      paint (c k) (s .forth a (Colour k) has) hr hc (e ∙ sym (s .named k (sf .rules-fit _ has .body-fits)))
+      paint (c k) (s .forth a (Colour k) has) hr hc (s .named k (e .0) .0, e .1 ∙ s .named k (e .0) .1)
   inside-forth {a} (join d l r k has hk hs x y) =
       join d (m l) (m r) k (has-cast h refl (moved-joins m c d l r) (s .forth a (joins d l r) has)) hk hs (inside-forth x) (inside-forth y)
 
@@ -57,7 +57,8 @@ module _ (f h : Contents) (m c : ℕ → ℕ) (sf : Sound f) (s : Inside f h m c
       let (x, hx, ex) = s .back a (Colour k) ha (has-cast h (sym ez) refl has) in
       let (j, ej, ek) = colour-back m c k x ex in
       let hj : Has f a (Colour j) = has-cast f refl (sym ej) hx in
-      paint j hj hr hc (e ∙ ap (name h) ek ∙ s .named j (sf .rules-fit _ hj .body-fits))
+      let fits = sf .rules-fit _ hj .body-fits in
+      paint j hj hr hc (fits, e .1 ∙ ap (name h) ek ∙ sym (s .named j fits .1))
   inside-back (join d l r k has hk hs u v) a ha ez =
       let (x, hx, ex) = s .back a (joins d l r) ha (has-cast h (sym ez) refl has) in
       let (i, j, ej, el, er) = joins-back m c d l r x ex in

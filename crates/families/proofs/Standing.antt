@@ -5,7 +5,7 @@ use mathlib.Core.Path.{_≡_, refl, sym, _∙_, ap}
 use mathlib.Core.List.{List, [], _++_, List·Memᴰ, Memᴰ·append-left, Memᴰ·append-right, Memᴰ·map, Memᴰ·of-map}
 use mathlib.Core.Logic.{_↔_}
 use native.Mathlib.Omega.{arith}
-use lib.ListN.{getD, List·getD-append}
+use lib.ListN.{length, getD, length-append, List·getD-append}
 use Rattle.names.specs.Name.{Name}
 use Rattle.names.proofs.Listing.{getD-mem, listed-found}
 use Rattle.books.specs.Contents.{Contents, Has, name}
@@ -50,7 +50,10 @@ module _ (f h : Contents) (rs : List Rule) (cs : List Name) (sf : Sound f) (s : 
       record {
         forth = λ a x m. rw (s .rules-are) (Memᴰ·append-left rs (has-cast f refl (moved-same x) m));
         back = λ a y ha m. (y, first-rule a y ha m, sym (moved-same y));
-        named = λ k hk. ap (λ (l : List Name). getD l k []) (s .colours-are) ∙ List·getD-append (f .colours) cs [] k hk;
+        named = λ k hk. (
+          omega (arith, ap length (s .colours-are), length-append (f .colours) cs),
+          sym (ap (λ (l : List Name). getD l k []) (s .colours-are) ∙ List·getD-append (f .colours) cs [] k hk),
+        );
       }
 
   pub first-derives : (p : Picture) → Derives h (f .start) p ↔ Member f p
@@ -85,7 +88,8 @@ module _ (f g h : Contents) (rs : List Rule) (sf : Sound f) (sg : Sound g) (s : 
             (r .body, has-cast g (omega (arith, ap (λ (q : Rule). q .head) e)) refl hr, sym (ap (λ (q : Rule). q .body) e));
         named = λ k hk.
             let m = merged-mem (f .colours) (g .colours) (name g k) (getD-mem (g .colours) k [] hk) in
-            ap (λ (l : List Name). getD l (renumbered f g k) []) (s .colours-are) ∙ listed-found (merged (f .colours) (g .colours)) (name g k) m .1;
+            let (low, is) = listed-found (merged (f .colours) (g .colours)) (name g k) m in
+            (omega (arith, ap length (s .colours-are)), sym (ap (λ (l : List Name). getD l (renumbered f g k) []) (s .colours-are) ∙ is));
       }
 
   pub second-derives : (p : Picture) → Derives h (f .motifs + g .start) p ↔ Member g p

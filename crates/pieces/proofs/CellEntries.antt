@@ -89,7 +89,7 @@ module _ (book : List ℕ) (f : Family) (keeps : Keeps (contentsIn book f)) (all
         let low : listed names (q .cell 0 0) < length names = subst (λ (k : ℕ). k < length names) (found-at (q .cell 0 0)) (colour-in a number has) in (
           subst (λ (k : ℕ). k < b .motifs) (sym (w .1)) (keeps .sound .rules-fit _ m .head-fits),
           paint {p = q} number has one-row one-col
-              (sym (ap (name b) (found-at (q .cell 0 0)) ∙ listed-found names (q .cell 0 0) (listed-mem names (q .cell 0 0) low) .1)),
+              (colour-in a number has, sym (ap (name b) (found-at (q .cell 0 0)) ∙ listed-found names (q .cell 0 0) (listed-mem names (q .cell 0 0) low) .1)),
         )
       where
         same : (r : Rule) {k : ℕ} {x : Body} → k ≡ r .head → r .body ≡ x → r ≡ record { head = k; body = x }
@@ -101,7 +101,7 @@ module _ (book : List ℕ) (f : Family) (keeps : Keeps (contentsIn book f)) (all
         let v = member-at (b .rules) noRule h in
         let low : v .0 < f .count = omega (arith, v .1, length-take-le (f .count) (f .rules) all) in
         let here = sym (getD-take (f .count) (f .rules) (v .0) noRule low) ∙ v .2 in
-        let found = found-at (q .cell 0 0) ∙ ap (listed names) e ∙ listed-own names c (keeps .colours-ok .distinct) (colour-in a c h) in
+        let found = found-at (q .cell 0 0) ∙ ap (listed names) (e .1) ∙ listed-own names c (keeps .colours-ok .distinct) (e .0) in
         has-gathered (f .count) (painterAt (f .rules) number) a (v .0) low
         (subst (λ (r : Rule). bit (painterOf number (r .head) (r .body)) a ≡ 1) (sym here)
         (subst (λ (n : ℕ). bit (painterOf n a (Colour c)) a ≡ 1) (sym found) (has-painter c a)))

@@ -12,14 +12,13 @@ use borrow.Author.Tests.{eqb-true, eq-eqb}
 use Rattle.names.specs.Name.{Name, listed}
 use Rattle.names.specs.Spelling.{Distinct}
 use Rattle.names.proofs.Listing.{listed-mem, listed-found, listed-own}
-use Rattle.names.proofs.SameNames.{same-name}
-use Rattle.books.specs.Contents.{Contents, Has, name}
+use Rattle.books.specs.Contents.{Contents, Has, Called}
 use Rattle.books.specs.Picture.{Picture}
 use Rattle.books.specs.Derives.{Derives}
 use Rattle.books.specs.Keeps.{Sound}
 use Rattle.books.specs.Decide.{derives?}
 use Rattle.books.specs.declared.rule.Body.the-variants.{Colour}
-use Rattle.books.proofs.Deciding.{decided}
+use Rattle.books.proofs.Deciding.{called, decided}
 use Rattle.pieces.specs.declared.piece.Piece.{Piece}
 use Rattle.pieces.specs.Pieces.{Inside, slotOf}
 use Rattle.pieces.specs.Table.{bit, cut, entry}
@@ -31,7 +30,7 @@ pub named-exact : (b : Contents) (p : Picture) → Exact b p (named b p (λ a q.
 named-exact b p =
     record {
       has-exact = λ a q inq. decided b a (cut p q);
-      paints-exact = λ c q inq ruled. same-name (p .cell (q .top) (q .left)) (name b c);
+      paints-exact = λ c q inq ruled. called b c (p .cell (q .top) (q .left));
     }
 
 -- A motif that derives something is the head of a rule.
@@ -40,11 +39,11 @@ motif-below b sound {a} x =
     let (i, y, u, able) = derives-able x in sound .rules-fit _ (at-has b i a y u) .head-fits
 
 -- A cell shows a colour of the book exactly where it has its number.
-number-name : (l : List Name) (n : Name) (c : ℕ) → Distinct l → c < length l → (eqb (listed l n) c ≡ true) ↔ (n ≡ getD l c [])
+number-name : (l : List Name) (n : Name) (c : ℕ) → Distinct l → c < length l → (eqb (listed l n) c ≡ true) ↔ ((c < length l) × (n ≡ getD l c []))
 number-name l n c apart h = (
   λ e. let f : listed l n ≡ c = eqb-true (listed l n) c e in
-      let (_, g) = listed-found l n (listed-mem l n (omega arith)) in sym g ∙ ap (λ (k : ℕ). getD l k []) f,
-  λ e. eq-eqb (listed l n) c (ap (listed l) e ∙ listed-own l c apart h),
+      let (_, g) = listed-found l n (listed-mem l n (omega arith)) in (h, sym g ∙ ap (λ (k : ℕ). getD l k []) f),
+  λ e. eq-eqb (listed l n) c (ap (listed l) (e .1) ∙ listed-own l c apart h),
 )
 
 module _ (b : Contents) (p : Picture) (sound : Sound b) (apart : Distinct (b .colours)) (work colours : List ℕ)
@@ -59,7 +58,7 @@ module _ (b : Contents) (p : Picture) (sound : Sound b) (apart : Distinct (b .co
       )
 
   colour-exact : (c : ℕ) (q : Piece) → Inside (p .rows) (p .cols) q → ((a : ℕ) × Has b a (Colour c))
-      → (hasColour (p .cols) colours c q ≡ true) ↔ (p .cell (q .top) (q .left) ≡ name b c)
+      → (hasColour (p .cols) colours c q ≡ true) ↔ Called b c (p .cell (q .top) (q .left))
   unfolding hasColour
   colour-exact c q inq ruled =
       rw (numbers (q .top) (q .left) (omega arith) (omega arith))

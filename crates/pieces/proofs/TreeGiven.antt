@@ -10,7 +10,7 @@ use native.Mathlib.Nat.{add-zero}
 use native.Mathlib.Omega.{arith}
 use borrow.Author.Tests.{eq-eqb, ltb-true, lt-ltb}
 use Rattle.names.proofs.Tests.{lt-or-le}
-use Rattle.books.specs.Contents.{Contents, name}
+use Rattle.books.specs.Contents.{Contents, Called}
 use Rattle.books.specs.Picture.{Picture, joins}
 use Rattle.books.specs.Derives.{Derives}
 use Rattle.books.specs.declared.rule.Body.{Body}
@@ -70,11 +70,11 @@ module _ (b : Contents) (p : Picture) (v : View) (exact : Exact b p v) (q : Piec
   fits-able : (i a : ℕ) (x : Body) → At b i a x → (fits v q x ≡ true) ↔ Able b (cut p q) x
   unfolding fits reach
   fits-able i a (Colour c) u =
-      let same : (v .paints c q ≡ true) ↔ (p .cell (q .top) (q .left) ≡ name b c) =
+      let same : (v .paints c q ≡ true) ↔ Called b c (p .cell (q .top) (q .left)) =
       exact .paints-exact c q inq (a, at-has b i a (Colour c) u) in
       let here : p .cell (q .top + 0) (q .left + 0) ≡ p .cell (q .top) (q .left) = ap₂ (p .cell) (add-zero (q .top)) (add-zero (q .left)) in (
-        λ e. let (h, w, z) = cell-fits v q c e in (h, w, here ∙ same .0 z),
-        λ z. covers-cell (v .paints) q c (z .0) (z .1) ∙ same .1 (sym here ∙ z .2),
+        λ e. let (h, w, z) = cell-fits v q c e in (h, w, (same .0 z .0, here ∙ same .0 z .1)),
+        λ z. covers-cell (v .paints) q c (z .0) (z .1) ∙ same .1 (z .2 .0, sym here ∙ z .2 .1),
       )
   fits-able i a (AcrossBody l r) u = (λ e. cut-able Across l r .0 (ltb-true _ _ e), λ w. lt-ltb _ _ (cut-able Across l r .1 w))
   fits-able i a (DownBody l r) u = (λ e. cut-able Down l r .0 (ltb-true _ _ e), λ w. lt-ltb _ _ (cut-able Down l r .1 w))

@@ -3,7 +3,7 @@ use Prim.Native.Nat.{ℕ, _≤_, _<_}
 use mathlib.Core.Path.{_≡_}
 use mathlib.Core.List.{List, [], _∷_, _++_}
 use lib.ListN.{length, getD}
-use Rattle.books.specs.Contents.{Contents, name}
+use Rattle.books.specs.Contents.{Contents, Called}
 use Rattle.books.specs.Picture.{Picture, Dir, across, down, joins, size, first, rest}
 use Rattle.books.specs.Derives.{Derives}
 use Rattle.books.specs.declared.rule.Body.{Body}
@@ -24,7 +24,7 @@ pub record Works (b : Contents) (d : Dir) (l r : ℕ) (p : Picture) (k : ℕ) : 
 
 -- a body can derive p
 abbrev pub Able : Contents → Picture → Body → Type 0
-Able b p (Colour c) = (p .rows ≡ 1) × (p .cols ≡ 1) × (p .cell 0 0 ≡ name b c)
+Able b p (Colour c) = (p .rows ≡ 1) × (p .cols ≡ 1) × Called b c (p .cell 0 0)
 Able b p (Across l r) = (k : ℕ) × Works b across l r p k
 Able b p (Down u v) = (k : ℕ) × Works b down u v p k
 

@@ -6,10 +6,10 @@ use mathlib.Core.List.{List}
 use mathlib.Core.Logic.{_↔_}
 use lib.Dec.{eqb}
 use lib.ListN.{length, getD}
-use Rattle.names.specs.Name.{sameName}
-use Rattle.books.specs.Contents.{Contents, Has, name}
+use Rattle.books.specs.Contents.{Contents, Has, Called}
 use Rattle.books.specs.Picture.{Picture}
 use Rattle.books.specs.Derives.{Derives}
+use Rattle.books.specs.Decide.{called?}
 use Rattle.books.specs.declared.rule.Body.the-variants.{Colour}
 use Rattle.pieces.specs.declared.piece.Piece.{Piece}
 use Rattle.pieces.specs.Pieces.{Inside, Room, slotOf, total}
@@ -22,13 +22,13 @@ pub record View : Type 0 where
 
 -- by the names of the book and the picture, with any test for the bits
 abbrev pub named : Contents → Picture → (ℕ → Piece → Bool) → View
-named b p has = record { has = has; paints = λ c q. sameName (p .cell (q .top) (q .left)) (name b c) }
+named b p has = record { has = has; paints = λ c q. called? b c (p .cell (q .top) (q .left)) }
 
 -- a view that tells exactly what the motifs derive, and where the colours of the rules stand
 pub record Exact (b : Contents) (p : Picture) (v : View) : Type 0 where
   pub has-exact : (a : ℕ) (q : Piece) → Inside (p .rows) (p .cols) q → (v .has a q ≡ true) ↔ Derives b a (cut p q)
   pub paints-exact : (c : ℕ) (q : Piece) → Inside (p .rows) (p .cols) q → ((a : ℕ) × Has b a (Colour c))
-      → (v .paints c q ≡ true) ↔ (p .cell (q .top) (q .left) ≡ name b c)
+      → (v .paints c q ≡ true) ↔ Called b c (p .cell (q .top) (q .left))
 
 -- by a table of a sheet of m rows and n columns, ...
 unfoldable pub hasBit : ℕ → ℕ → List ℕ → ℕ → Piece → Bool
