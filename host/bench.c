@@ -83,8 +83,8 @@ static double trials(const struct family *family, const struct grid *grid)
 {
     double m = grid->rows, n = grid->columns, across = 0, down = 0;
     for (unsigned i = 0; i < family->rules; i++) {
-        across += family->rule[i].kind == KIND_ACROSS;
-        down += family->rule[i].kind == KIND_DOWN;
+        across += family->rule[i].kind == DV_KIND_ACROSS;
+        down += family->rule[i].kind == DV_KIND_DOWN;
     }
     return across * (m * (m + 1) / 2) * ((n - 1) * n * (n + 1) / 6) +
            down * (n * (n + 1) / 2) * ((m - 1) * m * (m + 1) / 6);
@@ -105,10 +105,10 @@ static void time_house(void)
     add_ink(&family.palette, "Slate C");
     add_ink(&family.palette, "Slate U");
     grid.palette = family.palette;
-    add_rule(&family, 0, KIND_ACROSS, 0, 0);
-    add_rule(&family, 0, KIND_DOWN, 1, 2);
-    add_rule(&family, 1, KIND_COLOUR, 0, 0);
-    add_rule(&family, 2, KIND_COLOUR, 1, 0);
+    add_rule(&family, 0, DV_KIND_ACROSS, 0, 0);
+    add_rule(&family, 0, DV_KIND_DOWN, 1, 2);
+    add_rule(&family, 1, DV_KIND_COLOUR, 0, 0);
+    add_rule(&family, 2, DV_KIND_COLOUR, 1, 0);
     time_derivation("2 by 3, house book", &family, &grid);
 }
 
@@ -123,12 +123,12 @@ static void time_press(unsigned rules)
     grid.palette = family.palette;
     for (unsigned i = 0; i < grid.rows * grid.columns; i++)
         grid.cell[i] = chance_below(2);
-    add_rule(&family, 0, KIND_COLOUR, 0, 0);
-    add_rule(&family, 0, KIND_COLOUR, 1, 0);
-    add_rule(&family, 0, KIND_ACROSS, 0, 0);
-    add_rule(&family, 0, KIND_DOWN, 0, 0);
+    add_rule(&family, 0, DV_KIND_COLOUR, 0, 0);
+    add_rule(&family, 0, DV_KIND_COLOUR, 1, 0);
+    add_rule(&family, 0, DV_KIND_ACROSS, 0, 0);
+    add_rule(&family, 0, DV_KIND_DOWN, 0, 0);
     while (family.rules < rules)
-        add_rule(&family, chance_below(MOTIFS), family.rules % 2 == 0 ? KIND_ACROSS : KIND_DOWN, chance_below(MOTIFS),
+        add_rule(&family, chance_below(MOTIFS), family.rules % 2 == 0 ? DV_KIND_ACROSS : DV_KIND_DOWN, chance_below(MOTIFS),
                  chance_below(MOTIFS));
     snprintf(name, sizeof name, "12 by 12, %u rules", rules);
     time_derivation(name, &family, &grid);
@@ -145,7 +145,7 @@ static void heavy_book(struct bytes *book, bool turned, unsigned rules)
         add_ink(&family.palette, name);
     }
     while (family.rules < rules)
-        add_rule(&family, 0, family.rules % 2 == 0 ? KIND_ACROSS : KIND_DOWN, chance_below(MOTIFS - 1),
+        add_rule(&family, 0, family.rules % 2 == 0 ? DV_KIND_ACROSS : DV_KIND_DOWN, chance_below(MOTIFS - 1),
                  chance_below(MOTIFS - 1));
     spell_book(&family, book);
 }

@@ -1,22 +1,8 @@
 // Books and sheets with damaged bytes.
-#include <string.h>
-
 #include "chance.h"
 #include "compare.h"
+#include "damage.h"
 #include "grow.h"
-
-static void insert(struct bytes *bytes, size_t at, uint8_t byte)
-{
-    memmove(bytes->at + at + 1, bytes->at + at, bytes->length - at);
-    bytes->at[at] = byte;
-    bytes->length++;
-}
-
-static void drop(struct bytes *bytes, size_t at)
-{
-    bytes->length--;
-    memmove(bytes->at + at, bytes->at + at + 1, bytes->length - at);
-}
 
 static void compare_as_book(const struct bytes *book, const struct bytes *sheet, const struct bytes *other)
 {
@@ -50,21 +36,21 @@ static void damage_throughout(const struct bytes *good, void (*compare_it)(const
         bytes.length = at;
         compare_it(&bytes);
         bytes = *good;
-        drop(&bytes, at);
+        drop_byte(&bytes, at);
         compare_it(&bytes);
         bytes = *good;
-        insert(&bytes, at, good->at[at]);
+        insert_byte(&bytes, at, good->at[at]);
         compare_it(&bytes);
         for (unsigned high = 0; high < 256; high += 1 + high / 2) {
             bytes = *good;
             bytes.at[at] |= 128;
-            insert(&bytes, at + 1, (uint8_t)high);
+            insert_byte(&bytes, at + 1, (uint8_t)high);
             compare_it(&bytes);
         }
     }
     for (unsigned byte = 0; byte < 256; byte += 5) {
         bytes = *good;
-        insert(&bytes, good->length, (uint8_t)byte);
+        insert_byte(&bytes, good->length, (uint8_t)byte);
         compare_it(&bytes);
     }
 }
@@ -79,37 +65,6 @@ static void compare_damaged_book(const struct bytes *book)
 static void compare_damaged_sheet(const struct bytes *sheet)
 {
     compare_as_sheet(&good_book, sheet);
-}
-
-// One damage by chance to bytes that are not empty.
-static void damage(struct bytes *bytes)
-{
-    static const uint8_t telling[] = {0, 1, 2, 3, 12, 13, 31, 32, 33, 40, 41, 64, 65, 126, 127, 128, 200, 201, 255};
-    size_t at = one_in(3) ? chance_below(4) : chance_below((unsigned)bytes->length);
-    at = at < bytes->length ? at : bytes->length - 1;
-    switch (chance_below(7)) {
-    case 0:
-        bytes->at[at] = (uint8_t)chance_bits();
-        break;
-    case 1:
-        bytes->at[at] = telling[chance_below(sizeof telling)];
-        break;
-    case 2:
-        drop(bytes, at);
-        break;
-    case 3:
-        insert(bytes, at, telling[chance_below(sizeof telling)]);
-        break;
-    case 4:
-        bytes->length = at;
-        break;
-    case 5:
-        insert(bytes, bytes->length, (uint8_t)chance_bits());
-        break;
-    default:
-        bytes->at[at] |= 128;
-        insert(bytes, at + 1, one_in(2) ? 0 : (uint8_t)chance_bits());
-    }
 }
 
 static void damage_by_chance(void)

@@ -23,8 +23,8 @@ static void compare_grid(const struct bytes *book, const struct grid *grid, bool
     spell_sheet(grid, &sheet);
     if (compare_read_sheet(&sheet) != 0)
         wrong("a sheet that keeps the rules is refused");
-    size_t work = some_room(DV_WORK_ENTRIES(grid->rows, grid->columns), ROOMY_WORK);
-    size_t tree = some_room(DV_TREE_ENTRIES(grid->rows, grid->columns), ROOMY_TREE);
+    size_t work = some_room(dv_work_entries(grid->rows, grid->columns), ROOMY_WORK);
+    size_t tree = some_room(dv_tree_entries(grid->rows, grid->columns), ROOMY_TREE);
     if (compare_derive(book, &sheet, work, tree) == DV_NOT_DERIVED && derived)
         wrong("a sheet grown from the rules is not derived");
 }

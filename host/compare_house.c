@@ -1,4 +1,4 @@
-// The house example of document 01, P1 to P12, on each engine by itself: here the outcomes are the document's own.
+// The house example of docs/RULES.md, P1 to P12, on each engine by itself: here the outcomes are the page's own.
 #include <stdio.h>
 #include <stdlib.h>
 #include <string.h>
@@ -30,13 +30,16 @@ static const struct bytes house_run = BYTES(SLATES, 4, 3, 7, HOUSE_RULES, 3, 1, 
 static const struct bytes house_either = BYTES(SLATES, 7, 6, 12, HOUSE_RULES, HOUSE_RULES_RAISED, 6, 1, 0, 0, 6, 2, 1,
                                                2, 6, 1, 3, 3, 6, 2, 4, 5);
 
+// A book of four motifs and one rule, and a sheet of four rows and one column.
+static const struct bytes book_and_sheet = BYTES(2, 1, 'a', 1, 'b', 4, 1, 1, 0, 0, 0);
+
 static const struct engine *judged;
 
 static void expect(bool holds, const char *what)
 {
     if (holds)
         return;
-    fprintf(stderr, "compare: the %s engine does not keep the house example of document 01: %s\n", judged->name, what);
+    fprintf(stderr, "compare: the %s engine does not keep the house example of docs/RULES.md: %s\n", judged->name, what);
     exit(1);
 }
 
@@ -92,6 +95,8 @@ void compare_house(void)
         expect_sheets();
         expect_books();
     }
+    if (compare_read_book(&book_and_sheet) != 0 || compare_read_sheet(&book_and_sheet) != 0)
+        wrong("bytes that are a book and a sheet alike are refused");
     static const struct bytes empty = {0, {0}};
     if (compare_read_book(&empty) != (1 | 1 << 8) || compare_read_sheet(&empty) != (1 | 1 << 8))
         wrong("empty input is not refused with 1 at 0");

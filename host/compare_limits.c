@@ -1,4 +1,4 @@
-// Books, sheets and combinations at every limit of document 01 and one step to each side.
+// Books, sheets and combinations at every limit of docs/RULES.md and one step to each side.
 #include <string.h>
 
 #include "chance.h"
@@ -27,7 +27,7 @@ static void plain_family(struct family *family, unsigned motifs, unsigned rules)
     for (unsigned i = 0; i < rules; i++) {
         unsigned kind = i % 3;
         unsigned colour = colours == 0 ? 0 : colours - 1;
-        family->rule[i] = (struct rule){motif, kind, kind == KIND_COLOUR ? colour : motif, motif};
+        family->rule[i] = (struct rule){motif, kind, kind == DV_KIND_COLOUR ? colour : motif, motif};
     }
 }
 
@@ -41,7 +41,7 @@ static void compare_book(const struct family *family)
     compare_read_sheet(&sheet);
     compare_colour(&book, family->palette.count);
     compare_colour(&book, family->palette.count - 1);
-    compare_derive(&book, &sheet, DV_WORK_ENTRIES(2, 2), DV_TREE_ENTRIES(2, 2));
+    compare_derive(&book, &sheet, dv_work_entries(2, 2), dv_tree_entries(2, 2));
     compare_combination(RUN, &book, NULL, ROOMY_OUT, NULL);
     compare_combination(TRANSPOSED, &book, NULL, book.length, NULL);
 }

@@ -106,7 +106,7 @@ static bool derived(const struct bytes *book, struct small sheet)
     for (unsigned i = 0; i < sheet.rows * sheet.columns; i++)
         grid.cell[i] = sheet.cells >> i & 1;
     spell_sheet(&grid, &bytes);
-    return compare_derive(book, &bytes, DV_WORK_ENTRIES(SIDE, SIDE), DV_TREE_ENTRIES(SIDE, SIDE)) == DV_ACCEPTED;
+    return compare_derive(book, &bytes, dv_work_entries(SIDE, SIDE), dv_tree_entries(SIDE, SIDE)) == DV_ACCEPTED;
 }
 
 // The sheets that a book derives, and how many they are.

@@ -19,28 +19,28 @@ static void palindrome_family(struct family *family)
     *family = (struct family){.motifs = MOTIFS, .start = S};
     add_ink(&family->palette, "a");
     add_ink(&family->palette, "b");
-    add_rule(family, S, KIND_ACROSS, V, S);
+    add_rule(family, S, DV_KIND_ACROSS, V, S);
     static const unsigned columns[] = {S, V};
     for (int i = 0; i < 2; i++) {
-        add_rule(family, columns[i], KIND_DOWN, A1, A2);
-        add_rule(family, columns[i], KIND_DOWN, B1, B2);
-        add_rule(family, columns[i], KIND_COLOUR, A, 0);
-        add_rule(family, columns[i], KIND_COLOUR, B, 0);
+        add_rule(family, columns[i], DV_KIND_DOWN, A1, A2);
+        add_rule(family, columns[i], DV_KIND_DOWN, B1, B2);
+        add_rule(family, columns[i], DV_KIND_COLOUR, A, 0);
+        add_rule(family, columns[i], DV_KIND_COLOUR, B, 0);
     }
-    add_rule(family, A2, KIND_DOWN, V, A1);
-    add_rule(family, A2, KIND_COLOUR, A, 0);
-    add_rule(family, B2, KIND_DOWN, V, B1);
-    add_rule(family, B2, KIND_COLOUR, B, 0);
-    add_rule(family, A1, KIND_COLOUR, A, 0);
-    add_rule(family, B1, KIND_COLOUR, B, 0);
+    add_rule(family, A2, DV_KIND_DOWN, V, A1);
+    add_rule(family, A2, DV_KIND_COLOUR, A, 0);
+    add_rule(family, B2, DV_KIND_DOWN, V, B1);
+    add_rule(family, B2, DV_KIND_COLOUR, B, 0);
+    add_rule(family, A1, DV_KIND_COLOUR, A, 0);
+    add_rule(family, B1, DV_KIND_COLOUR, B, 0);
 }
 
 static void compare_grid(const struct bytes *book, const struct grid *grid)
 {
     struct bytes sheet;
     spell_sheet(grid, &sheet);
-    uint64_t answer = compare_derive(book, &sheet, DV_WORK_ENTRIES(grid->rows, grid->columns),
-                                     DV_TREE_ENTRIES(grid->rows, grid->columns));
+    uint64_t answer = compare_derive(book, &sheet, dv_work_entries(grid->rows, grid->columns),
+                                     dv_tree_entries(grid->rows, grid->columns));
     if (answer != (columns_are_palindromes(grid) ? DV_ACCEPTED : DV_NOT_DERIVED))
         wrong("the answer does not say whether each column is a palindrome");
 }

@@ -5,7 +5,7 @@
 
 void compare_rooms_of_sheet(const struct bytes *book, const struct bytes *sheet, unsigned rows, unsigned columns)
 {
-    size_t work = DV_WORK_ENTRIES(rows, columns), tree = DV_TREE_ENTRIES(rows, columns);
+    size_t work = dv_work_entries(rows, columns), tree = dv_tree_entries(rows, columns);
     for (size_t more_work = 0; more_work < 3; more_work++)
         for (size_t more_tree = 0; more_tree < 3; more_tree++)
             compare_derive(book, sheet, work - 1 + more_work, tree - 1 + more_tree);

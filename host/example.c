@@ -8,10 +8,10 @@
 
 static const char *const words[] = {
     "accepted", "the input ends too early", "a number is misspelt", "a count, length, rows or columns is out of range",
-    "a name has a byte that cannot be printed", "a name stands twice", "there is no motif or colour of this number",
-    "there is no such kind of rule", "bytes follow the end", "the work slice is too short", "the tree slice is too short",
-    "the sheet does not belong to the family", "too many colours, motifs or rules", "the output slice is too short",
-    "no rule fits at some node",
+    "a name has a byte that cannot stand there, ASCII 32 to 126 only", "a name stands twice",
+    "there is no motif or colour of this number", "there is no such kind of rule", "bytes follow the end",
+    "the work slice is too short", "the tree slice is too short", "the sheet does not belong to the family",
+    "too many colours, motifs or rules", "the output slice is too short", "no rule fits at some node",
 };
 
 // One byte more than the longest that can be accepted is enough to have a longer file refused.
@@ -61,13 +61,13 @@ static const uint8_t *past_colours(const uint8_t *at)
 // The tree names a rule by its number; its kind says which way the piece is cut.
 static void note_rules(void)
 {
-    const uint8_t *at = past_colours(book) + 2; // past the counts of motifs and the start, a byte each
+    const uint8_t *at = past_colours(book) + 2; // past the count of motifs and the start, a byte each
     unsigned rules = number(&at);
     for (unsigned i = 0; i < rules; i++) {
         number(&at); // head
         kind[i] = number(&at);
         colour[i] = number(&at);
-        if (kind[i] != 0)
+        if (kind[i] != DV_KIND_COLOUR)
             number(&at);
     }
 }
@@ -77,14 +77,16 @@ static const uint16_t *print_panel(const uint16_t *node, unsigned rows, unsigned
 {
     unsigned rule = node[0], k = node[1];
     printf("rule %u: %u by %u at row %u, column %u", rule, rows, columns, top, left);
-    if (kind[rule] == 0) {
+    if (kind[rule] == DV_KIND_COLOUR) {
         uint64_t shown = dv_colour(book, book_len, colour[rule]);
         printf(", %.*s\n", (int)dv_shown_length(shown), (const char *)book + dv_shown_place(shown));
         return node + 2;
     }
-    printf(kind[rule] == 1 ? ", cut across after %u\n" : ", cut down after %u\n", k);
-    if (kind[rule] == 1)
+    if (kind[rule] == DV_KIND_ACROSS) {
+        printf(", %u and %u columns side by side\n", k, columns - k);
         return print_panel(print_panel(node + 2, rows, k, top, left), rows, columns - k, top, left + k);
+    }
+    printf(", %u and %u rows one above the other\n", k, rows - k);
     return print_panel(print_panel(node + 2, k, columns, top, left), rows - k, columns, top + k, left);
 }
 

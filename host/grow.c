@@ -67,9 +67,9 @@ void grow_family(struct family *family, unsigned colours, unsigned motifs, unsig
             struct rule again = family->rule[chance_below(family->rules)];
             family->rule[family->rules++] = again;
         } else if (one_in(3)) {
-            add_rule(family, chance_below(motifs), KIND_COLOUR, chance_below(colours), 0);
+            add_rule(family, chance_below(motifs), DV_KIND_COLOUR, chance_below(colours), 0);
         } else {
-            add_rule(family, chance_below(motifs), chance_from(KIND_ACROSS, KIND_DOWN), chance_below(motifs),
+            add_rule(family, chance_below(motifs), chance_from(DV_KIND_ACROSS, DV_KIND_DOWN), chance_below(motifs),
                      chance_below(motifs));
         }
     }
@@ -102,7 +102,7 @@ struct sizes {
 // Whether the two parts of a piece of this size, cut at k, can have the rule's motifs.
 static bool parts_have(const struct sizes *sizes, struct rule rule, unsigned height, unsigned width, unsigned k)
 {
-    bool across = rule.kind == KIND_ACROSS;
+    bool across = rule.kind == DV_KIND_ACROSS;
     uint32_t first = across ? sizes->motifs[height][k] : sizes->motifs[k][width];
     uint32_t second = across ? sizes->motifs[height][width - k] : sizes->motifs[height - k][width];
     return (first >> rule.first & 1) != 0 && (second >> rule.second & 1) != 0;
@@ -111,9 +111,9 @@ static bool parts_have(const struct sizes *sizes, struct rule rule, unsigned hei
 // The first k from a given one on at which the rule has a grid of this size: 0 for none. A colour rule has k 1.
 static unsigned next_cut(const struct sizes *sizes, struct rule rule, unsigned height, unsigned width, unsigned k)
 {
-    if (rule.kind == KIND_COLOUR)
+    if (rule.kind == DV_KIND_COLOUR)
         return height == 1 && width == 1 && k == 1;
-    unsigned end = rule.kind == KIND_ACROSS ? width : height;
+    unsigned end = rule.kind == DV_KIND_ACROSS ? width : height;
     while (k < end && !parts_have(sizes, rule, height, width, k))
         k++;
     return k < end ? k : 0;
@@ -152,9 +152,9 @@ static void grow_piece(const struct family *family, const struct sizes *sizes, s
 {
     unsigned k = 0;
     struct rule rule = pick(family, sizes, motif, height, width, &k);
-    if (rule.kind == KIND_COLOUR) {
+    if (rule.kind == DV_KIND_COLOUR) {
         grid->cell[top * grid->columns + left] = rule.first;
-    } else if (rule.kind == KIND_ACROSS) {
+    } else if (rule.kind == DV_KIND_ACROSS) {
         grow_piece(family, sizes, grid, rule.first, height, k, top, left);
         grow_piece(family, sizes, grid, rule.second, height, width - k, top, left + k);
     } else {

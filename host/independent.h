@@ -1,4 +1,4 @@
-// A second engine, written from document 01 alone. It shares no code with the library and takes every call of
+// A second engine, written from docs/RULES.md alone. It shares no code with the library and takes every call of
 // include/druvelstek.h under its own name; what is said there of each call holds here.
 #ifndef INDEPENDENT_H
 #define INDEPENDENT_H

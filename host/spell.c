@@ -44,7 +44,7 @@ void spell_book(const struct family *family, struct bytes *book)
         spell(book, rule.head);
         spell(book, rule.kind);
         spell(book, rule.first);
-        if (rule.kind != KIND_COLOUR)
+        if (rule.kind != DV_KIND_COLOUR)
             spell(book, rule.second);
     }
 }

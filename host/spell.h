@@ -1,5 +1,5 @@
-// Contents of books and sheets, and their spelling. Nothing is held to document 01's ranges, so that one step past each
-// limit can be spelt too.
+// Contents of books and sheets, and their spelling. Nothing is held to the ranges of docs/RULES.md, so that one step past
+// each limit can be spelt too.
 #ifndef SPELL_H
 #define SPELL_H
 
@@ -7,8 +7,6 @@
 #include <stdint.h>
 
 #include "../include/druvelstek.h"
-
-enum { KIND_COLOUR, KIND_ACROSS, KIND_DOWN };
 
 struct bytes {
     size_t length;

@@ -1,21 +1,33 @@
-// Druvelstek: the C face of the verified library.
+// Druvelstek: the C face of the verified library. C99 or later, or C++11 or later.
 //
-// A book is one family of layouts and a sheet is a grid of colours, both spelt as document 01 says. The library tells
-// whether the family derives the sheet, gives the table of pieces and one derivation, shows a colour's name, and makes
-// new books from lent ones. Each call is proved to keep what its comment says, on every input.
+// A book is one family of layouts and a sheet is a grid of colours, both spelt byte by byte as docs/RULES.md says. The
+// library tells whether the family derives the sheet, gives the table of pieces and one derivation, shows a colour's
+// name, and makes new books from lent ones. Each call is proved to keep what its comment says, on every input.
+//
+// Nothing in the bytes tells a book from a sheet, and some are both: 2, 1 "a", 1 "b", 4, 1, 1, 0, 0, 0 is a book of
+// four motifs with one rule, and a sheet of four rows and one column. A caller keeps apart which file is which.
 //
 // What a caller sees to, for every call:
 // - A slice is a pointer and then its length, in elements. The pointer is valid for that many elements, and aligned for
-//   their type, until the call returns. An empty slice still wants a pointer that is not null.
-// - A slice that the call may write (work, tree, out) overlaps no other slice of the same call. Slices that are only
-//   read may overlap: the same book may be given twice.
-// Nothing is asked of what the slices hold. A call keeps no pointer, takes no memory but stack (some 54 kilobytes in
-// a derivation of 23 levels, as measured on x86-64), and writes nothing but what its comment names.
+//   their type, until the call returns. With length 0 it may be null, as that of an empty std::vector may be.
+// - A slice that the call may write (work, tree, out) overlaps no other slice of the same call. Nothing tells when it
+//   does. dv_beside(f, f_len, g, g_len, g, room) reads names of g that it has written over: with the one colour "Navy"
+//   in f and "Red" in g it answers 0, and the new book has the inks "Navy" and "Nav". Slices that are only read may
+//   overlap: the same book may be given twice.
+// - The stack has room for DV_ENOUGH_STACK bytes.
+// With DV_CHECKED defined before this header is included, each call tests null, alignment and overlap by assert, which
+// NDEBUG takes out again.
+//
+// Nothing is asked of what the slices hold. A call keeps no pointer and no state, takes no memory but stack, and writes
+// nothing but what its comment names; so any number of calls may run at once, on slices of their own to write.
 #ifndef DRUVELSTEK_H
 #define DRUVELSTEK_H
 
 #include <stddef.h>
 #include <stdint.h>
+#ifdef DV_CHECKED
+#include <assert.h>
+#endif
 
 #ifdef __cplusplus
 extern "C" {
@@ -31,13 +43,25 @@ extern "C" {
 #define DV_LONGEST_BOOK 3429
 #define DV_LONGEST_SHEET 2771
 
-// Entries of the work slice for a sheet of so many rows and columns: one for each of its pieces.
-#define DV_WORK_ENTRIES(rows, columns) ((rows) * ((rows) + 1) / 2 * ((columns) * ((columns) + 1) / 2))
+// Stack that is enough for every call. No theorem says so; measured on the x86-64 code with the deepest input: at most
+// 53 kilobytes, in a derivation of 23 levels, and the rest is margin.
+#define DV_ENOUGH_STACK 65536
+
+// Enough entries of the work slice and of the tree slice for every sheet.
+#define DV_MOST_WORK 6084
+#define DV_MOST_TREE 574
+
+// Entries of the work slice for a sheet of so many rows and columns, from 1 on: one for each of its pieces.
+static inline size_t dv_work_entries(size_t rows, size_t columns)
+{
+    return rows * (rows + 1) / 2 * (columns * (columns + 1) / 2);
+}
+
 // Entries of the tree slice: rule and k for each of its nodes.
-#define DV_TREE_ENTRIES(rows, columns) (2 * (2 * (rows) * (columns) - 1))
-// Enough for every sheet.
-#define DV_MOST_WORK DV_WORK_ENTRIES(DV_MOST_ROWS, DV_MOST_COLUMNS)
-#define DV_MOST_TREE DV_TREE_ENTRIES(DV_MOST_ROWS, DV_MOST_COLUMNS)
+static inline size_t dv_tree_entries(size_t rows, size_t columns) { return 2 * (2 * rows * columns - 1); }
+
+// The kinds of rules: a cell of one colour; a left and a right part; an upper and a lower part.
+enum dv_kind { DV_KIND_COLOUR = 0, DV_KIND_ACROSS = 1, DV_KIND_DOWN = 2 };
 
 // The answer numbers. 1 to 8 blame the input in which the fault stands, 1 the first and 2 the second, and have a place
 // in it, counted from 0. All others blame 0, with place 0.
@@ -56,7 +80,7 @@ enum dv_answer_number {
     DV_NOT_DERIVED = 11,    // the start motif does not derive the sheet
     DV_TOO_MANY = 12,       // a combination exceeds 64 colours, 32 motifs or 200 rules
     DV_OUT_SHORT = 13,      // output slice shorter than the result
-    DV_NO_RULE_FITS = 14    // the start bit of the whole sheet is set, yet at some node of the tree no rule fits
+    DV_NO_RULE_FITS = 14    // a guard: the sheet is derived, yet at some node no rule fits; proved never to come
 };
 
 // An answer is number + 2^8 * blamed + 2^12 * place + 2^32 * count; here it is taken apart. The count is the number of
@@ -75,19 +99,19 @@ uint64_t dv_read_sheet(const uint8_t *sheet, size_t sheet_len);
 
 // Shows the name of a colour, numbered from 0, as the part of the lent book that holds it: place + 2^32 * length, which
 // dv_shown_place and dv_shown_length take apart. A refused book, or a number not below the count of colours, shows an
-// empty part, 0. No name is empty. This call alone has no answer number.
+// empty part, 0. No name is empty. This call alone has no answer number. It reads the whole book each time.
 uint64_t dv_colour(const uint8_t *book, size_t book_len, size_t number);
 
 static inline size_t dv_shown_place(uint64_t shown) { return (size_t)(shown & 0xffffffff); }
 static inline size_t dv_shown_length(uint64_t shown) { return (size_t)(shown >> 32); }
 
 // Decides whether the family derives the sheet of m rows and n columns. Answers, in this order: 1 to 8 blaming 1, the
-// book; 1 to 8 blaming 2, the sheet; 9; 10; 11; 14; 0.
+// book; 1 to 8 blaming 2, the sheet; 9; 10; 11; 14; 0. The order has 14, which is proved never to come.
 //
-// On 0, 11 and 14 the first DV_WORK_ENTRIES(m, n) entries of work hold the table of pieces: by height, then width, then
+// On 0, 11 and 14 the first dv_work_entries(m, n) entries of work hold the table of pieces: by height, then width, then
 // top row, then left column, each rising; bit A is set exactly when motif A derives that piece, other bits are clear.
 //
-// On 0 the first DV_TREE_ENTRIES(m, n) entries of tree hold the derivation: node first, then left or upper part, then
+// On 0 the first dv_tree_entries(m, n) entries of tree hold the derivation: node first, then left or upper part, then
 // right or lower part, each node as its rule number and its k, the columns or rows of its first part (0 for a colour
 // rule). At each node stands the lowest-numbered rule that can derive the piece, for a join with the smallest k that
 // works. On 14 these entries are 0. Everything else in work and tree is unchanged.
@@ -129,6 +153,94 @@ uint64_t dv_flipped(const uint8_t *book, size_t book_len, uint8_t *out, size_t o
 
 // The family's sheets with rows and columns exchanged: exchanges kinds 1 and 2. Nothing else changes.
 uint64_t dv_transposed(const uint8_t *book, size_t book_len, uint8_t *out, size_t out_len);
+
+#ifdef DV_CHECKED
+
+// Whether a slice is null only where it is empty, and is aligned.
+static inline int dv_is_lent(const void *slice, size_t length, size_t alignment)
+{
+    return (slice != NULL || length == 0) && (uintptr_t)slice % alignment == 0;
+}
+
+// Whether two slices, of so many bytes, have no byte in common.
+static inline int dv_are_apart(const void *one, size_t bytes, const void *other, size_t other_bytes)
+{
+    uintptr_t a = (uintptr_t)one, b = (uintptr_t)other;
+    return bytes == 0 || other_bytes == 0 || (a < b ? b - a >= bytes : a - b >= other_bytes);
+}
+
+static inline uint64_t dv_checked_read_book(const uint8_t *book, size_t book_len)
+{
+    assert(dv_is_lent(book, book_len, 1));
+    return dv_read_book(book, book_len);
+}
+
+static inline uint64_t dv_checked_read_sheet(const uint8_t *sheet, size_t sheet_len)
+{
+    assert(dv_is_lent(sheet, sheet_len, 1));
+    return dv_read_sheet(sheet, sheet_len);
+}
+
+static inline uint64_t dv_checked_colour(const uint8_t *book, size_t book_len, size_t number)
+{
+    assert(dv_is_lent(book, book_len, 1));
+    return dv_colour(book, book_len, number);
+}
+
+static inline uint64_t dv_checked_derive(const uint8_t *book, size_t book_len, const uint8_t *sheet, size_t sheet_len,
+                                         uint32_t *work, size_t work_len, uint16_t *tree, size_t tree_len)
+{
+    assert(dv_is_lent(book, book_len, 1) && dv_is_lent(sheet, sheet_len, 1));
+    assert(dv_is_lent(work, work_len, sizeof *work) && dv_is_lent(tree, tree_len, sizeof *tree));
+    assert(dv_are_apart(work, work_len * sizeof *work, book, book_len));
+    assert(dv_are_apart(work, work_len * sizeof *work, sheet, sheet_len));
+    assert(dv_are_apart(work, work_len * sizeof *work, tree, tree_len * sizeof *tree));
+    assert(dv_are_apart(tree, tree_len * sizeof *tree, book, book_len));
+    assert(dv_are_apart(tree, tree_len * sizeof *tree, sheet, sheet_len));
+    return dv_derive(book, book_len, sheet, sheet_len, work, work_len, tree, tree_len);
+}
+
+// The combinations of two books, and those of one, differ in the call alone.
+#define DV_CHECKED_OF_TWO(name)                                                                                        \
+    static inline uint64_t dv_checked_##name(const uint8_t *first, size_t first_len, const uint8_t *second,            \
+                                             size_t second_len, uint8_t *out, size_t out_len)                          \
+    {                                                                                                                  \
+        assert(dv_is_lent(first, first_len, 1) && dv_is_lent(second, second_len, 1) && dv_is_lent(out, out_len, 1));   \
+        assert(dv_are_apart(out, out_len, first, first_len) && dv_are_apart(out, out_len, second, second_len));        \
+        return dv_##name(first, first_len, second, second_len, out, out_len);                                          \
+    }
+#define DV_CHECKED_OF_ONE(name)                                                                                        \
+    static inline uint64_t dv_checked_##name(const uint8_t *book, size_t book_len, uint8_t *out, size_t out_len)       \
+    {                                                                                                                  \
+        assert(dv_is_lent(book, book_len, 1) && dv_is_lent(out, out_len, 1));                                          \
+        assert(dv_are_apart(out, out_len, book, book_len));                                                            \
+        return dv_##name(book, book_len, out, out_len);                                                                \
+    }
+DV_CHECKED_OF_TWO(either_of)
+DV_CHECKED_OF_TWO(beside)
+DV_CHECKED_OF_TWO(above)
+DV_CHECKED_OF_ONE(run)
+DV_CHECKED_OF_ONE(stack)
+DV_CHECKED_OF_ONE(mirrored)
+DV_CHECKED_OF_ONE(flipped)
+DV_CHECKED_OF_ONE(transposed)
+#undef DV_CHECKED_OF_TWO
+#undef DV_CHECKED_OF_ONE
+
+#define dv_read_book dv_checked_read_book
+#define dv_read_sheet dv_checked_read_sheet
+#define dv_colour dv_checked_colour
+#define dv_derive dv_checked_derive
+#define dv_either_of dv_checked_either_of
+#define dv_beside dv_checked_beside
+#define dv_above dv_checked_above
+#define dv_run dv_checked_run
+#define dv_stack dv_checked_stack
+#define dv_mirrored dv_checked_mirrored
+#define dv_flipped dv_checked_flipped
+#define dv_transposed dv_checked_transposed
+
+#endif
 
 #ifdef __cplusplus
 }

@@ -1,0 +1,204 @@
+// What the header asks of a caller. Under DV_CHECKED each misuse of each call, made in a child process, aborts it, and
+// right use passes; an empty slice may be null; and a call whose output is one of its inputs does what the header says.
+#define _DEFAULT_SOURCE // fork
+#define DV_CHECKED
+#include <fcntl.h>
+#include <signal.h>
+#include <stdbool.h>
+#include <stdio.h>
+#include <stdlib.h>
+#include <string.h>
+#include <sys/wait.h>
+#include <unistd.h>
+
+#include "../include/druvelstek.h"
+
+#define SLATES 2, 7, 'S', 'l', 'a', 't', 'e', ' ', 'C', 7, 'S', 'l', 'a', 't', 'e', ' ', 'U'
+static const uint8_t house[] = {SLATES, 3, 0, 4, 0, 1, 0, 0, 0, 2, 1, 2, 1, 0, 0, 2, 0, 1};
+static const uint8_t sheet_a[] = {SLATES, 2, 3, 0, 0, 0, 1, 1, 1};
+
+enum { SLICES = 4, ROOM = 128 };
+
+// The slices of a call: the first ones are books and sheets, read only.
+struct slice {
+    uint8_t *at;
+    size_t length, size;
+};
+static struct slice slice[SLICES];
+
+static uint64_t read_book(void) { return dv_read_book(slice[0].at, slice[0].length); }
+static uint64_t read_sheet(void) { return dv_read_sheet(slice[0].at, slice[0].length); }
+static uint64_t colour(void) { return dv_colour(slice[0].at, slice[0].length, 1); }
+static uint64_t derive(void)
+{
+    return dv_derive(slice[0].at, slice[0].length, slice[1].at, slice[1].length, (uint32_t *)(void *)slice[2].at,
+                     slice[2].length, (uint16_t *)(void *)slice[3].at, slice[3].length);
+}
+#define OF_TWO(name)                                                                                                   \
+    static uint64_t name(void)                                                                                         \
+    {                                                                                                                  \
+        return dv_##name(slice[0].at, slice[0].length, slice[1].at, slice[1].length, slice[2].at, slice[2].length);    \
+    }
+#define OF_ONE(name)                                                                                                   \
+    static uint64_t name(void) { return dv_##name(slice[0].at, slice[0].length, slice[1].at, slice[1].length); }
+OF_TWO(either_of)
+OF_TWO(beside)
+OF_TWO(above)
+OF_ONE(run)
+OF_ONE(stack)
+OF_ONE(mirrored)
+OF_ONE(flipped)
+OF_ONE(transposed)
+
+struct call {
+    const char *name;
+    uint64_t (*make)(void);
+    int slices, read;
+};
+
+static const struct call calls[] = {
+    {"dv_read_book", read_book, 1, 1}, {"dv_read_sheet", read_sheet, 1, 1}, {"dv_colour", colour, 1, 1},
+    {"dv_derive", derive, 4, 2},       {"dv_either_of", either_of, 3, 2},   {"dv_beside", beside, 3, 2},
+    {"dv_above", above, 3, 2},         {"dv_run", run, 2, 1},               {"dv_stack", stack, 2, 1},
+    {"dv_mirrored", mirrored, 2, 1},   {"dv_flipped", flipped, 2, 1},       {"dv_transposed", transposed, 2, 1},
+};
+
+static void wrong(const struct call *call, const char *what, int i)
+{
+    fprintf(stderr, "checked: %s, %s, slice %d\n", call->name, what, i + 1);
+    exit(1);
+}
+
+// Right slices for a call, one after the other with no byte between.
+static void lend(const struct call *call)
+{
+    static uint32_t room[SLICES * ROOM];
+    bool derives = call->make == derive, sheet = call->make == read_sheet;
+    uint8_t *at = (uint8_t *)room;
+    // The last sheet or book goes from the end on down, so that what is written after it is aligned.
+    for (int i = call->read; i-- > 0;) {
+        const uint8_t *bytes = sheet || (derives && i == 1) ? sheet_a : house;
+        size_t length = bytes == house ? sizeof house : sizeof sheet_a;
+        uint8_t *end = i + 1 < call->read ? slice[i + 1].at : at + ROOM;
+        slice[i] = (struct slice){end - length, length, 1};
+        memcpy(slice[i].at, bytes, length);
+    }
+    at += ROOM;
+    for (int i = call->read; i < call->slices; i++) {
+        size_t size = !derives ? 1 : i == 2 ? sizeof(uint32_t) : sizeof(uint16_t);
+        slice[i] = (struct slice){at, ROOM / size, size};
+        at += ROOM;
+    }
+}
+
+static bool aborts(const struct call *call)
+{
+    int status;
+    fflush(NULL);
+    pid_t child = fork();
+    if (child == 0) {
+        // What assert says, and an emulator after it, is expected here.
+        dup2(open("/dev/null", O_WRONLY), STDERR_FILENO);
+        call->make();
+        _exit(0);
+    }
+    if (child < 0 || waitpid(child, &status, 0) != child) {
+        perror("checked");
+        exit(2);
+    }
+    return WIFSIGNALED(status) && WTERMSIG(status) == SIGABRT;
+}
+
+static unsigned misuses;
+
+static void expect_abort(const struct call *call, const char *misuse, int i)
+{
+    misuses++;
+    if (!aborts(call))
+        wrong(call, misuse, i);
+}
+
+static void try_null(const struct call *call)
+{
+    for (int i = 0; i < call->slices; i++) {
+        lend(call);
+        slice[i].at = NULL;
+        expect_abort(call, "null with a length is not noticed", i);
+        lend(call);
+        slice[i].length = 0;
+        uint64_t answer = call->make();
+        lend(call);
+        slice[i] = (struct slice){NULL, 0, slice[i].size};
+        if (aborts(call))
+            wrong(call, "null with length 0 is not taken", i);
+        if (call->make() != answer)
+            wrong(call, "null with length 0 is not answered as another empty slice", i);
+    }
+    for (int i = 0; i < call->slices; i++)
+        slice[i] = (struct slice){NULL, 0, 1};
+    if (call->make() != (call->make == colour ? 0 : (DV_ENDS_EARLY | 1 << 8)))
+        wrong(call, "all slices null with length 0 are not answered as empty ones", 0);
+}
+
+static void try_alignment(const struct call *call)
+{
+    for (int i = 0; i < call->slices; i++) {
+        lend(call);
+        slice[i].at += slice[i].size / 2;
+        slice[i].length--;
+        if (slice[i].size > 1)
+            expect_abort(call, "a slice out of line is not noticed", i);
+    }
+}
+
+static uint8_t *aligned(uint8_t *at, size_t size)
+{
+    return at - (uintptr_t)at % size;
+}
+
+// A slice that is written begins where another begins, or has one entry in common with its end or its beginning.
+static void try_overlap(const struct call *call)
+{
+    for (int i = call->read; i < call->slices; i++)
+        for (int j = 0; j < call->slices; j++)
+            for (int way = 0; way < 3 && j != i; way++) {
+                lend(call);
+                uint8_t *begin = slice[j].at, *end = begin + slice[j].length * slice[j].size;
+                if (way < 2)
+                    slice[i].at = aligned(way == 0 ? begin : end - slice[i].size, slice[i].size);
+                else
+                    slice[j].at = slice[i].at + slice[i].length * slice[i].size - slice[j].size;
+                expect_abort(call, "an overlap is not noticed", i);
+            }
+}
+
+// The sentence of the header on overlap, by the call itself.
+#undef dv_beside
+static void show_overlap(void)
+{
+    static const uint8_t f[] = {1, 4, 'N', 'a', 'v', 'y', 1, 0, 1, 0, 0, 0};
+    static const uint8_t g[] = {1, 3, 'R', 'e', 'd', 1, 0, 1, 0, 0, 0};
+    static const uint8_t wrong_ink[] = {2, 4, 'N', 'a', 'v', 'y', 3, 'N', 'a', 'v'};
+    uint8_t out[64];
+    memcpy(out, g, sizeof g);
+    uint64_t answer = dv_beside(f, sizeof f, out, sizeof g, out, sizeof out);
+    if (dv_number(answer) != DV_ACCEPTED || memcmp(out, wrong_ink, sizeof wrong_ink) != 0) {
+        fprintf(stderr, "checked: an output over the second book does not do what the header says\n");
+        exit(1);
+    }
+}
+
+int main(void)
+{
+    for (size_t i = 0; i < sizeof calls / sizeof *calls; i++) {
+        lend(&calls[i]);
+        if (aborts(&calls[i]))
+            wrong(&calls[i], "right use does not pass", 0);
+        try_null(&calls[i]);
+        try_alignment(&calls[i]);
+        try_overlap(&calls[i]);
+    }
+    show_overlap();
+    printf("checked: %u misuses noticed, right use passes, an empty slice may be null\n", misuses);
+    return 0;
+}
