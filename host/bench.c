@@ -1,9 +1,11 @@
-// Times the library and the independent engine on the same inputs, in turn, and takes the best of each. The word on the
-// command line says on what they run.
+// Measures the library and the independent engine on the same inputs: by the clock, in turn, and takes the best of
+// each; or, with the word instructions, by how many each takes, which counting.c counts.
 #define _DEFAULT_SOURCE // clock_gettime
 #include <stdio.h>
+#include <stdlib.h>
 #include <string.h>
 #include <time.h>
+#include <unistd.h>
 
 #include "chance.h"
 #include "engine.h"
@@ -20,11 +22,14 @@ struct task {
     double units;
     struct bytes first, second;
     enum combination combination;
+    size_t work;
 };
 
-struct times {
-    double best[ENGINES];
+struct figures {
+    double of[ENGINES];
 };
+
+static bool by_instructions;
 
 // By the processor's clock for this program, which stands still while others run.
 static double nanoseconds(const struct engine *timed, const struct task *task, unsigned long calls)
@@ -38,23 +43,65 @@ static double nanoseconds(const struct engine *timed, const struct task *task, u
 }
 
 // A turn is long beside a look at the clock, and short beside what disturbs a machine.
-static struct times measure(const struct task *task)
+static struct figures time_task(const struct task *task)
 {
-    struct times times = {{0}};
+    struct figures times = {{0}};
     unsigned long calls = 1 + (unsigned long)(4e5 / (nanoseconds(engine[1], task, 2) + 1));
     for (int turn = 0; turn < TURNS; turn++)
         for (int i = 0; i < ENGINES; i++) {
             double time = nanoseconds(engine[i], task, calls) / task->units;
-            if (turn == 0 || time < times.best[i])
-                times.best[i] = time;
+            if (turn == 0 || time < times.of[i])
+                times.of[i] = time;
         }
     return times;
 }
 
-static void print_times(const char *name, const struct task *task, struct times times)
+// The instructions so far, which counting.c puts into a pipe to which nothing is written.
+static double instructions(void)
 {
-    printf("%-40s %-8s %12.3f %12.3f %8.2f\n", name, task->unit, times.best[0], times.best[1],
-           times.best[0] / times.best[1]);
+    static int pipe_of[2] = {-1, -1};
+    uint64_t count;
+    if (pipe_of[0] < 0 && pipe(pipe_of) != 0)
+        exit(2);
+    if (write(pipe_of[1], "", 0) != 0 || read(pipe_of[0], &count, sizeof count) != sizeof count)
+        exit(2);
+    return (double)count;
+}
+
+static void no_call(const struct engine *none, const struct task *task)
+{
+    (void)none, (void)task;
+}
+
+static double instructions_of(const struct engine *counted, const struct task *task)
+{
+    double before = instructions();
+    task->call(counted, task);
+    return instructions() - before;
+}
+
+// The second of two calls, less what is counted around it.
+static struct figures count_task(const struct task *task)
+{
+    struct figures counts;
+    struct task nothing = {.call = no_call};
+    for (int i = 0; i < ENGINES; i++) {
+        instructions_of(engine[i], task);
+        counts.of[i] = (instructions_of(engine[i], task) - instructions_of(engine[i], &nothing)) / task->units;
+    }
+    return counts;
+}
+
+static struct figures measure(const struct task *task)
+{
+    return by_instructions ? count_task(task) : time_task(task);
+}
+
+static void print_figures(const char *name, const struct task *task, struct figures figures)
+{
+    int decimals = task->units == 1 ? 0 : 3;
+    printf("%-49s %-8s %12.*f %12.*f %8.2f\n", name, task->unit, decimals, figures.of[0], decimals, figures.of[1],
+           figures.of[0] / figures.of[1]);
     fflush(stdout);
 }
 
@@ -62,13 +109,18 @@ static void derive(const struct engine *timed, const struct task *task)
 {
     static uint32_t work[DV_MOST_WORK];
     static uint16_t tree[DV_MOST_TREE];
-    timed->derive(task->first.at, task->first.length, task->second.at, task->second.length, work, DV_MOST_WORK, tree,
+    timed->derive(task->first.at, task->first.length, task->second.at, task->second.length, work, task->work, tree,
                   DV_MOST_TREE);
 }
 
 static void read_book(const struct engine *timed, const struct task *task)
 {
     timed->read_book(task->first.at, task->first.length);
+}
+
+static void read_sheet(const struct engine *timed, const struct task *task)
+{
+    timed->read_sheet(task->second.at, task->second.length);
 }
 
 static void make(const struct engine *timed, const struct task *task)
@@ -90,15 +142,16 @@ static double trials(const struct family *family, const struct grid *grid)
            down * (n * (n + 1) / 2) * ((m - 1) * m * (m + 1) / 6);
 }
 
-static void time_derivation(const char *name, const struct family *family, const struct grid *grid)
+static void measure_derivation(const char *name, const struct family *family, const struct grid *grid, double units)
 {
-    struct task task = {.call = derive, .unit = "a trial", .units = trials(family, grid)};
+    const char *unit = units == 1 ? "a call" : "a trial";
+    struct task task = {.call = derive, .unit = unit, .units = units, .work = DV_MOST_WORK};
     spell_book(family, &task.first);
     spell_sheet(grid, &task.second);
-    print_times(name, &task, measure(&task));
+    print_figures(name, &task, measure(&task));
 }
 
-static void time_house(void)
+static void measure_house(void)
 {
     struct family family = {.motifs = 3, .start = 0};
     struct grid grid = {.rows = 2, .columns = 3, .cell = {0, 0, 0, 1, 1, 1}};
@@ -109,11 +162,11 @@ static void time_house(void)
     add_rule(&family, 0, DV_KIND_DOWN, 1, 2);
     add_rule(&family, 1, DV_KIND_COLOUR, 0, 0);
     add_rule(&family, 2, DV_KIND_COLOUR, 1, 0);
-    time_derivation("2 by 3, house book", &family, &grid);
+    measure_derivation("derivation, 2 by 3, house book", &family, &grid, 1);
 }
 
 // The first four rules derive every sheet; the rest are joins by chance, half of them across.
-static void time_press(unsigned rules)
+static void measure_press(unsigned rules)
 {
     struct family family = {.motifs = MOTIFS, .start = 0};
     struct grid grid = {.rows = DV_MOST_ROWS, .columns = DV_MOST_COLUMNS};
@@ -128,10 +181,10 @@ static void time_press(unsigned rules)
     add_rule(&family, 0, DV_KIND_ACROSS, 0, 0);
     add_rule(&family, 0, DV_KIND_DOWN, 0, 0);
     while (family.rules < rules)
-        add_rule(&family, chance_below(MOTIFS), family.rules % 2 == 0 ? DV_KIND_ACROSS : DV_KIND_DOWN, chance_below(MOTIFS),
-                 chance_below(MOTIFS));
-    snprintf(name, sizeof name, "12 by 12, %u rules", rules);
-    time_derivation(name, &family, &grid);
+        add_rule(&family, chance_below(MOTIFS), family.rules % 2 == 0 ? DV_KIND_ACROSS : DV_KIND_DOWN,
+                 chance_below(MOTIFS), chance_below(MOTIFS));
+    snprintf(name, sizeof name, "derivation, 12 by 12, %u rules", rules);
+    measure_derivation(name, &family, &grid, trials(&family, &grid));
 }
 
 // The longest names, alike but for the last letter, listed either way round, and so many joins of the start.
@@ -150,44 +203,81 @@ static void heavy_book(struct bytes *book, bool turned, unsigned rules)
     spell_book(&family, book);
 }
 
-static void time_reading(void)
+static void measure_longest_book(void)
 {
     struct task task = {.call = read_book, .unit = "a call", .units = 1};
     heavy_book(&task.first, false, DV_MOST_RULES);
-    print_times("reading the longest book", &task, measure(&task));
+    print_figures("reading the longest book", &task, measure(&task));
+}
+
+// Names of 40 bytes with the first 38 in common: ink makers number their shades.
+static void stem_palette(struct palette *palette)
+{
+    char name[DV_LONGEST_NAME + 1];
+    palette->count = 0;
+    for (int i = 0; i < DV_MOST_COLOURS; i++) {
+        snprintf(name, sizeof name, "Pressroom Standard Spot Ink Shade No. %02d", i);
+        add_ink(palette, name);
+    }
+}
+
+// A work slice one short, so that a derivation ends when it has read both.
+static void measure_stems(void)
+{
+    struct family family = {.motifs = 1, .start = 0};
+    struct grid grid = {.rows = DV_MOST_ROWS, .columns = DV_MOST_COLUMNS};
+    struct task task = {.unit = "a call", .units = 1, .work = DV_MOST_WORK - 1};
+    stem_palette(&family.palette);
+    stem_palette(&grid.palette);
+    add_rule(&family, 0, DV_KIND_COLOUR, 0, 0);
+    for (unsigned i = 0; i < grid.rows * grid.columns; i++)
+        grid.cell[i] = i * 37 % DV_MOST_COLOURS;
+    spell_book(&family, &task.first);
+    spell_sheet(&grid, &task.second);
+    task.call = read_book;
+    print_figures("reading a book, 64 names with a stem of 38", &task, measure(&task));
+    task.call = read_sheet;
+    print_figures("reading a sheet, 144 cells in 64 such colours", &task, measure(&task));
+    task.call = derive;
+    print_figures("both read by a derivation that answers 9", &task, measure(&task));
 }
 
 // Each combination on the largest books that it takes; the one that takes the library longest is shown.
-static void time_combinations(void)
+static void measure_combinations(void)
 {
     static const unsigned rules[COMBINATIONS][2] = {{50, 50}, {100, 99}, {100, 99}, {99, 1},
                                                     {99, 1},  {200, 1},  {200, 1},  {200, 1}};
     struct task task = {.call = make, .unit = "a call", .units = 1};
-    struct times slowest = {{0}};
+    struct figures slowest = {{0}};
     char name[80] = "";
     for (int i = 0; i < COMBINATIONS; i++) {
         task.combination = (enum combination)i;
         heavy_book(&task.first, false, rules[i][0]);
         heavy_book(&task.second, true, rules[i][1]);
-        struct times times = measure(&task);
-        if (times.best[0] > slowest.best[0]) {
-            slowest = times;
+        struct figures figures = measure(&task);
+        if (figures.of[0] > slowest.of[0]) {
+            slowest = figures;
             snprintf(name, sizeof name, "the slowest combination, %s", combination_name[i]);
         }
     }
-    print_times(name, &task, slowest);
+    print_figures(name, &task, slowest);
 }
 
 int main(int argc, char **argv)
 {
+    by_instructions = argc > 1 && strcmp(argv[1], "instructions") == 0;
     chance_seed(1);
-    printf("bench: nanoseconds%s%s, the best of %d turns\n", argc > 1 ? ", " : "", argc > 1 ? argv[1] : "", TURNS);
-    printf("%-49s %12s %12s %8s\n", "", "library", "independent", "ratio");
-    time_house();
-    time_press(4);
-    time_press(40);
-    time_press(200);
-    time_reading();
-    time_combinations();
+    if (by_instructions)
+        printf("bench: x86-64 instructions\n");
+    else
+        printf("bench: nanoseconds, the best of %d turns\n", TURNS);
+    printf("%-58s %12s %12s %8s\n", "", "library", "independent", "ratio");
+    measure_house();
+    measure_press(4);
+    measure_press(40);
+    measure_press(200);
+    measure_longest_book();
+    measure_stems();
+    measure_combinations();
     return 0;
 }

@@ -39,7 +39,7 @@ static void expect(bool holds, const char *what)
 {
     if (holds)
         return;
-    fprintf(stderr, "compare: the %s engine does not keep the house example of docs/RULES.md: %s\n", judged->name, what);
+    fprintf(stderr, "compare: the %s engine does not keep the house example: %s\n", judged->name, what);
     exit(1);
 }
 

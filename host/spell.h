@@ -1,5 +1,5 @@
-// Contents of books and sheets, and their spelling. Nothing is held to the ranges of docs/RULES.md, so that one step past
-// each limit can be spelt too.
+// Contents of books and sheets, and their spelling. Nothing is held to the ranges of docs/RULES.md, so that one step
+// past each limit can be spelt too.
 #ifndef SPELL_H
 #define SPELL_H
 

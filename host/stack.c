@@ -75,7 +75,10 @@ struct kind {
 };
 
 static struct kind kinds[] = {
-    {"dv_read_book", read_book, 0}, {"dv_read_sheet", read_sheet, 0}, {"dv_colour", colour, 0}, {"dv_derive", derive, 0},
+    {"dv_read_book", read_book, 0},
+    {"dv_read_sheet", read_sheet, 0},
+    {"dv_colour", colour, 0},
+    {"dv_derive", derive, 0},
 };
 static size_t most_of[COMBINATIONS];
 
