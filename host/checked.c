@@ -190,6 +190,11 @@ static void show_overlap(void)
 
 int main(void)
 {
+    if (dv_work_entries(DV_MOST_ROWS, DV_MOST_COLUMNS) != DV_MOST_WORK ||
+        dv_tree_entries(DV_MOST_ROWS, DV_MOST_COLUMNS) != DV_MOST_TREE) {
+        fprintf(stderr, "checked: the most entries are not those of the largest sheet\n");
+        return 1;
+    }
     for (size_t i = 0; i < sizeof calls / sizeof *calls; i++) {
         lend(&calls[i]);
         if (aborts(&calls[i]))

@@ -106,7 +106,7 @@ static inline size_t dv_shown_place(uint64_t shown) { return (size_t)(shown & 0x
 static inline size_t dv_shown_length(uint64_t shown) { return (size_t)(shown >> 32); }
 
 // Decides whether the family derives the sheet of m rows and n columns. Answers, in this order: 1 to 8 blaming 1, the
-// book; 1 to 8 blaming 2, the sheet; 9; 10; 11; 14; 0. The order has 14, which is proved never to come.
+// book; 1 to 8 blaming 2, the sheet; 9; 10; 11; 14; 0. 14 is a guard and is proved never to come.
 //
 // On 0, 11 and 14 the first dv_work_entries(m, n) entries of work hold the table of pieces: by height, then width, then
 // top row, then left column, each rising; bit A is set exactly when motif A derives that piece, other bits are clear.
