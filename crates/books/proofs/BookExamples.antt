@@ -1,4 +1,4 @@
--- The house book of document 01 and books that differ from it in one byte, read by computing.
+-- The house book of docs/RULES.md and books that differ from it in one byte, read by computing.
 use Prim.Native.Nat.{ℕ}
 use mathlib.Core.Path.{_≡_, refl}
 use mathlib.Core.List.{List, [], _∷_, _++_}

@@ -1,4 +1,4 @@
--- Document 01's three bullets say what `Derives` says: an across join and a down join are the two directions of one join.
+-- The three bullets of `Plain` say what `Derives` says: an across join and a down join are the two directions of one join.
 use Prim.Native.Nat.{ℕ, _≤_}
 use mathlib.Core.Logic.{_↔_}
 use native.Mathlib.Omega.{arith}

@@ -3,7 +3,7 @@ use names::number::Fault;
 ghost use mathlib.Core.Path.{_≡_};
 ghost use Rattle.books.specs.Answer.{plain, blaming, packed, Packs};
 
-// A number of document 01's table, the input it blames (1 the first, 2 the second, 0 neither), and a place in that input.
+// A number of the answers in docs/RULES.md, the input it blames (1 the first, 2 the second, 0 neither), and a place in that input.
 pub struct Answer {
     pub number: u8,
     pub blamed: u8,

@@ -1,4 +1,4 @@
--- Cases P1 to P12 of document 01, from the bytes: each is what the definition that a call's contract cites computes to, so that the calls
+-- Cases P1 to P12 of docs/RULES.md, from the bytes: each is what the definition that a call's contract cites computes to, so that the calls
 -- can leave nothing else.
 use Prim.Native.Nat.{ℕ}
 use mathlib.Core.Path.{_≡_, refl}

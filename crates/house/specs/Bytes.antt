@@ -1,4 +1,4 @@
--- The house book, its sheets and its combinations, byte by byte as document 01 shows or describes them.
+-- The house book, its sheets and its combinations, byte by byte as docs/RULES.md shows or describes them.
 use Prim.Native.Nat.{ℕ}
 use mathlib.Core.List.{List, [], _∷_, _++_}
 use Rattle.names.specs.Name.{Name}

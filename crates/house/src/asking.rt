@@ -1,4 +1,4 @@
-// A book asked for a sheet, and the house book asked for the sheets of document 01.
+// A book asked for a sheet, and the house book asked for the sheets of docs/RULES.md.
 use crate::printing;
 use crate::slices;
 

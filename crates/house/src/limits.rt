@@ -1,4 +1,4 @@
-// Books and sheets at the limits of document 01, and one beyond.
+// Books and sheets at the limits of docs/RULES.md, and one beyond.
 use crate::asking;
 use crate::printing;
 use crate::slices;

@@ -1,5 +1,5 @@
-// The house example and the edge cases of document 01, run through the calls that a host makes. Each line says what was asked and what came of
-// it, so that it can be held against document 01; the file stdout has all of them.
+// The house example and the edge cases of the rules, run through the calls that a host makes. Each line says what was asked and what came of
+// it, so that it can be held against docs/RULES.md; the file stdout has all of them.
 mod asking;
 mod combining;
 mod limits;

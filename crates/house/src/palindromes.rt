@@ -1,4 +1,4 @@
-// The column palindromes of source document 001, example 1: every column reads the same from above and from below. Motifs S, V, A2, B2, A1
+// The column palindromes: every column reads the same from above and from below. Motifs S, V, A2, B2, A1
 // and B1 are numbered in this order, and the rules stand in the order of the example.
 use crate::asking;
 

@@ -1,4 +1,4 @@
--- Worked examples of document 01, computed from the definitions.
+-- Numbers at their limits and colour lists of the house book, computed from the definitions.
 use Prim.Native.Nat.{ℕ}
 use mathlib.Core.Path.{_≡_, refl}
 use mathlib.Core.List.{List, [], _∷_, _++_}

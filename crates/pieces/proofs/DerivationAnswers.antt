@@ -1,4 +1,4 @@
--- What a derivation answers: each answer of its list, exactly when document 01 says so; and every answer packs, since places are bounded.
+-- What a derivation answers: each answer of its list, exactly when it is due; and every answer packs, since places are bounded.
 use Prim.Native.Nat.{ℕ, _<_, _^_}
 use mathlib.Core.Path.{_≡_}
 use mathlib.Core.List.{List}

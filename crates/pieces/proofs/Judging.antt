@@ -130,7 +130,7 @@ module _ {book : List ℕ} {f : Family} {bytes : List ℕ} {g : Sheet} (given : 
   unfolding judged
   judged-none entries tree-slice e = simp (refused b (f .start) p .1 (not-derived e))
 
-  -- what the table tells is what document 01 has
+  -- what the table tells is what the motifs derive
   abbrev told : List ℕ → List ℕ → Verdict
   told numbers tree-slice = verdict (seen (g .rows) (g .cols) work numbers) (take (f .count) (f .rules)) (f .start) (whole (g .rows) (g .cols)) tree-slice
 

@@ -35,7 +35,7 @@ module _ (b : Contents) (p : Picture) where
         (omega (arith, length-pieces (p .rows) (p .cols), slot-lt (p .rows) (p .cols) q i))
         ∙ ap (λ (x : Piece). entry b (cut p x)) (getD-slot (p .rows) (p .cols) q i q)
 
-    -- The bits of the table, as document 01 has them.
+    -- The bits of the table: each says whether its motif derives the piece.
     pub table-bit : (a : ℕ) → a < b .motifs → (bit (getD (table b p) (slotOf (p .rows) (p .cols) q) 0) a ≡ 1) ↔ Derives b a (cut p q)
     table-bit a h = (
       λ o. entry-derives b (cut p q) a (ap (λ (x : ℕ). bit x a) (sym table-at) ∙ o),
