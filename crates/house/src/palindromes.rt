@@ -1,5 +1,4 @@
-// The column palindromes: every column reads the same from above and from below. Motifs S, V, A2, B2, A1
-// and B1 are numbered in this order, and the rules stand in the order of the example.
+// The column palindromes: every column reads the same from above and from below. Motifs S, V, A2, B2, A1 and B1 are numbered in this order.
 use crate::asking;
 
 fn columns(asked: &[u8], sheet: &[u8]) {
