@@ -21,7 +21,7 @@ use Rattle.books.proofs.ReadingSheets.{sheet-refused}
 pub record Apart (a : Answer) (count n : ℕ) : Type 0 where
   pub number-is : n % 2 ^ 8 ≡ a .number
   pub blamed-is : n / 2 ^ 8 % 2 ^ 4 ≡ a .blamed
-  pub listed-is : n / 2 ^ 12 % 2 ^ 20 ≡ a .place
+  pub place-is : n / 2 ^ 12 % 2 ^ 20 ≡ a .place
   pub count-is : n / 2 ^ 32 ≡ count
 
 pub apart : (a : Answer) (count : ℕ) → Packs a count → Apart a count (packed a count)
@@ -29,7 +29,7 @@ apart a count p =
     let number = p .number-fits in
     let blamed = p .blamed-fits in
     let place = p .place-fits in
-    record { number-is = omega arith; blamed-is = omega arith; listed-is = omega arith; count-is = omega arith }
+    record { number-is = omega arith; blamed-is = omega arith; place-is = omega arith; count-is = omega arith }
 
 -- an answer with a number of the table that blames nothing
 pub plain-packs : (n count : ℕ) → n < 2 ^ 8 → count < 2 ^ 32 → Packs (plain n) count
