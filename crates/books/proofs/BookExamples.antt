@@ -9,7 +9,7 @@ use Rattle.names.specs.Colours.{findName, colourAt, coloursOf}
 use Rattle.books.specs.Contents.{Contents}
 use Rattle.books.specs.ContentsIn.{contentsIn}
 use Rattle.books.specs.Rules.{colourNumberAt, joinAt, bodyAt, ruleAt, rulesAt}
-use Rattle.books.specs.Book.{figuresAt, endedAt, colouredAt, bookOf}
+use Rattle.books.specs.Book.{figuresAt, ruledAt, figuredAt, bookOf}
 use Rattle.books.specs.SpellBook.{spellBook}
 use Rattle.books.specs.declared.rule.Body.the-variants.{Colour, Across, Down}
 
@@ -61,7 +61,7 @@ pub record Books : Type 0 where
   pub lower-3 : bookOf (book (3 ∷ 0 ∷ 1 ∷ []) (0 ∷ 2 ∷ 0 ∷ 3 ∷ [])) .fault ≡ fault 6 23
 
 pub books : Books
-unfolding house houseContents book joins colours slateC slateU spellNumber bookOf colouredAt figuresAt endedAt rulesAt ruleAt bodyAt joinAt colourNumberAt numberIn numberBelow numberAt coloursOf colourAt nameOf findName listed sameName
+unfolding house houseContents book joins colours slateC slateU spellNumber bookOf figuredAt figuresAt ruledAt rulesAt ruleAt bodyAt joinAt colourNumberAt numberIn numberBelow numberAt coloursOf colourAt nameOf findName listed sameName
 books =
     record {
       fine = refl;

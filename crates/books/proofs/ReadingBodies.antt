@@ -1,15 +1,17 @@
 -- What callers use of a rule's body that was read: it fits the counts, lies within the input, and stands there as it is spelled; a refusal
 -- names what it blames. The kind is read first, and then what it carries.
 use Prim.Native.Nat.{ℕ, _+_, _<_, _≤_}
-use mathlib.Core.Path.{_≡_}
+use mathlib.Core.Path.{_≡_, subst}
 use mathlib.Core.List.{List, _++_}
 use native.Mathlib.Omega.{arith}
 use lib.Dec.{eqb}
 use lib.ListN.{length}
 use borrow.Author.Tests.{eqb-true, eqb-false}
 use Rattle.names.specs.Number.{numberBelow, spellNumber}
+use Rattle.names.specs.declared.number.Fault.{Fault}
 use Rattle.names.specs.declared.number.Read.the-variants.{Value}
 use Rattle.names.proofs.Picking.{pick-ind}
+use Rattle.names.proofs.Onwards.{onward-ind}
 use Rattle.names.proofs.ReadingNumbers.{Blamed, blamed-later, number-below, number-below-refused}
 use Rattle.names.proofs.SpellingNumbers.{Bytes}
 use Rattle.books.specs.Keeps.{BodyFits}
@@ -19,7 +21,6 @@ use Rattle.books.specs.declared.rule.Body.{Body}
 use Rattle.books.specs.declared.rule.Body.the-variants.{Across, Down}
 use Rattle.books.specs.declared.bodies.BodyRead.{BodyRead}
 use Rattle.books.specs.declared.bodies.BodyRead.the-variants.{Whole as WholeBody, Refused as RefusedBody}
-use Rattle.books.proofs.Onwards.{onward-ind}
 use Rattle.books.proofs.StandingNumbers.{Between, below-spelled, between-both}
 
 -- a body whose kind stands at a place: it fits the counts, ends within the input, and stands there as it is spelled
@@ -29,7 +30,7 @@ pub record BodyLies (s : List ℕ) (at motifs colours : ℕ) (b : Body) (next : 
   pub near : next ≤ at + 9
   pub spelled : Bytes s → Between s at next (spellBody b)
 
-abbrev pub BodyFound : List ℕ → ℕ → ℕ → ℕ → BodyRead → Type 0
+abbrev BodyFound : List ℕ → ℕ → ℕ → ℕ → BodyRead → Type 0
 BodyFound s at motifs colours (WholeBody b next) = BodyLies s at motifs colours b next
 BodyFound s at motifs colours (RefusedBody f) = Blamed s (at + 9) f
 
@@ -79,7 +80,7 @@ module _ (s : List ℕ) (at motifs colours kind then : ℕ) (e : numberBelow s a
             (between-both (below-spelled s bytes then motifs 6 a half d) (below-spelled s bytes half motifs 6 b next q)));
       }))
 
-pub body-found : (s : List ℕ) (at motifs colours : ℕ) → BodyFound s at motifs colours (bodyAt s at motifs colours)
+body-found : (s : List ℕ) (at motifs colours : ℕ) → BodyFound s at motifs colours (bodyAt s at motifs colours)
 unfolding bodyAt
 body-found s at motifs colours =
     onward-ind (BodyFound s at motifs colours) RefusedBody (numberBelow s at 3 7) _
@@ -88,3 +89,9 @@ body-found s at motifs colours =
     pick-ind (BodyFound s at motifs colours) (eqb kind 0) (colourNumberAt s then colours) (joinAt s then kind motifs)
     (λ t. colour-found s at motifs colours kind then e (eqb-true kind 0 t))
     (λ t. join-found s at motifs colours kind then e (eqb-false kind 0 t)))
+
+pub body-lies : (s : List ℕ) (at motifs colours : ℕ) (b : Body) (next : ℕ) → bodyAt s at motifs colours ≡ WholeBody b next → BodyLies s at motifs colours b next
+body-lies s at motifs colours b next e = subst (BodyFound s at motifs colours) e (body-found s at motifs colours)
+
+pub body-refused : (s : List ℕ) (at motifs colours : ℕ) (f : Fault) → bodyAt s at motifs colours ≡ RefusedBody f → Blamed s (at + 9) f
+body-refused s at motifs colours f e = subst (BodyFound s at motifs colours) e (body-found s at motifs colours)

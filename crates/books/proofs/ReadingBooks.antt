@@ -5,8 +5,8 @@ use mathlib.Core.Path.{_≡_, refl, ap}
 use mathlib.Core.Logic.{_⊎_, inl, inr, ⊎-elim}
 use mathlib.Core.List.{List, [], append-nil, append-assoc}
 use native.Mathlib.Omega.{arith}
-use borrow.Author.Tests.{eqb-true, eqb-false, leb-true}
-use lib.Dec.{eqb, leb}
+use borrow.Author.Tests.{eqb-true, eqb-false, ltb-false}
+use lib.Dec.{eqb, ltb}
 use lib.ListN.{length, getD, take, drop, drop-of-length-le}
 use lib.Seq.{getD-take, length-take-le}
 use Rattle.names.specs.Pick.{fault}
@@ -23,15 +23,14 @@ use Rattle.books.specs.Contents.{Contents}
 use Rattle.books.specs.ContentsIn.{contentsIn}
 use Rattle.books.specs.Keeps.{RuleFits, Keeps}
 use Rattle.books.specs.Rules.{noRule, rulesAt}
-use Rattle.books.specs.Book.{noFamily, figuresAt, familyOf, endedAt, figured, colouredAt, bookOf}
+use Rattle.books.specs.Book.{noFamily, refusedBook, figuresAt, familyOf, ruledAt, figuredAt, bookOf}
 use Rattle.books.specs.SpellBook.{spellBook}
 use Rattle.books.specs.declared.rules.RulesRead.{RulesRead}
 use Rattle.books.specs.declared.book.Figures.{Figures}
-use Rattle.books.specs.declared.book.FiguresRead.{FiguresRead}
-use Rattle.books.specs.declared.book.FiguresRead.the-variants.{Whole, Refused}
 use Rattle.books.specs.declared.book.BookRead.{BookRead}
 use Rattle.books.proofs.StandingNumbers.{Between, between-both}
-use Rattle.books.proofs.ReadingFigures.{FiguresLie, FiguresFound, figures-found}
+use Rattle.books.proofs.Onwards.{after-figures-ind}
+use Rattle.books.proofs.ReadingFigures.{FiguresLie, figures-lie, figures-refused}
 use Rattle.books.proofs.ReadingRules.{RulesLie, rules-lie, rules-refused}
 
 -- what an accepted book gives
@@ -70,7 +69,7 @@ module _ (s : List ℕ) (z : coloursOf s .fault .number ≡ 0) where
   rulesOf g at = rulesAt s at (g .motifs) (coloursOf s .colours .count) (g .count)
 
   abbrev readBook : Figures → ℕ → BookRead
-  readBook g at = record { fault = fault 0 0; family = familyOf (coloursOf s .colours) g (rulesOf g at) }
+  readBook g at = record { fault = fault 0 0; family = familyOf (coloursOf s .colours) g (rulesOf g at .rules) }
 
   module _ (g : Figures) (at : ℕ) (h : FiguresLie s (coloursOf s .next) g at) (k : RulesLie s at (g .motifs) (coloursOf s .colours .count) (g .count) (at + 12 * g .count) (rulesOf g at)) where
     book-found : BookLies s (readBook g at)
@@ -113,8 +112,8 @@ module _ (s : List ℕ) (z : coloursOf s .fault .number ≡ 0) where
         }
 
   -- the book ends with its rules, or a byte follows them
-  ended : (g : Figures) (at : ℕ) → FiguresLie s (coloursOf s .next) g at → Ended s (endedAt s (coloursOf s .colours) g (rulesOf g at))
-  unfolding endedAt
+  ended : (g : Figures) (at : ℕ) → FiguresLie s (coloursOf s .next) g at → Ended s (ruledAt s (coloursOf s .colours) g (rulesOf g at))
+  unfolding ruledAt
   ended g at h =
       let l = colours-lie s z in
       let count = g .count in
@@ -122,20 +121,24 @@ module _ (s : List ℕ) (z : coloursOf s .fault .number ≡ 0) where
       pick-ind (Ended s) (eqb (rulesOf g at .fault .number) 0) _ _
       (λ t.
       let k = rules-lie s at (g .motifs) colours count (h .rules-few) (h .inside) (eqb-true _ 0 t) in
-      pick-ind (Ended s) (leb (length s) (rulesOf g at .next)) _ _
-      (λ e. inl (record { lies = book-found g at h k; spells = book-spells g at h k (leb-true _ _ e) }))
-      (λ e. inr (record { blamed = record { some = omega arith; known = omega arith; inside = k .inside; near = omega (arith, k .near, h .near, h .rules-few, l .near) }; empty = refl })))
+      pick-ind (Ended s) (ltb (rulesOf g at .next) (length s)) _ _
+      (λ e. inr (record { blamed = record { some = omega arith; known = omega arith; inside = k .inside; near = omega (arith, k .near, h .near, h .rules-few, l .near) }; empty = refl }))
+      (λ e. inl (record { lies = book-found g at h k; spells = book-spells g at h k (ltb-false _ _ e) })))
       (λ t. inr (record { blamed = blamed-later (omega (arith, h .near, h .rules-few, l .near)) (rules-refused s at (g .motifs) colours count (h .rules-few) (h .inside) (eqb-false _ 0 t)); empty = refl }))
 
-  figured-ended : (r : FiguresRead) → FiguresFound s (coloursOf s .next) r → Ended s (figured s (coloursOf s .colours) r)
-  figured-ended (Whole g at) h = ended g at h
-  figured-ended (Refused f) h = inr (record { blamed = blamed-later (omega (arith, colours-lie s z .near)) h; empty = refl })
+  figured-ended : Ended s (figuredAt s (coloursOf s .colours) (coloursOf s .next))
+  unfolding figuredAt
+  figured-ended =
+      let at = coloursOf s .next in
+      after-figures-ind (Ended s) refusedBook (figuresAt s at) _
+      (λ f e. inr (record { blamed = blamed-later (omega (arith, colours-lie s z .near)) (figures-refused s at f e); empty = refl }))
+      (λ g next e. ended g next (figures-lie s at g next e))
 
 book-ended : (s : List ℕ) → Ended s (bookOf s)
-unfolding bookOf colouredAt
+unfolding bookOf
 book-ended s =
     pick-ind (Ended s) (eqb (coloursOf s .fault .number) 0) _ _
-    (λ t. figured-ended s (eqb-true _ 0 t) (figuresAt s (coloursOf s .next)) (figures-found s (coloursOf s .next)))
+    (λ t. figured-ended s (eqb-true _ 0 t))
     (λ t. inr (record { blamed = blamed-later (omega arith) (colours-refused s (eqb-false _ 0 t) .blamed); empty = refl }))
 
 -- the two laws of a book: where its fault has number 0 it lies within the input, and elsewhere it names what it blames

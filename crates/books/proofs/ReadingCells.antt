@@ -11,11 +11,11 @@ use lib.Seq.{sets, sets-eq, take-append-seam}
 use Rattle.names.specs.Pick.{fault}
 use Rattle.names.specs.Number.{numberBelow}
 use Rattle.names.specs.declared.number.Fault.{Fault}
-use Rattle.names.specs.declared.number.Read.{Read}
-use Rattle.names.specs.declared.number.Read.the-variants.{Value, Refused}
+use Rattle.names.specs.declared.number.Read.the-variants.{Value}
+use Rattle.names.proofs.Onwards.{onward-ind}
 use Rattle.names.proofs.ReadingNumbers.{Blamed, blamed-later, number-below, number-below-there, number-below-refused}
 use Rattle.names.proofs.SpellingNumbers.{Bytes, number-spelled}
-use Rattle.books.specs.Cells.{noCells, afterCell, cellsFrom, cellsOf}
+use Rattle.books.specs.Cells.{noCells, refusedCells, cellsFrom, cellsOf}
 use Rattle.books.specs.SpellSheet.{spellCells}
 use Rattle.books.specs.declared.cells.CellsRead.{CellsRead}
 
@@ -61,14 +61,6 @@ module _ (s : List ℕ) (colours limit : ℕ) where
         spelled = λ bytes. rw (append-assoc, ← t .spelled bytes) (number-spelled s bytes at v next (number-below-there s at colours 6 v next e));
       }
 
-  after-ended : (cells : List ℕ) (i at k : ℕ) → at + 3 * suc k ≤ limit
-      → ((d : List ℕ) (p : ℕ) → p ≤ length s → p + 3 * k ≤ limit → Ended d (i + 1) p k (cellsFrom s colours d (i + 1) p k))
-      → (r : Read) → numberBelow s at colours 6 ≡ r → Ended cells i at (suc k) (afterCell cells i (λ d p. cellsFrom s colours d (i + 1) p k) r)
-  after-ended cells i at k l rec (Refused f) e = inr (blamed-later (omega arith) (number-below-refused s at colours 6 f e (omega arith) (omega arith)))
-  after-ended cells i at k l rec (Value v next) e =
-      let g = number-below s at colours 6 v next e in
-      ⊎-elim (λ t. inl (one-more cells i at k v next _ e t)) (λ b. inr b) (rec (set cells i v) next (g .inside) (omega (arith, g .near)))
-
   from-ended : (k : ℕ) (cells : List ℕ) (i at : ℕ) → at ≤ length s → at + 3 * k ≤ limit → Ended cells i at k (cellsFrom s colours cells i at k)
   from-ended zero cells i at h l =
       inl (record {
@@ -82,7 +74,12 @@ module _ (s : List ℕ) (colours limit : ℕ) where
         spelled = λ _. refl;
       })
   from-ended (suc k) cells i at h l =
-      after-ended cells i at k l (λ d p hp lp. from-ended k d (i + 1) p hp lp) (numberBelow s at colours 6) refl
+      onward-ind (Ended cells i at (suc k)) refusedCells (numberBelow s at colours 6) _
+      (λ f e. inr (blamed-later (omega arith) (number-below-refused s at colours 6 f e (omega arith) (omega arith))))
+      (λ v next e.
+      let g = number-below s at colours 6 v next e in
+      ⊎-elim (λ t. inl (one-more cells i at k v next _ e t)) (λ b. inr b)
+      (from-ended k (set cells i v) (i + 1) next (g .inside) (omega (arith, g .near))))
 
 -- the two laws of the cells of a sheet: they lie within the input, or the refusal names what it blames
 module _ (s : List ℕ) (colours limit at count : ℕ) (h : at ≤ length s) (l : at + 3 * count ≤ limit) where

@@ -6,13 +6,14 @@ use mathlib.Core.List.{List, _++_}
 use native.Mathlib.Omega.{arith}
 use lib.ListN.{length}
 use Rattle.names.specs.Number.{numberIn, numberBelow, spellNumber}
+use Rattle.names.specs.declared.number.Fault.{Fault}
+use Rattle.names.proofs.Onwards.{onward-ind}
 use Rattle.names.proofs.ReadingNumbers.{Blamed, blamed-later, number-in, number-in-refused, number-below, number-below-refused}
 use Rattle.names.proofs.SpellingNumbers.{Bytes}
 use Rattle.books.specs.Book.{figuresAt}
 use Rattle.books.specs.declared.book.Figures.{Figures}
 use Rattle.books.specs.declared.book.FiguresRead.{FiguresRead}
 use Rattle.books.specs.declared.book.FiguresRead.the-variants.{Whole, Refused}
-use Rattle.books.proofs.Onwards.{onward-ind}
 use Rattle.books.proofs.StandingNumbers.{Between, in-spelled, below-spelled, between-both}
 
 -- the figures keep their ranges, end within the input, and stand there as they are spelled
@@ -26,11 +27,11 @@ pub record FiguresLie (s : List ℕ) (at : ℕ) (g : Figures) (next : ℕ) : Typ
   pub near : next ≤ at + 9
   pub spelled : Bytes s → Between s at next (spellNumber (g .motifs) ++ (spellNumber (g .start) ++ spellNumber (g .count)))
 
-abbrev pub FiguresFound : List ℕ → ℕ → FiguresRead → Type 0
+abbrev FiguresFound : List ℕ → ℕ → FiguresRead → Type 0
 FiguresFound s at (Whole g next) = FiguresLie s at g next
 FiguresFound s at (Refused f) = Blamed s (at + 9) f
 
-pub figures-found : (s : List ℕ) (at : ℕ) → FiguresFound s at (figuresAt s at)
+figures-found : (s : List ℕ) (at : ℕ) → FiguresFound s at (figuresAt s at)
 unfolding figuresAt
 figures-found s at =
     onward-ind (FiguresFound s at) Refused (numberIn s at 1 32) _
@@ -59,3 +60,6 @@ figures-found s at =
 
 pub figures-lie : (s : List ℕ) (at : ℕ) (g : Figures) (next : ℕ) → figuresAt s at ≡ Whole g next → FiguresLie s at g next
 figures-lie s at g next e = subst (FiguresFound s at) e (figures-found s at)
+
+pub figures-refused : (s : List ℕ) (at : ℕ) (f : Fault) → figuresAt s at ≡ Refused f → Blamed s (at + 9) f
+figures-refused s at f e = subst (FiguresFound s at) e (figures-found s at)

@@ -10,20 +10,18 @@ use lib.Seq.{set-at, take-at}
 use Rattle.names.specs.Pick.{fault}
 use Rattle.names.specs.Number.{numberBelow}
 use Rattle.names.specs.declared.number.Fault.{Fault}
-use Rattle.names.specs.declared.number.Read.the-variants.{Value}
+use Rattle.names.proofs.Onwards.{onward-ind}
 use Rattle.names.proofs.ReadingNumbers.{Blamed, blamed-later, number-below, number-below-refused}
 use Rattle.names.proofs.SpellingNumbers.{Bytes}
 use Rattle.books.specs.Keeps.{RuleFits}
-use Rattle.books.specs.Rules.{bodyAt, headed, ruleAt, noRule, noRules, afterRule, rulesFrom, rulesAt}
+use Rattle.books.specs.Rules.{bodyAt, ruleAt, noRule, noRules, refusedRules, rulesFrom, rulesAt}
 use Rattle.books.specs.SpellBook.{spellRule, spellRules}
 use Rattle.books.specs.declared.rule.Rule.{Rule}
-use Rattle.books.specs.declared.bodies.BodyRead.{BodyRead}
-use Rattle.books.specs.declared.bodies.BodyRead.the-variants.{Whole as WholeBody, Refused as RefusedBody}
 use Rattle.books.specs.declared.rules.RuleRead.{RuleRead}
 use Rattle.books.specs.declared.rules.RuleRead.the-variants.{Whole as WholeRule, Refused as RefusedRule}
 use Rattle.books.specs.declared.rules.RulesRead.{RulesRead}
-use Rattle.books.proofs.Onwards.{onward-ind}
-use Rattle.books.proofs.ReadingBodies.{BodyFound, body-found}
+use Rattle.books.proofs.Onwards.{after-body-ind, after-rule-ind}
+use Rattle.books.proofs.ReadingBodies.{body-lies, body-refused}
 use Rattle.books.proofs.StandingNumbers.{Between, below-spelled, between-both}
 
 -- ── A rule ──
@@ -38,24 +36,23 @@ abbrev RuleFound : List ℕ → ℕ → ℕ → ℕ → RuleRead → Type 0
 RuleFound s at motifs colours (WholeRule r next) = RuleLies s at motifs colours r next
 RuleFound s at motifs colours (RefusedRule f) = Blamed s (at + 12) f
 
-headed-found : (s : List ℕ) (at motifs colours head then : ℕ) → numberBelow s at motifs 6 ≡ Value head then
-    → (b : BodyRead) → BodyFound s then motifs colours b → RuleFound s at motifs colours (headed head b)
-headed-found s at motifs colours head then e (RefusedBody f) h = let g = number-below s at motifs 6 head then e in blamed-later (omega (arith, g .near)) h
-headed-found s at motifs colours head then e (WholeBody b next) h =
-    let g = number-below s at motifs 6 head then e in
-    record {
-      fits = record { head-fits = g .low; body-fits = h .fits };
-      inside = h .inside;
-      near = omega (arith, g .near, h .near);
-      spelled = λ bytes. between-both (below-spelled s bytes at motifs 6 head then e) (h .spelled bytes);
-    }
-
 rule-found : (s : List ℕ) (at motifs colours : ℕ) → RuleFound s at motifs colours (ruleAt s at motifs colours)
 unfolding ruleAt
 rule-found s at motifs colours =
     onward-ind (RuleFound s at motifs colours) RefusedRule (numberBelow s at motifs 6) _
     (λ f e. blamed-later (omega arith) (number-below-refused s at motifs 6 f e (omega arith) (omega arith)))
-    (λ head then e. headed-found s at motifs colours head then e (bodyAt s then motifs colours) (body-found s then motifs colours))
+    (λ head then e.
+    let g = number-below s at motifs 6 head then e in
+    after-body-ind (RuleFound s at motifs colours) RefusedRule (bodyAt s then motifs colours) _
+    (λ f d. blamed-later (omega (arith, g .near)) (body-refused s then motifs colours f d))
+    (λ b next d.
+    let h = body-lies s then motifs colours b next d in
+    record {
+      fits = record { head-fits = g .low; body-fits = h .fits };
+      inside = h .inside;
+      near = omega (arith, g .near, h .near);
+      spelled = λ bytes. between-both (below-spelled s bytes at motifs 6 head then e) (h .spelled bytes);
+    }))
 
 -- ── The rules ──
 
@@ -93,17 +90,6 @@ module _ (s : List ℕ) (motifs colours limit spare : ℕ) where
         spelled = λ bytes. between-both (g .spelled bytes) (t .spelled bytes);
       }
 
-  after-rule : (rules done : List Rule) (i at k : ℕ) → rules ≡ done ++ noRule ∷ fixed k → length done ≡ i → at + 12 * suc k ≤ limit
-      → ((longer more : List Rule) (p : ℕ) → longer ≡ more ++ fixed k → length more ≡ i + 1 → p ≤ length s → p + 12 * k ≤ limit
-      → Ended more p k (rulesFrom s motifs colours longer (i + 1) p k))
-      → (x : RuleRead) → RuleFound s at motifs colours x
-      → Ended done at (suc k) (afterRule rules i (λ longer next. rulesFrom s motifs colours longer (i + 1) next k) x)
-  after-rule rules done i at k e h l rec (RefusedRule f) g = inr (blamed-later (omega arith) g)
-  after-rule rules done i at k e h l rec (WholeRule x next) g =
-      let longer : set rules i x ≡ (done ++ (x ∷ [])) ++ fixed k = rw e (set-at done noRule (fixed k) x i h ∙ sym (append-assoc done (x ∷ []) (fixed k))) in
-      ⊎-elim (λ t. inl (one-more done at k x next _ g t)) (λ t. inr t)
-      (rec (set rules i x) (done ++ (x ∷ [])) next longer (omega (arith, length-append done (x ∷ []))) (g .inside) (omega (arith, g .near)))
-
   ended : (k : ℕ) (rules done : List Rule) (i at : ℕ) → rules ≡ done ++ fixed k → length done ≡ i → at ≤ length s → at + 12 * k ≤ limit
       → Ended done at k (rulesFrom s motifs colours rules i at k)
   ended zero rules done i at e h l n =
@@ -118,7 +104,13 @@ module _ (s : List ℕ) (motifs colours limit spare : ℕ) where
         spelled = λ bytes. record { stands = refl };
       })
   ended (suc k) rules done i at e h l n =
-      after-rule rules done i at k e h n (λ longer more p d g q b. ended k longer more (i + 1) p d g q b) (ruleAt s at motifs colours) (rule-found s at motifs colours)
+      after-rule-ind (Ended done at (suc k)) refusedRules (ruleAt s at motifs colours) _
+      (λ f d. inr (blamed-later (omega arith) (subst (RuleFound s at motifs colours) d (rule-found s at motifs colours))))
+      (λ x next d.
+      let g : RuleLies s at motifs colours x next = subst (RuleFound s at motifs colours) d (rule-found s at motifs colours) in
+      let longer : set rules i x ≡ (done ++ (x ∷ [])) ++ fixed k = rw e (set-at done noRule (fixed k) x i h ∙ sym (append-assoc done (x ∷ []) (fixed k))) in
+      ⊎-elim (λ t. inl (one-more done at k x next _ g t)) (λ t. inr t)
+      (ended k (set rules i x) (done ++ (x ∷ [])) (i + 1) next longer (omega (arith, length-append done (x ∷ []))) (g .inside) (omega (arith, g .near))))
 
 -- rules that were accepted: they fit, the other places are fixed, and they stand in the input as they are spelled
 pub record RulesLie (s : List ℕ) (at motifs colours count limit : ℕ) (r : RulesRead) : Type 0 where

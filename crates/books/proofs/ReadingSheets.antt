@@ -17,12 +17,11 @@ use Rattle.names.proofs.ReadingNumbers.{Blamed, blamed-later}
 use Rattle.names.proofs.ReadingColours.{Places, ListLies, colours-lie, colours-refused}
 use Rattle.books.specs.Size.{greatest, room, sizeAt}
 use Rattle.books.specs.Cells.{noCells, cellsOf}
-use Rattle.books.specs.Sheet.{noSheet, cellsThen, sizeThen, coloursThen, sheetOf}
-use Rattle.books.specs.declared.size.SizeRead.{SizeRead}
-use Rattle.books.specs.declared.size.SizeRead.the-variants.{By, Refused as RefusedSize}
+use Rattle.books.specs.Sheet.{noSheet, refusedSheet, filledAt, sheetOf}
 use Rattle.books.specs.declared.cells.CellsRead.{CellsRead}
 use Rattle.books.specs.declared.sheet.SheetRead.{SheetRead}
 use Rattle.books.proofs.Area.{area}
+use Rattle.books.proofs.Onwards.{after-size-ind}
 use Rattle.books.proofs.ReadingSizes.{SizeLies, size-lies, size-refused}
 use Rattle.books.proofs.ReadingCells.{CellsLie, stored-first, cells-lie, cells-refused}
 
@@ -53,10 +52,10 @@ module _ (s : List ℕ) where
   abbrev Ended : SheetRead → Type 0
   Ended r = Staged s r ⊎ SheetRefused s r
 
-  cells-then : (rows cols at : ℕ) → ListLies s 2755 1 (coloursOf s) → SizeLies s (coloursOf s .next) greatest rows cols at
-      → Ended (cellsThen s (coloursOf s .colours) rows cols (cellsOf s (coloursOf s .colours .count) at (rows * cols)))
-  unfolding cellsThen
-  cells-then rows cols at l z =
+  filled-ended : (rows cols at : ℕ) → ListLies s 2755 1 (coloursOf s) → SizeLies s (coloursOf s .next) greatest rows cols at
+      → Ended (filledAt s (coloursOf s .colours) rows cols (cellsOf s (coloursOf s .colours .count) at (rows * cols)))
+  unfolding filledAt
+  filled-ended rows cols at l z =
       let n = coloursOf s .colours .count in
       let q = cellsOf s n at (rows * cols) in
       let near : at + 3 * (rows * cols) ≤ farthest = omega (arith, area rows cols greatest (z .rows-few) (z .cols-few), z .near, l .near) in
@@ -65,7 +64,7 @@ module _ (s : List ℕ) where
       pick-ind Ended (ltb (q .next) (length s)) _ _
       (λ _. inr (record { blamed = record { some = omega arith; known = omega arith; inside = f .inside; near = f .near }; none = refl }))
       (λ u. inl (record {
-        fine = f .fine;
+        fine = refl;
         listed = l;
         colours = refl;
         at = at;
@@ -77,15 +76,16 @@ module _ (s : List ℕ) where
       })))
       (λ t. inr (record { blamed = cells-refused s n farthest at (rows * cols) (z .inside) near (eqb-false _ _ t); none = refl }))
 
-  size-then : ListLies s 2755 1 (coloursOf s) → (r : SizeRead) → sizeAt s (coloursOf s .next) greatest ≡ r → Ended (sizeThen s (coloursOf s .colours) r)
-  size-then l (RefusedSize f) e = inr (record { blamed = blamed-later (omega (arith, l .near)) (size-refused s (coloursOf s .next) greatest f e); none = refl })
-  size-then l (By rows cols at) e = cells-then rows cols at l (size-lies s (coloursOf s .next) greatest rows cols at e)
-
   sheet-ended : Ended (sheetOf s)
-  unfolding sheetOf coloursThen
+  unfolding sheetOf
   sheet-ended =
       pick-ind Ended (eqb (coloursOf s .fault .number) 0) _ _
-      (λ t. size-then (colours-lie s (eqb-true _ _ t)) (sizeAt s (coloursOf s .next) greatest) refl)
+      (λ t.
+      let l = colours-lie s (eqb-true _ _ t) in
+      let at = coloursOf s .next in
+      after-size-ind Ended refusedSheet (sizeAt s at greatest) _
+      (λ f e. inr (record { blamed = blamed-later (omega (arith, l .near)) (size-refused s at greatest f e); none = refl }))
+      (λ rows cols next e. filled-ended rows cols next l (size-lies s at greatest rows cols next e)))
       (λ t. inr (record { blamed = blamed-later (omega arith) (colours-refused s (eqb-false _ _ t) .blamed); none = refl }))
 
   pub sheet-staged : sheetOf s .fault .number ≡ 0 → Staged s (sheetOf s)

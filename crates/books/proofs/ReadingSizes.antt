@@ -1,16 +1,16 @@
 -- What callers use of a size that was read: rows and columns lie in their range, and the place after them within the input.
 -- Both are numbers in a range, and have it from there.
 use Prim.Native.Nat.{ℕ, _+_, _≤_}
-use mathlib.Core.Path.{_≡_, refl, subst}
+use mathlib.Core.Path.{_≡_, subst}
 use mathlib.Core.List.{List}
 use native.Mathlib.Omega.{arith}
 use lib.ListN.{length}
 use Rattle.names.specs.Number.{numberIn}
 use Rattle.names.specs.declared.number.Fault.{Fault}
-use Rattle.names.specs.declared.number.Read.{Read}
-use Rattle.names.specs.declared.number.Read.the-variants.{Value, Refused}
+use Rattle.names.specs.declared.number.Read.the-variants.{Value}
+use Rattle.names.proofs.Onwards.{onward-ind}
 use Rattle.names.proofs.ReadingNumbers.{Blamed, blamed-later, number-in, number-in-refused}
-use Rattle.books.specs.Size.{colsRead, rowsRead, sizeAt}
+use Rattle.books.specs.Size.{sizeAt}
 use Rattle.books.specs.declared.size.SizeRead.{SizeRead}
 use Rattle.books.specs.declared.size.SizeRead.the-variants.{By, Refused as RefusedSize}
 
@@ -31,11 +31,16 @@ module _ (s : List ℕ) (at most : ℕ) where
   Found (By rows cols next) = SizeLies s at most rows cols next
   Found (RefusedSize f) = Blamed s (at + 4) f
 
-  cols-found : (rows between : ℕ) (r : Read) → numberIn s at 1 most ≡ Value rows between → numberIn s between 1 most ≡ r → Found (colsRead rows r)
-  cols-found rows between (Refused f) e d =
-      blamed-later (omega (arith, number-in s at 1 most rows between e)) (number-in-refused s between 1 most f d)
-  cols-found rows between (Value cols next) e d =
+  found : Found (sizeAt s at most)
+  unfolding sizeAt
+  found =
+      onward-ind Found RefusedSize (numberIn s at 1 most) _
+      (λ f e. blamed-later (omega arith) (number-in-refused s at 1 most f e))
+      (λ rows between e.
       let g = number-in s at 1 most rows between e in
+      onward-ind Found RefusedSize (numberIn s between 1 most) _
+      (λ f d. blamed-later (omega (arith, g .near)) (number-in-refused s between 1 most f d))
+      (λ cols next d.
       let h = number-in s between 1 most cols next d in
       record {
         between = between;
@@ -47,16 +52,10 @@ module _ (s : List ℕ) (at most : ℕ) where
         cols-few = h .high;
         inside = h .inside;
         near = omega (arith, g .near, h .near);
-      }
-
-  rows-found : (r : Read) → numberIn s at 1 most ≡ r → Found (rowsRead s most r)
-  rows-found (Refused f) e = blamed-later (omega arith) (number-in-refused s at 1 most f e)
-  rows-found (Value rows between) e = cols-found rows between (numberIn s between 1 most) e refl
+      }))
 
   pub size-lies : (rows cols next : ℕ) → sizeAt s at most ≡ By rows cols next → SizeLies s at most rows cols next
-  unfolding sizeAt
-  size-lies rows cols next e = subst Found e (rows-found (numberIn s at 1 most) refl)
+  size-lies rows cols next e = subst Found e found
 
   pub size-refused : (f : Fault) → sizeAt s at most ≡ RefusedSize f → Blamed s (at + 4) f
-  unfolding sizeAt
-  size-refused f e = subst Found e (rows-found (numberIn s at 1 most) refl)
+  size-refused f e = subst Found e found

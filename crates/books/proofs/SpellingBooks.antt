@@ -5,15 +5,14 @@ use mathlib.Core.Path.{_≡_, refl, sym, ap, _∙_}
 use mathlib.Core.List.{List, [], _++_, append-assoc, append-nil}
 use native.Mathlib.Omega.{arith}
 use native.Mathlib.Nat.{add-assoc}
-use borrow.Author.Tests.{eq-eqb, le-leb}
+use borrow.Author.Tests.{le-ltb}
 use lib.ListN.{length, take, replicate, length-append, length-drop}
 use lib.Seq.{take-append-seam}
 use Rattle.names.specs.Pick.{fault}
 use Rattle.names.specs.Number.{spellNumber}
 use Rattle.names.specs.Spelling.{spellColours}
 use Rattle.names.specs.Colours.{coloursOf}
-use Rattle.names.specs.declared.number.Fault.{Fault}
-use Rattle.names.specs.declared.colours.ColoursRead.{ColoursRead}
+use Rattle.names.specs.declared.colours.Colours.{Colours}
 use Rattle.names.proofs.SpellingNumbers.{Bytes}
 use Rattle.names.proofs.ReadingColours.{names-count}
 use Rattle.names.proofs.SpellingColours.{colours-read-back}
@@ -21,9 +20,9 @@ use Rattle.books.specs.Contents.{Contents}
 use Rattle.books.specs.ContentsIn.{contentsIn}
 use Rattle.books.specs.Keeps.{Keeps}
 use Rattle.books.specs.Rules.{noRule}
-use Rattle.books.specs.Book.{figuresAt, familyOf, endedAt, colouredAt, bookOf}
+use Rattle.books.specs.Book.{figuresAt, familyOf, ruledAt, figuredAt, bookOf}
 use Rattle.books.specs.SpellBook.{spellRules, spellBook}
-use Rattle.books.specs.declared.rules.RulesRead.{RulesRead}
+use Rattle.books.specs.declared.rule.Rule.{Rule}
 use Rattle.books.specs.declared.book.Figures.{Figures}
 use Rattle.books.specs.declared.book.FiguresRead.the-variants.{Whole}
 use Rattle.books.proofs.ReadingBooks.{book-accepted}
@@ -37,8 +36,8 @@ figuresOf b = record { motifs = b .motifs; start = b .start; count = length (b .
 abbrev spellFigures : Contents → List ℕ
 spellFigures b = spellNumber (b .motifs) ++ (spellNumber (b .start) ++ spellNumber (length (b .rules)))
 
-abbrev lying : Contents → ℕ → RulesRead
-lying b next = record { fault = fault 0 0; rules = b .rules ++ replicate (200 - length (b .rules)) noRule; next = next }
+abbrev lying : Contents → List Rule
+lying b = b .rules ++ replicate (200 - length (b .rules)) noRule
 
 figures-first : (b : Contents) → spellFigures b ++ spellRules (b .rules)
     ≡ spellNumber (b .motifs) ++ (spellNumber (b .start) ++ (spellNumber (length (b .rules)) ++ spellRules (b .rules)))
@@ -63,20 +62,19 @@ module _ (b : Contents) (keeps : Keeps b) (s : List ℕ) where
       (simp (length-append, add-assoc))
 
   -- a book whose colours were read, and after which its figures and rules stand, is read to its end
-  coloured-read : (r : ColoursRead) → r .fault ≡ fault 0 0 → r .colours .count ≡ length (b .colours) → Stands s (r .next) (spellFigures b ++ spellRules (b .rules))
-      → colouredAt s r ≡ record { fault = fault 0 0; family = familyOf (r .colours) (figuresOf b) (lying b 0) }
-  unfolding colouredAt endedAt
-  coloured-read r fine size e =
-      let at = r .next + length (spellFigures b) in
+  coloured-read : (c : Colours) (from : ℕ) → c .count ≡ length (b .colours) → Stands s from (spellFigures b ++ spellRules (b .rules))
+      → figuredAt s c from ≡ record { fault = fault 0 0; family = familyOf c (figuresOf b) (lying b) }
+  unfolding figuredAt ruledAt
+  coloured-read c from size e =
+      let at = from + length (spellFigures b) in
       let d = past-stands (spellFigures b) (spellRules (b .rules)) e in
       let q : Stands s at (spellRules (b .rules) ++ []) = rw append-nil d in
       let ends : length s ≤ at + length (spellRules (b .rules)) = omega (arith, ap length (d .there), d .inside, length-drop at s) in
       simp (
-        eq-eqb _ 0 (ap (λ (f : Fault). f .number) fine),
-        figures-read (r .next) (spellRules (b .rules)) e,
+        figures-read from (spellRules (b .rules)) e,
         size,
         rules-read s (b .motifs) (length (b .colours)) (keeps .motifs-few) (keeps .colours-ok .few) (b .rules) at [] (keeps .rules-few) (keeps .sound .rules-fit) q,
-        le-leb _ _ ends,
+        le-ltb _ _ ends,
       )
 
 -- reading the spelling of contents that keep the rules accepts it and gives them back
@@ -91,9 +89,10 @@ book-read-back b keeps =
     let whole : Stands s 0 (spellColours names ++ rest) = record { inside = omega arith; there = refl } in
     let place : coloursOf s .next ≡ 0 + length (spellColours names) = omega (arith, c .next) in
     let after : Stands s (coloursOf s .next) (spellFigures b ++ spellRules (b .rules)) = rw (place, figures-first b) (past-stands (spellColours names) rest whole) in
-    let read = coloured-read b keeps s (coloursOf s) (c .fine) size after in
+    let read = coloured-read b keeps s (coloursOf s .colours) (coloursOf s .next) size after in
     let rules : take (length (b .rules)) (b .rules ++ replicate (200 - length (b .rules)) noRule) ≡ b .rules = take-append-seam (b .rules) (replicate (200 - length (b .rules)) noRule) in
-    (rw read, rw (read, c .names, rules))
+    let book : bookOf s ≡ record { fault = fault 0 0; family = familyOf (coloursOf s .colours) (figuresOf b) (lying b) } = simp (c .fine) read in
+    (rw book, rw (book, c .names, rules))
 
 -- two accepted inputs with the same contents are equal
 pub one-spelling : (s t : List ℕ) → Bytes s → Bytes t → bookOf s .fault .number ≡ 0 → bookOf t .fault .number ≡ 0

@@ -24,7 +24,7 @@ use Rattle.books.specs.Grid.{Grid, GridKeeps}
 use Rattle.books.specs.ContentsIn.{gridIn}
 use Rattle.books.specs.Size.{greatest, sizeAt}
 use Rattle.books.specs.Cells.{noCells, cellsFrom, cellsOf}
-use Rattle.books.specs.Sheet.{cellsThen, coloursThen, sheetOf}
+use Rattle.books.specs.Sheet.{filledAt, sheetOf}
 use Rattle.books.specs.SpellSheet.{spellCells, spellSheet}
 use Rattle.books.specs.declared.size.SizeRead.the-variants.{By}
 use Rattle.books.specs.declared.sheet.Sheet.{Sheet}
@@ -106,7 +106,7 @@ sheetFor g = record { colours = coloursOf (spellSheet g) .colours; rows = g .row
 
 module _ (g : Grid) (k : GridKeeps g) where
   sheet-read : sheetOf (spellSheet g) ≡ record { fault = fault 0 0; sheet = sheetFor g }
-  unfolding sheetOf coloursThen cellsThen cellsOf
+  unfolding sheetOf filledAt cellsOf
   sheet-read =
       let s = spellSheet g in
       let colours = spellColours (g .colours) in

@@ -1,16 +1,14 @@
 -- What reading a book finds: a colour list; the motif count, the start motif and the rule count; the rules; and nothing after them.
 use Prim.Native.Nat.{ℕ}
 use mathlib.Core.List.{List}
-use lib.ListN.{length}
-use lib.Dec.{leb, eqb}
-use Rattle.names.specs.Pick.{pick, fault}
+use Rattle.names.specs.Pick.{fault}
+use Rattle.names.specs.Onward.{onward, ending}
 use Rattle.names.specs.Number.{numberIn, numberBelow}
-use Rattle.names.specs.Colours.{noColours, coloursOf}
+use Rattle.names.specs.Colours.{noColours, coloursOf, afterColours}
 use Rattle.names.specs.declared.number.Fault.{Fault}
 use Rattle.names.specs.declared.colours.Colours.{Colours}
-use Rattle.names.specs.declared.colours.ColoursRead.{ColoursRead}
-use Rattle.books.specs.Onward.{onward}
-use Rattle.books.specs.Rules.{noRules, rulesAt}
+use Rattle.books.specs.Rules.{noRules, rulesAt, afterRules}
+use Rattle.books.specs.declared.rule.Rule.{Rule}
 use Rattle.books.specs.declared.family.Family.{Family}
 use Rattle.books.specs.declared.rules.RulesRead.{RulesRead}
 use Rattle.books.specs.declared.book.Figures.{Figures}
@@ -33,25 +31,26 @@ figuresAt s at =
     onward Refused (numberIn s then 1 200) (λ count end.
     Whole (record { motifs = motifs; start = start; count = count }) end)))
 
+abbrev pub afterFigures {ℓ} : {A : Type ℓ} → (Fault → A) → FiguresRead → (Figures → ℕ → A) → A
+afterFigures refuse (Whole figures next) go = go figures next
+afterFigures refuse (Refused f) go = refuse f
+
 -- the family of colours, figures and rules
-abbrev pub familyOf : Colours → Figures → RulesRead → Family
-familyOf c g r = record { colours = c; motifs = g .motifs; start = g .start; count = g .count; rules = r .rules }
+abbrev pub familyOf : Colours → Figures → List Rule → Family
+familyOf c g rules = record { colours = c; motifs = g .motifs; start = g .start; count = g .count; rules = rules }
 
 -- the book ends with its rules
-unfoldable pub endedAt : List ℕ → Colours → Figures → RulesRead → BookRead
-endedAt s c g r =
-    pick (eqb (r .fault .number) 0)
-    (pick (leb (length s) (r .next)) (record { fault = fault 0 0; family = familyOf c g r }) (refusedBook (fault 8 (r .next))))
-    (refusedBook (r .fault))
+unfoldable pub ruledAt : List ℕ → Colours → Figures → RulesRead → BookRead
+ruledAt s c g r =
+    afterRules refusedBook r (λ rules next.
+    ending refusedBook s next (record { fault = fault 0 0; family = familyOf c g rules }))
 
--- the rules stand after the figures
-abbrev pub figured : List ℕ → Colours → FiguresRead → BookRead
-figured s c (Whole g at) = endedAt s c g (rulesAt s at (g .motifs) (c .count) (g .count))
-figured s c (Refused f) = refusedBook f
+-- figures, then rules
+unfoldable pub figuredAt : List ℕ → Colours → ℕ → BookRead
+figuredAt s c at =
+    afterFigures refusedBook (figuresAt s at) (λ g next.
+    ruledAt s c g (rulesAt s next (g .motifs) (c .count) (g .count)))
 
--- the figures stand after the colours
-unfoldable pub colouredAt : List ℕ → ColoursRead → BookRead
-colouredAt s r = pick (eqb (r .fault .number) 0) (figured s (r .colours) (figuresAt s (r .next))) (refusedBook (r .fault))
-
+-- colours, then what stands after them
 unfoldable pub bookOf : List ℕ → BookRead
-bookOf s = colouredAt s (coloursOf s)
+bookOf s = afterColours refusedBook (coloursOf s) (λ c next. figuredAt s c next)

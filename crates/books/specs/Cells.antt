@@ -3,10 +3,9 @@ use Prim.Native.Nat.{ℕ, zero, suc, _+_}
 use mathlib.Core.List.{List}
 use lib.ListN.{set, replicate}
 use Rattle.names.specs.Pick.{fault}
+use Rattle.names.specs.Onward.{onward, faultless}
 use Rattle.names.specs.Number.{numberBelow}
 use Rattle.names.specs.declared.number.Fault.{Fault}
-use Rattle.names.specs.declared.number.Read.{Read}
-use Rattle.names.specs.declared.number.Read.the-variants.{Value, Refused}
 use Rattle.books.specs.Size.{room}
 use Rattle.books.specs.declared.cells.CellsRead.{CellsRead}
 
@@ -17,16 +16,14 @@ noCells = replicate room 0
 abbrev pub refusedCells : Fault → CellsRead
 refusedCells f = record { fault = f; cells = noCells; next = 0 }
 
--- what follows the i-th cell, `go` reading on with the cells that it is stored in
-abbrev pub afterCell : List ℕ → ℕ → (List ℕ → ℕ → CellsRead) → Read → CellsRead
-afterCell cells i go (Value v next) = go (set cells i v) next
-afterCell cells i go (Refused f) = refusedCells f
-
 -- so many cells more from a place on, the next of them the i-th; a number that is not below that of the colours is refused with 6
 abbrev pub cellsFrom : List ℕ → ℕ → List ℕ → ℕ → ℕ → ℕ → CellsRead
 cellsFrom s colours cells i at zero = record { fault = fault 0 0; cells = cells; next = at }
 cellsFrom s colours cells i at (suc k) =
-    afterCell cells i (λ d p. cellsFrom s colours d (i + 1) p k) (numberBelow s at colours 6)
+    onward refusedCells (numberBelow s at colours 6) (λ v next. cellsFrom s colours (set cells i v) (i + 1) next k)
 
 unfoldable pub cellsOf : List ℕ → ℕ → ℕ → ℕ → CellsRead
 cellsOf s colours at count = cellsFrom s colours noCells 0 at count
+
+abbrev pub afterCells {ℓ} : {A : Type ℓ} → (Fault → A) → CellsRead → (List ℕ → ℕ → A) → A
+afterCells refuse r go = faultless refuse (r .fault) (go (r .cells) (r .next))

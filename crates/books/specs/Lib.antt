@@ -6,7 +6,6 @@ pub mod Decide
 pub mod Keeps
 pub mod Grid
 pub mod ContentsIn
-pub mod Onward
 pub mod Rules
 pub mod Book
 pub mod SpellBook

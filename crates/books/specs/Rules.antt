@@ -4,9 +4,9 @@ use mathlib.Core.List.{List}
 use lib.ListN.{set, replicate}
 use lib.Dec.{eqb}
 use Rattle.names.specs.Pick.{pick, fault}
+use Rattle.names.specs.Onward.{onward, faultless}
 use Rattle.names.specs.Number.{numberBelow}
 use Rattle.names.specs.declared.number.Fault.{Fault}
-use Rattle.books.specs.Onward.{onward}
 use Rattle.books.specs.declared.rule.Rule.{Rule}
 use Rattle.books.specs.declared.rule.Body.{Body}
 use Rattle.books.specs.declared.rule.Body.the-variants.{Colour, Across, Down}
@@ -36,14 +36,20 @@ bodyAt s at motifs colours =
     onward RefusedBody (numberBelow s at 3 7) (λ kind next.
     pick (eqb kind 0) (colourNumberAt s next colours) (joinAt s next kind motifs))
 
--- the rule with a head, where its body is read
-abbrev pub headed : ℕ → BodyRead → RuleRead
-headed head (WholeBody body next) = WholeRule (record { head = head; body = body }) next
-headed head (RefusedBody f) = RefusedRule f
+abbrev pub afterBody {ℓ} : {A : Type ℓ} → (Fault → A) → BodyRead → (Body → ℕ → A) → A
+afterBody refuse (WholeBody body next) go = go body next
+afterBody refuse (RefusedBody f) go = refuse f
 
 -- its head, then its body
 unfoldable pub ruleAt : List ℕ → ℕ → ℕ → ℕ → RuleRead
-ruleAt s at motifs colours = onward RefusedRule (numberBelow s at motifs 6) (λ head next. headed head (bodyAt s next motifs colours))
+ruleAt s at motifs colours =
+    onward RefusedRule (numberBelow s at motifs 6) (λ head next.
+    afterBody RefusedRule (bodyAt s next motifs colours) (λ body end.
+    WholeRule (record { head = head; body = body }) end))
+
+abbrev pub afterRule {ℓ} : {A : Type ℓ} → (Fault → A) → RuleRead → (Rule → ℕ → A) → A
+afterRule refuse (WholeRule rule next) go = go rule next
+afterRule refuse (RefusedRule f) go = refuse f
 
 -- what stands in the place of a rule that is none
 abbrev pub noRule : Rule
@@ -55,16 +61,15 @@ noRules = replicate 200 noRule
 abbrev pub refusedRules : Fault → RulesRead
 refusedRules f = record { fault = f; rules = noRules; next = 0 }
 
--- what follows a rule that was read, `go` reading on with it in its place
-abbrev pub afterRule : List Rule → ℕ → (List Rule → ℕ → RulesRead) → RuleRead → RulesRead
-afterRule rules i go (WholeRule rule next) = go (set rules i rule) next
-afterRule rules i go (RefusedRule f) = refusedRules f
-
 -- so many rules more from a place on, the first of them the i-th
 abbrev pub rulesFrom : List ℕ → ℕ → ℕ → List Rule → ℕ → ℕ → ℕ → RulesRead
 rulesFrom s motifs colours rules i at zero = record { fault = fault 0 0; rules = rules; next = at }
 rulesFrom s motifs colours rules i at (suc k) =
-    afterRule rules i (λ longer next. rulesFrom s motifs colours longer (i + 1) next k) (ruleAt s at motifs colours)
+    afterRule refusedRules (ruleAt s at motifs colours) (λ rule next.
+    rulesFrom s motifs colours (set rules i rule) (i + 1) next k)
 
 unfoldable pub rulesAt : List ℕ → ℕ → ℕ → ℕ → ℕ → RulesRead
 rulesAt s at motifs colours count = rulesFrom s motifs colours noRules 0 at count
+
+abbrev pub afterRules {ℓ} : {A : Type ℓ} → (Fault → A) → RulesRead → (List Rule → ℕ → A) → A
+afterRules refuse r go = faultless refuse (r .fault) (go (r .rules) (r .next))

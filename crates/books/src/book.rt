@@ -10,7 +10,7 @@ use names::number::Fault;
 use names::number::Read;
 ghost use mathlib.Core.Path.{_≡_};
 ghost use Prim.Native.Nat.{_≤_};
-ghost use Rattle.books.specs.Book.{refusedBook, figuresAt, endedAt, figured, bookOf};
+ghost use Rattle.books.specs.Book.{refusedBook, figuresAt, ruledAt, figuredAt, bookOf};
 
 // The numbers between the colours and the rules.
 struct Figures {
@@ -71,7 +71,7 @@ fn read_figures(s: &[u8], at: usize) -> FiguresRead
 
 // The book ends with its rules.
 fn with_rules(s: &[u8], c: Colours, g: Figures, r: RulesRead) -> BookRead
-    ensures { λ b. ⌜ b ≡ endedAt (now (s .entry)) c g r ⌝ }
+    ensures { λ b. ⌜ b ≡ ruledAt (now (s .entry)) c g r ⌝ }
 {
     let f = r.fault;
     let next = r.next;
@@ -103,7 +103,7 @@ fn with_rules(s: &[u8], c: Colours, g: Figures, r: RulesRead) -> BookRead
 // What follows the colours of a book.
 fn with_colours(s: &[u8], c: Colours, at: usize) -> BookRead
     requires { ⌜ c .count ≤ 64 ⌝ }
-    ensures { λ b. ⌜ b ≡ figured (now (s .entry)) c (figuresAt (now (s .entry)) at) ⌝ }
+    ensures { λ b. ⌜ b ≡ figuredAt (now (s .entry)) c at ⌝ }
 {
     let r = read_figures(s, at);
     match r {

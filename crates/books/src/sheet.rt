@@ -9,7 +9,7 @@ use names::colours;
 use names::colours::Colours;
 use names::number::Fault;
 ghost use mathlib.Core.Path.{_≡_};
-ghost use Rattle.books.specs.Sheet.{refusedSheet, cellsThen, sheetOf};
+ghost use Rattle.books.specs.Sheet.{refusedSheet, filledAt, sheetOf};
 
 // The colours are places in the lent sheet; the first rows times columns cells stand, row by row, and the others are 0.
 pub struct Sheet {
@@ -42,7 +42,7 @@ fn refused_sheet(f: Fault) -> SheetRead
 
 // The sheet of these colours, rows, columns and cells, with which the input ends.
 fn with_cells(s: &[u8], c: Colours, rows: usize, cols: usize, r: CellsRead) -> SheetRead
-    ensures { λ q. ⌜ q ≡ cellsThen (now (s .entry)) c rows cols r ⌝ }
+    ensures { λ q. ⌜ q ≡ filledAt (now (s .entry)) c rows cols r ⌝ }
 {
     let f = r.fault;
     let next = r.next;
@@ -57,7 +57,10 @@ fn with_cells(s: &[u8], c: Colours, rows: usize, cols: usize, r: CellsRead) -> S
     }
     let cells = r.cells;
     SheetRead {
-        fault: f,
+        fault: Fault {
+            number: 0,
+            place: 0,
+        },
         sheet: Sheet {
             colours: c,
             rows,

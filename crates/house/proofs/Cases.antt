@@ -12,10 +12,10 @@ use Rattle.names.specs.Put.{put}
 use Rattle.names.specs.declared.number.Read.the-variants.{Value, Refused}
 use Rattle.books.specs.Answer.{plain}
 use Rattle.books.specs.Rules.{colourNumberAt, joinAt, bodyAt, ruleAt, rulesAt}
-use Rattle.books.specs.Book.{figuresAt, endedAt, colouredAt, bookOf}
+use Rattle.books.specs.Book.{figuresAt, ruledAt, figuredAt, bookOf}
 use Rattle.books.specs.Size.{sizeAt}
 use Rattle.books.specs.Cells.{cellsOf}
-use Rattle.books.specs.Sheet.{cellsThen, coloursThen, sheetOf}
+use Rattle.books.specs.Sheet.{filledAt, sheetOf}
 use Rattle.books.specs.Decide.{andThen, orElse, called?, anyCut, fitsBody, anyRule, derivesIn, derives?}
 use Rattle.pieces.specs.Pieces.{each, pieces}
 use Rattle.pieces.specs.Table.{bits, entry, table}
@@ -63,7 +63,7 @@ pub record Cases : Type 0 where
   pub P12-rules : length (contentsOf eitherOfBook .rules) ≡ 12
 
 pub cases : Cases
-unfolding derivation roomed judged outcome both treeWithin treeOf choose chosen lowest taken takes fits covers cutOf works least reach front back table entry bits pieces each derives? derivesIn anyRule fitsBody called? anyCut orElse andThen lent made written within? few? put either-of joined repeated copies merged without sheetOf coloursThen cellsThen cellsOf sizeAt bookOf colouredAt figuresAt endedAt rulesAt ruleAt bodyAt joinAt colourNumberAt coloursOf colourAt nameOf findName listed sameName numberIn numberBelow numberAt spellNumber
+unfolding derivation roomed judged outcome both treeWithin treeOf choose chosen lowest taken takes fits covers cutOf works least reach front back table entry bits pieces each derives? derivesIn anyRule fitsBody called? anyCut orElse andThen lent made written within? few? put either-of joined repeated copies merged without sheetOf filledAt cellsOf sizeAt bookOf figuredAt figuresAt ruledAt rulesAt ruleAt bodyAt joinAt colourNumberAt coloursOf colourAt nameOf findName listed sameName numberIn numberBelow numberAt spellNumber
 cases =
     record {
       contents = refl;

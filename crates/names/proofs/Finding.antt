@@ -1,4 +1,4 @@
--- A name is looked for one colour after the other: what was found up to a place, with what is found from there on, is what is found.
+-- A name is looked for one colour after the other: the colours passed, and what is found in those that are left, give what is found in all.
 use Prim.Native.Nat.{ℕ, _+_, _-_, _<_, _≤_}
 use mathlib.Core.Path.{_≡_}
 use mathlib.Core.Bool.{true, false}
@@ -10,12 +10,12 @@ use Rattle.names.specs.Colours.{nameIn, namesFrom, namesIn, findName}
 use Rattle.names.specs.declared.colours.Colours.{Colours}
 use Rattle.names.proofs.Count.{left-all, left-suc, left-none}
 
--- in a list that can be, the place of the name is found
+-- in a list that can be, the name's number is found
 pub find-listed : (s : List ℕ) (c : Colours) (n : Name) → c .count ≤ 64 → findName s c n ≡ listed (namesIn s c) n
 unfolding findName
 find-listed s c n h = simp (le-ltb _ _ h)
 
--- what is found from a place on, where it is found among the first so many
+-- what is found from the i-th colour on, where it is looked for among the first so many
 abbrev pub found-from : List ℕ → Colours → Name → ℕ → ℕ → ℕ
 found-from s c n count i = i + listed (namesFrom s c i (count - i)) n
 

@@ -1,6 +1,7 @@
 pub mod Count
 pub mod Tests
 pub mod Picking
+pub mod Onwards
 pub mod SameNames
 pub mod Listing
 pub mod ByteByByte

@@ -1,4 +1,4 @@
--- The place of a name is the number of its first standing in the list, and the list's length exactly where it does not stand there:
+-- The number of a name is that of the first such name in the list, and the list's length exactly where the name does not stand there:
 -- the search compares one name after the other, and the test is equality.
 use Prim.Native.Nat.{ℕ, zero, suc, _+_, _≤_, _<_}
 use mathlib.Core.Path.{_≡_, refl, sym, _∙_, ap}
@@ -20,7 +20,7 @@ getD-mem [] i d h = absurd (omega arith)
 getD-mem (x ∷ xs) zero d h = List·Memᴰ·head refl
 getD-mem (x ∷ xs) (suc i) d h = List·Memᴰ·tail (getD-mem xs i d (omega arith))
 
--- What holds of 0 where the first name is the one looked for, and of one more than the place in the others where it is not, holds of the place.
+-- What holds of 0 where the first name is the one looked for, and of one more than the number in the others where it is not, holds of the number.
 listed-cons : (P : ℕ → Type 0) (x : Name) (xs : List Name) (n : Name)
     → (n ≡ x → P 0) → ((n ≡ x → ⊥) → P (suc (listed xs n))) → P (listed (x ∷ xs) n)
 unfolding listed
@@ -52,7 +52,7 @@ listed-mem (x ∷ xs) n =
     (λ e _. List·Memᴰ·head e)
     (λ d h. List·Memᴰ·tail (listed-mem xs n (omega arith)))
 
--- Whether a name stands in a list is tested by its place.
+-- Whether a name stands in a list is tested by its number.
 pub listed-test : (l : List Name) (n : Name) → (ltb (listed l n) (length l) ≡ true) ↔ List·Memᴰ n l
 listed-test l n = (λ e. listed-mem l n (ltb-true _ _ e), λ m. lt-ltb _ _ (listed-found l n m .0))
 
@@ -62,14 +62,14 @@ listed-none l n = (
   λ e m. omega (arith, listed-found l n m .0),
 )
 
--- The first name's place is 0, and every other name's is one more than in the names after it.
+-- The first name's number is 0, and every other name's is one more than in the names after it.
 pub listed-here : (x : Name) (xs : List Name) (n : Name) → n ≡ x → listed (x ∷ xs) n ≡ 0
 listed-here x xs n e = listed-cons (λ k. k ≡ 0) x xs n (λ _. refl) (λ d. absurd (d e))
 
 pub listed-later : (x : Name) (xs : List Name) (n : Name) → (n ≡ x → ⊥) → listed (x ∷ xs) n ≡ suc (listed xs n)
 listed-later x xs n d = listed-cons (λ k. k ≡ suc (listed xs n)) x xs n (λ e. absurd (d e)) (λ _. refl)
 
--- In two lists, one after the other: its place in the first, where it stands there, and else past the first.
+-- In two lists, one after the other: its number in the first, where it stands there, and else past the first.
 pub listed-first : (l m : List Name) (n : Name) → List·Memᴰ n l → listed (l ++ m) n ≡ listed l n
 listed-first [] m n h = absurd (List·Memᴰ·not-nil h)
 listed-first (x ∷ xs) m n h =
@@ -84,7 +84,7 @@ listed-rest (x ∷ xs) m n none =
     listed-later x (xs ++ m) n (λ e. none (List·Memᴰ·head e))
     ∙ omega (arith, listed-rest xs m n (λ h. none (List·Memᴰ·tail h)))
 
--- In a list of distinct names each stands at its own place.
+-- In a list of distinct names each has its own number.
 pub listed-own : (l : List Name) (i : ℕ) → Distinct l → i < length l → listed l (getD l i []) ≡ i
 listed-own [] i apart h = absurd (omega arith)
 listed-own (x ∷ xs) zero apart h = listed-here x xs x refl

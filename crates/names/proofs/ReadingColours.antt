@@ -12,10 +12,9 @@ use lib.Seq.{getD-set-same, getD-set-other}
 use Rattle.names.specs.Pick.{fault}
 use Rattle.names.specs.Number.{numberIn}
 use Rattle.names.specs.Name.{nameOf}
-use Rattle.names.specs.Colours.{nameIn, namesFrom, namesIn, findName, namedAt, sizedAt, colourAt, noColours, withColour, afterColour, coloursFrom, countedAt, coloursOf}
+use Rattle.names.specs.Colours.{nameIn, namesFrom, namesIn, findName, namedAt, colourAt, noColours, refusedColours, withColour, coloursFrom, coloursOf}
 use Rattle.names.specs.declared.number.Fault.{Fault}
-use Rattle.names.specs.declared.number.Read.{Read}
-use Rattle.names.specs.declared.number.Read.the-variants.{Value, Refused}
+use Rattle.names.specs.declared.number.Read.the-variants.{Value}
 use Rattle.names.specs.declared.name.NameRead.{NameRead}
 use Rattle.names.specs.declared.name.NameRead.the-variants.{Whole, Ends, Bad}
 use Rattle.names.specs.declared.colours.ColourRead.{ColourRead}
@@ -23,6 +22,7 @@ use Rattle.names.specs.declared.colours.ColourRead.the-variants.{At, Ref
 use Rattle.names.specs.declared.colours.Colours.{Colours}
 use Rattle.names.specs.declared.colours.ColoursRead.{ColoursRead}
 use Rattle.names.proofs.Picking.{pick-ind}
+use Rattle.names.proofs.Onwards.{onward-ind, after-colour-ind}
 use Rattle.names.proofs.ReadingNumbers.{Blamed, blamed-later, number-in, number-in-refused}
 use Rattle.names.proofs.ReadingNames.{name-whole, name-ends, name-bad}
 
@@ -56,17 +56,18 @@ named s at start len (Bad k) e d =
     let w = name-bad (drop start s) len k d in
     omega (arith, length-drop start s)
 
-sized : (s : List ℕ) (at : ℕ) (r : Read) → numberIn s at 1 40 ≡ r → Found s at (sizedAt s r)
-sized s at (Refused f) e = blamed-later (omega arith) (number-in-refused s at 1 40 f e)
-sized s at (Value len start) e = named s at start len (nameOf (drop start s) len) e refl
+found : (s : List ℕ) (at : ℕ) → Found s at (colourAt s at)
+unfolding colourAt
+found s at =
+    onward-ind (Found s at) RefusedColour (numberIn s at 1 40) _
+    (λ f e. blamed-later (omega arith) (number-in-refused s at 1 40 f e))
+    (λ len start e. named s at start len (nameOf (drop start s) len) e refl)
 
 pub colour-lies : (s : List ℕ) (at start len : ℕ) → colourAt s at ≡ At start len → ColourLies s at start len
-unfolding colourAt
-colour-lies s at start len e = subst (Found s at) e (sized s at (numberIn s at 1 40) refl)
+colour-lies s at start len e = subst (Found s at) e (found s at)
 
 pub colour-refused : (s : List ℕ) (at : ℕ) (f : Fault) → colourAt s at ≡ RefusedColour f → Blamed s (at + 43) f
-unfolding colourAt
-colour-refused s at f e = subst (Found s at) e (sized s at (numberIn s at 1 40) refl)
+colour-refused s at f e = subst (Found s at) e (found s at)
 
 -- ── A list of places, as it grows ──
 
@@ -145,33 +146,28 @@ abbrev Ended : List ℕ → ℕ → ℕ → ColoursRead → Type 0
 Ended s limit least r = ListLies s limit least r ⊎ ListRefused s limit r
 
 module _ (s : List ℕ) (limit least : ℕ) where
-  after-ended : (c : Colours) (at k : ℕ) → Places s c → c .count + suc k ≡ least → least ≤ 64 → at + 43 * suc k ≤ limit
-      → ((d : Colours) (p : ℕ) → Places s d → d .count + k ≡ least → p ≤ length s → p + 43 * k ≤ limit → Ended s limit least (coloursFrom s d p k))
-      → (r : ColourRead) → colourAt s at ≡ r → Ended s limit least (afterColour s c (λ d p. coloursFrom s d p k) r)
-  after-ended c at k g h few l rec (RefusedColour f) e = inr (record { blamed = blamed-later (omega arith) (colour-refused s at f e); empty = refl; nowhere = refl })
-  after-ended c at k g h few l rec (At start len) e =
-      let p = colour-lies s at start len e in
-      pick-ind (Ended s limit least) (ltb (findName s c (take len (drop start s))) (c .count)) _ _
-      (λ _. inr (record { blamed = record { some = omega arith; known = omega arith; inside = omega (arith, p .inside); near = omega (arith, p .near) }; empty = refl; nowhere = refl }))
-      (λ _. rec (withColour c start len) (start + len) (places-with s c start len g (omega arith) (p .inside)) (omega arith) (p .inside) (omega (arith, p .near, p .high)))
-
   from-ended : (k : ℕ) (c : Colours) (at : ℕ) → Places s c → c .count + k ≡ least → least ≤ 64 → at ≤ length s → at + 43 * k ≤ limit → Ended s limit least (coloursFrom s c at k)
   from-ended zero c at g h few i l = inl (record { fine = refl; places = g; some = omega arith; inside = i; near = omega arith })
   from-ended (suc k) c at g h few i l =
-      after-ended c at k g h few l (λ d p gd hd id ld. from-ended k d p gd hd few id ld) (colourAt s at) refl
+      after-colour-ind (Ended s limit least) refusedColours (colourAt s at) _
+      (λ f e. inr (record { blamed = blamed-later (omega arith) (colour-refused s at f e); empty = refl; nowhere = refl }))
+      (λ start len e.
+      let p = colour-lies s at start len e in
+      pick-ind (Ended s limit least) (ltb (findName s c (take len (drop start s))) (c .count)) _ _
+      (λ _. inr (record { blamed = record { some = omega arith; known = omega arith; inside = omega (arith, p .inside); near = omega (arith, p .near) }; empty = refl; nowhere = refl }))
+      (λ _. from-ended k (withColour c start len) (start + len) (places-with s c start len g (omega arith) (p .inside)) (omega arith) few (p .inside) (omega (arith, p .near, p .high))))
 
-counted-ended : (s : List ℕ) (r : Read) → numberIn s 0 1 64 ≡ r → Ended s 2755 1 (countedAt s r)
-counted-ended s (Refused f) e = inr (record { blamed = blamed-later (omega arith) (number-in-refused s 0 1 64 f e); empty = refl; nowhere = refl })
-counted-ended s (Value n at) e =
+colours-ended : (s : List ℕ) → Ended s 2755 1 (coloursOf s)
+unfolding coloursOf
+colours-ended s =
+    onward-ind (Ended s 2755 1) refusedColours (numberIn s 0 1 64) _
+    (λ f e. inr (record { blamed = blamed-later (omega arith) (number-in-refused s 0 1 64 f e); empty = refl; nowhere = refl }))
+    (λ n at e.
     let g = number-in s 0 1 64 n at e in
     ⊎-elim
     (λ l. inl (record { fine = l .fine; places = l .places; some = omega (arith, l .some, g .low); inside = l .inside; near = l .near }))
     (λ l. inr l)
-    (from-ended s 2755 n n noColours at (places-none s) (omega arith) (g .high) (g .inside) (omega (arith, g .near, g .high)))
-
-colours-ended : (s : List ℕ) → Ended s 2755 1 (coloursOf s)
-unfolding coloursOf
-colours-ended s = counted-ended s (numberIn s 0 1 64) refl
+    (from-ended s 2755 n n noColours at (places-none s) (omega arith) (g .high) (g .inside) (omega (arith, g .near, g .high))))
 
 -- the two laws of a list: where its fault has number 0 it lies within the input, and elsewhere it names what it blames
 pub colours-lie : (s : List ℕ) → coloursOf s .fault .number ≡ 0 → ListLies s 2755 1 (coloursOf s)

@@ -1,18 +1,19 @@
 -- What callers use of a number that was read: where it lies, its bounds, and that a refusal has a number and a place within the input.
 -- Each law goes through the five ways in which reading can end.
 use Prim.Native.Nat.{ℕ, _+_, _*_, _%_, _<_, _≤_}
-use mathlib.Core.Path.{_≡_, refl, subst}
+use mathlib.Core.Path.{_≡_, subst}
 use mathlib.Core.List.{List}
 use native.Mathlib.Omega.{arith}
 use borrow.Author.Tests.{ltb-true, ltb-false, leb-true, leb-false, eqb-false, lt-ltb, le-ltb}
 use lib.ListN.{length, getD}
 use lib.Dec.{ltb, leb, eqb}
 use Rattle.names.specs.Pick.{fault}
-use Rattle.names.specs.Number.{numberAt, numberIn, inRange, below, numberBelow}
+use Rattle.names.specs.Number.{numberAt, numberIn, numberBelow}
 use Rattle.names.specs.declared.number.Fault.{Fault}
 use Rattle.names.specs.declared.number.Read.{Read}
 use Rattle.names.specs.declared.number.Read.the-variants.{Value, Refused}
 use Rattle.names.proofs.Picking.{pick-ind}
+use Rattle.names.proofs.Onwards.{onward-ind}
 
 -- a refusal: an answer number from 1 to 8, with a place within the input and not past a limit
 pub record Blamed (s : List ℕ) (limit : ℕ) (f : Fault) : Type 0 where
@@ -66,16 +67,15 @@ abbrev Ranged : List ℕ → ℕ → ℕ → ℕ → Read → Read → Type 0
 Ranged s at least most r (Value v next) = (r ≡ Value v next) × (least ≤ v) × (v ≤ most)
 Ranged s at least most r (Refused f) = Blamed s (at + 1) f
 
-in-range : (s : List ℕ) (at least most : ℕ) (r : Read) → Found s at r → Ranged s at least most r (inRange at least most r)
-in-range s at least most (Refused f) g = g
-in-range s at least most (Value v next) g =
-    pick-ind (Ranged s at least most (Value v next)) (ltb v least) _ _ (λ _. omega arith)
-    (λ a. pick-ind (Ranged s at least most (Value v next)) (ltb most v) _ _ (λ _. omega arith)
-    (λ b. (refl, ltb-false _ _ a, ltb-false _ _ b)))
-
 ranged : (s : List ℕ) (at least most : ℕ) → Ranged s at least most (numberAt s at) (numberIn s at least most)
 unfolding numberIn
-ranged s at least most = in-range s at least most (numberAt s at) (found s at)
+ranged s at least most =
+    let P = Ranged s at least most (numberAt s at) in
+    onward-ind P Refused (numberAt s at) _ (number-refused s at)
+    (λ v next e.
+    let l = number-lies s at v next e in
+    pick-ind P (ltb v least) _ _ (λ _. omega arith)
+    (λ a. pick-ind P (ltb most v) _ _ (λ _. omega arith) (λ b. (e, ltb-false _ _ a, ltb-false _ _ b))))
 
 pub number-there : (s : List ℕ) (at least most v next : ℕ) → numberIn s at least most ≡ Value v next → numberAt s at ≡ Value v next
 number-there s at least most v next e = subst (Ranged s at least most (numberAt s at)) e (ranged s at least most) .0
@@ -107,14 +107,14 @@ abbrev Counted : List ℕ → ℕ → ℕ → ℕ → Read → Read → Type 0
 Counted s at count refusal r (Value v next) = (r ≡ Value v next) × (v < count)
 Counted s at count refusal r (Refused f) = 1 ≤ refusal → refusal ≤ 8 → Blamed s (at + 1) f
 
-below-counted : (s : List ℕ) (at count refusal : ℕ) (r : Read) → Found s at r → Counted s at count refusal r (below at count refusal r)
-below-counted s at count refusal (Refused f) g = λ _ _. g
-below-counted s at count refusal (Value v next) g =
-    pick-ind (Counted s at count refusal (Value v next)) (ltb v count) _ _ (λ t. (refl, ltb-true v count t)) (λ _ l h. omega arith)
-
 counted : (s : List ℕ) (at count refusal : ℕ) → Counted s at count refusal (numberAt s at) (numberBelow s at count refusal)
 unfolding numberBelow
-counted s at count refusal = below-counted s at count refusal (numberAt s at) (found s at)
+counted s at count refusal =
+    let P = Counted s at count refusal (numberAt s at) in
+    onward-ind P Refused (numberAt s at) _ (λ f e _ _. number-refused s at f e)
+    (λ v next e.
+    let g = number-lies s at v next e in
+    pick-ind P (ltb v count) _ _ (λ t. (e, ltb-true v count t)) (λ _ l h. omega arith))
 
 pub record LiesBelow (s : List ℕ) (at count v next : ℕ) : Type 0 where
   pub after : at < next

@@ -13,17 +13,15 @@ use lib.Seq.{getD-take, drop-drop, drop-append-seam, take-append-seam, length-ta
 use Rattle.names.specs.Pick.{fault}
 use Rattle.names.specs.Number.{numberIn, spellNumber}
 use Rattle.names.specs.Name.{Name, nameOf, listed}
-use Rattle.names.specs.Colours.{namesIn, findName, colourAt, noColours, withColour, afterColour, coloursFrom, countedAt, coloursOf}
+use Rattle.names.specs.Colours.{namesIn, findName, colourAt, noColours, refusedColours, withColour, coloursFrom, coloursOf}
 use Rattle.names.specs.Spelling.{NameOk, Distinct, ColoursOk, spellNames, spellColours}
 use Rattle.names.specs.declared.number.Fault.{Fault}
-use Rattle.names.specs.declared.number.Read.{Read}
-use Rattle.names.specs.declared.number.Read.the-variants.{Value, Refused}
 use Rattle.names.specs.declared.name.NameRead.the-variants.{Whole}
-use Rattle.names.specs.declared.colours.ColourRead.{ColourRead}
-use Rattle.names.specs.declared.colours.ColourRead.the-variants.{At, Refused as RefusedColour}
+use Rattle.names.specs.declared.colours.ColourRead.the-variants.{At}
 use Rattle.names.specs.declared.colours.Colours.{Colours}
 use Rattle.names.specs.declared.colours.ColoursRead.{ColoursRead}
 use Rattle.names.proofs.Picking.{pick-ind}
+use Rattle.names.proofs.Onwards.{onward-ind, after-colour-ind}
 use Rattle.names.proofs.Listing.{listed-found, listed-mem}
 use Rattle.names.proofs.Finding.{find-listed}
 use Rattle.names.proofs.ReadingNumbers.{number-there, number-in, number-in-range, number-in-refused}
@@ -117,29 +115,28 @@ module _ (s : List ℕ) (bytes : Bytes s) where
         spelled = rw (size, append-assoc, append-assoc, ← t .spelled, ← then) first;
       }
 
-  after : (c : Colours) (at k : ℕ) → Places s c → c .count + suc k ≤ 64
-      → ((d : Colours) (p : ℕ) → Places s d → d .count + k ≤ 64 → Takes d p k (coloursFrom s d p k))
-      → (r : ColourRead) → colourAt s at ≡ r → Takes c at (suc k) (afterColour s c (λ d p. coloursFrom s d p k) r)
-  after c at k g h rec (RefusedColour f) e = λ z. absurd (omega (arith, colour-refused s at f e .some, ap (λ (x : Fault). x .number) z))
-  after c at k g h rec (At start len) e =
-      pick-ind (Takes c at (suc k)) (ltb (findName s c (take len (drop start s))) (c .count)) _ _
+  taken : (k : ℕ) (c : Colours) (at : ℕ) → Places s c → c .count + k ≤ 64 → Takes c at k (coloursFrom s c at k)
+  taken zero c at g h = λ z. record { new = []; count = refl; fresh = tt; names = sym (append-nil (namesIn s c)); spelled = refl }
+  taken (suc k) c at g h =
+      after-colour-ind (Takes c at (suc k)) refusedColours (colourAt s at) _
+      (λ f e z. absurd (omega (arith, colour-refused s at f e .some, ap (λ (x : Fault). x .number) z)))
+      (λ start len e. pick-ind (Takes c at (suc k)) (ltb (findName s c (take len (drop start s))) (c .count)) _ _
       (λ t z. let five : 5 ≡ 0 = ap (λ (x : Fault). x .number) z in absurd (omega arith))
       (λ t z.
       one-more c at k start len _ g (omega arith) e t
-      (rec (withColour c start len) (start + len) (places-with s c start len g (omega arith) (colour-lies s at start len e .inside)) (omega arith) z))
-
-  taken : (k : ℕ) (c : Colours) (at : ℕ) → Places s c → c .count + k ≤ 64 → Takes c at k (coloursFrom s c at k)
-  taken zero c at g h = λ z. record { new = []; count = refl; fresh = tt; names = sym (append-nil (namesIn s c)); spelled = refl }
-  taken (suc k) c at g h = after c at k g h (taken k) (colourAt s at) refl
+      (taken k (withColour c start len) (start + len) (places-with s c start len g (omega arith) (colour-lies s at start len e .inside)) (omega arith) z)))
 
   -- an accepted list has names that keep the rules, and begins with their spelling
   pub record Accepted (r : ColoursRead) : Type 0 where
     pub ok : ColoursOk (namesIn s (r .colours))
     pub spelled : s ≡ spellColours (namesIn s (r .colours)) ++ drop (r .next) s
 
-  counted : (r : Read) → numberIn s 0 1 64 ≡ r → countedAt s r .fault ≡ fault 0 0 → Accepted (countedAt s r)
-  counted (Refused f) e z = absurd (omega (arith, number-in-refused s 0 1 64 f e .some, ap (λ (x : Fault). x .number) z))
-  counted (Value n at) e z =
+  counted : coloursOf s .fault ≡ fault 0 0 → Accepted (coloursOf s)
+  unfolding coloursOf
+  counted =
+      onward-ind (λ (r : ColoursRead). r .fault ≡ fault 0 0 → Accepted r) refusedColours (numberIn s 0 1 64) _
+      (λ f e z. absurd (omega (arith, number-in-refused s 0 1 64 f e .some, ap (λ (x : Fault). x .number) z)))
+      (λ n at e z.
       let g = number-in s 0 1 64 n at e in
       let t = taken n noColours at (places-none s) (omega (arith, g .high)) z in
       let first : s ≡ spellNumber n ++ drop at s = number-spelled s bytes 0 n at (number-there s 0 1 64 n at e) in
@@ -151,11 +148,10 @@ module _ (s : List ℕ) (bytes : Bytes s) where
           distinct = fresh-distinct [] (t .new) (t .fresh);
         });
         spelled = rw (t .names, t .count, append-assoc, ← t .spelled) first;
-      }
+      })
 
   pub colours-accepted : coloursOf s .fault .number ≡ 0 → Accepted (coloursOf s)
-  unfolding coloursOf
-  colours-accepted z = counted (numberIn s 0 1 64) refl (colours-lie s z .fine)
+  colours-accepted z = counted (colours-lie s z .fine)
 
 -- ── A spelling is accepted ──
 

@@ -4,11 +4,10 @@ use mathlib.Core.List.{List, [], _∷_}
 use lib.ListN.{length, getD, take, drop, set, replicate}
 use lib.Dec.{ltb}
 use Rattle.names.specs.Pick.{pick, fault}
+use Rattle.names.specs.Onward.{onward, faultless}
 use Rattle.names.specs.Number.{numberIn}
 use Rattle.names.specs.Name.{Name, nameOf, listed}
 use Rattle.names.specs.declared.number.Fault.{Fault}
-use Rattle.names.specs.declared.number.Read.{Read}
-use Rattle.names.specs.declared.number.Read.the-variants.{Value, Refused}
 use Rattle.names.specs.declared.name.NameRead.{NameRead}
 use Rattle.names.specs.declared.name.NameRead.the-variants.{Whole, Ends, Bad}
 use Rattle.names.specs.declared.colours.ColourRead.{ColourRead}
@@ -38,12 +37,12 @@ namedAt s start len Ends = RefusedColour (fault 1 (length s))
 namedAt s start len (Bad k) = RefusedColour (fault 4 (start + k))
 
 -- a length 1 to 40, then the name
-abbrev pub sizedAt : List ℕ → Read → ColourRead
-sizedAt s (Value len start) = namedAt s start len (nameOf (drop start s) len)
-sizedAt s (Refused f) = RefusedColour f
-
 unfoldable pub colourAt : List ℕ → ℕ → ColourRead
-colourAt s at = sizedAt s (numberIn s at 1 40)
+colourAt s at = onward RefusedColour (numberIn s at 1 40) (λ len start. namedAt s start len (nameOf (drop start s) len))
+
+abbrev pub afterColour {ℓ} : {A : Type ℓ} → (Fault → A) → ColourRead → (ℕ → ℕ → A) → A
+afterColour refuse (At start len) go = go start len
+afterColour refuse (RefusedColour f) go = refuse f
 
 -- no colours, and a refused list
 abbrev pub noColours : Colours
@@ -57,22 +56,17 @@ abbrev pub withColour : Colours → ℕ → ℕ → Colours
 withColour c start len =
     record { count = c .count + 1; starts = set (c .starts) (c .count) start; lens = set (c .lens) (c .count) len }
 
--- what follows a name that was read, `go` reading on with the longer list: 5 at its first byte where it stood earlier
-abbrev pub afterColour : List ℕ → Colours → (Colours → ℕ → ColoursRead) → ColourRead → ColoursRead
-afterColour s c go (At start len) =
-    pick (ltb (findName s c (take len (drop start s))) (c .count)) (refusedColours (fault 5 start))
-    (go (withColour c start len) (start + len))
-afterColour s c go (RefusedColour f) = refusedColours f
-
--- so many colours more from a place on
+-- so many colours more from a place on: 5 at the first byte of a name that stood earlier
 abbrev pub coloursFrom : List ℕ → Colours → ℕ → ℕ → ColoursRead
 coloursFrom s c at zero = record { fault = fault 0 0; colours = c; next = at }
-coloursFrom s c at (suc k) = afterColour s c (λ d p. coloursFrom s d p k) (colourAt s at)
+coloursFrom s c at (suc k) =
+    afterColour refusedColours (colourAt s at) (λ start len.
+    pick (ltb (findName s c (take len (drop start s))) (c .count)) (refusedColours (fault 5 start))
+    (coloursFrom s (withColour c start len) (start + len) k))
 
 -- a count 1 to 64, then so many names
-abbrev pub countedAt : List ℕ → Read → ColoursRead
-countedAt s (Value n at) = coloursFrom s noColours at n
-countedAt s (Refused f) = refusedColours f
-
 unfoldable pub coloursOf : List ℕ → ColoursRead
-coloursOf s = countedAt s (numberIn s 0 1 64)
+coloursOf s = onward refusedColours (numberIn s 0 1 64) (λ count next. coloursFrom s noColours next count)
+
+abbrev pub afterColours {ℓ} : {A : Type ℓ} → (Fault → A) → ColoursRead → (Colours → ℕ → A) → A
+afterColours refuse r go = faultless refuse (r .fault) (go (r .colours) (r .next))

@@ -1,4 +1,5 @@
 pub mod Pick
+pub mod Onward
 pub mod Number
 pub mod Put
 pub mod Name

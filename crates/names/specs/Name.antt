@@ -1,4 +1,4 @@
--- What reading a name finds, when two names are the same, and where a name stands in a list.
+-- What reading a name finds, when two names are the same, and which number a name has in a list.
 use Prim.Native.Nat.{ℕ, zero, suc, _+_, _≤_}
 use mathlib.Core.List.{List, [], _∷_}
 use mathlib.Core.Bool.{Bool, true, false}
@@ -35,7 +35,7 @@ sameName [] (y ∷ ys) = false
 sameName (x ∷ xs) [] = false
 sameName (x ∷ xs) (y ∷ ys) = pick (eqb x y) (sameName xs ys) false
 
--- the place of a name in a list: the first, or past the end
+-- the number of a name in a list: that of the first such name, or the list's length where the name stands nowhere in it
 unfoldable pub listed : List Name → Name → ℕ
 listed [] n = 0
 listed (x ∷ xs) n = pick (sameName x n) 0 (suc (listed xs n))

@@ -4,6 +4,7 @@ use mathlib.Core.List.{List, [], _∷_}
 use lib.ListN.{length, getD}
 use lib.Dec.{ltb, leb, eqb}
 use Rattle.names.specs.Pick.{pick, fault}
+use Rattle.names.specs.Onward.{onward}
 use Rattle.names.specs.declared.number.Read.{Read}
 use Rattle.names.specs.declared.number.Read.the-variants.{Value, Refused}
 
@@ -18,21 +19,15 @@ numberAt s at =
     (Refused (fault 2 at))))))
 
 -- a value outside its range is refused with 3 at the number's first byte
-abbrev pub inRange : ℕ → ℕ → ℕ → Read → Read
-inRange at least most (Value v next) =
-    pick (ltb v least) (Refused (fault 3 at)) (pick (ltb most v) (Refused (fault 3 at)) (Value v next))
-inRange at least most (Refused f) = Refused f
-
 unfoldable pub numberIn : List ℕ → ℕ → ℕ → ℕ → Read
-numberIn s at least most = inRange at least most (numberAt s at)
+numberIn s at least most =
+    onward Refused (numberAt s at) (λ v next.
+    pick (ltb v least) (Refused (fault 3 at)) (pick (ltb most v) (Refused (fault 3 at)) (Value v next)))
 
 -- a value that is not below its count is refused at the number's first byte, with the number that its field has
-abbrev pub below : ℕ → ℕ → ℕ → Read → Read
-below at count refusal (Value v next) = pick (ltb v count) (Value v next) (Refused (fault refusal at))
-below at count refusal (Refused f) = Refused f
-
 unfoldable pub numberBelow : List ℕ → ℕ → ℕ → ℕ → Read
-numberBelow s at count refusal = below at count refusal (numberAt s at)
+numberBelow s at count refusal =
+    onward Refused (numberAt s at) (λ v next. pick (ltb v count) (Value v next) (Refused (fault refusal at)))
 
 -- one byte where it will do, two up to the greatest number, 16,383
 unfoldable pub spellNumber : ℕ → List ℕ

@@ -1,6 +1,7 @@
--- The figures are read, then the rules after them, as `figured` says; the figures keep the bounds that reading the rules asks.
+-- The figures are read, then the rules after them, as `figuredAt` says; the figures keep the bounds that reading the rules asks.
 use native.Mathlib.Omega.{arith}
 use mathlib.Core.Path.{_∙_, sym}
+use Rattle.books.specs.Book.{figuredAt}
 use Rattle.books.proofs.ReadingFigures.{figures-lie}
 use borrow.Author.Needs.{needs}
 use Rattle.books.proofs.book.with_colours.Statement.{statement}
@@ -13,11 +14,13 @@ read-rules-requires c κs =
     omega (arith, c .before .before .before .before .before .pre)
 
 returns : tie.Need-returns
+unfolding figuredAt
 returns c =
     let figures = sym (c .before .before .before .before .read-figures .ensures) ∙ c .before .before .r .given .1 in
     simp figures (c .refused-book .ensures)
 
 returns-2 : tie.Need-returns-2
+unfolding figuredAt
 returns-2 c =
     let figures = sym (c .before .before .before .before .before .read-figures .ensures) ∙ c .before .before .before .r2 .given .1 in
     simp (figures, ← c .before .read-rules .ensures) (c .with-rules .ensures)

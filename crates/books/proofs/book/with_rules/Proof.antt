@@ -1,21 +1,21 @@
--- The two tests of the code are those of `endedAt`: no fault, and no byte after the rules.
-use Rattle.books.specs.Book.{endedAt}
-use borrow.Author.Tests.{eq-eqb, le-leb, lt-leb, ne-eqb}
+-- The two tests of the code are those of `ruledAt`: no fault, and no byte after the rules.
+use Rattle.books.specs.Book.{ruledAt}
+use borrow.Author.Tests.{eq-eqb, le-ltb, lt-ltb, ne-eqb}
 use borrow.Author.Needs.{needs}
 use Rattle.books.proofs.book.with_rules.Statement.{statement}
 use Rattle.books.proofs.book.with_rules.Tie as tie
 
 returns : tie.Need-returns
-unfolding endedAt
+unfolding ruledAt
 returns c = simp (← c .refused-book .ensures, ne-eqb _ _ (c .before .if1 .taken))
 
 returns-2 : tie.Need-returns-2
-unfolding endedAt
-returns-2 c = simp (← c .refused-book2 .ensures, eq-eqb _ _ (c .before .before .if1 .left), lt-leb _ _ (c .before .if2 .taken))
+unfolding ruledAt
+returns-2 c = simp (← c .refused-book2 .ensures, eq-eqb _ _ (c .before .before .if1 .left), lt-ltb _ _ (c .before .if2 .taken))
 
 returns-3 : tie.Need-returns-3
-unfolding endedAt
-returns-3 c = simp (eq-eqb _ _ (c .before .before .if1 .left), le-leb _ _ (c .before .if2 .left))
+unfolding ruledAt
+returns-3 c = simp (eq-eqb _ _ (c .before .before .if1 .left), le-ltb _ _ (c .before .if2 .left))
 
 pub with-rules-spec : {M : Type 1} → statement M
 with-rules-spec =

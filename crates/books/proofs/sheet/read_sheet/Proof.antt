@@ -5,14 +5,14 @@ use native.Mathlib.Omega.{arith}
 use mathlib.Core.Path.{_∙_, sym}
 use Rattle.names.proofs.ReadingColours.{colours-places}
 use Rattle.books.specs.Size.{greatest}
-use Rattle.books.specs.Sheet.{coloursThen, sheetOf}
+use Rattle.books.specs.Sheet.{sheetOf}
 use Rattle.books.proofs.Area.{area}
 use Rattle.books.proofs.ReadingSizes.{size-lies}
 use Rattle.books.proofs.sheet.read_sheet.Statement.{statement}
 use Rattle.books.proofs.sheet.read_sheet.Tie as tie
 
 returns : tie.Need-returns
-unfolding sheetOf coloursThen
+unfolding sheetOf
 returns c =
     simp (← c .before .before .before .before .read-colours .ensures, ne-eqb _ _ (c .before .if1 .taken)) (c .refused-sheet .ensures)
 
@@ -28,14 +28,14 @@ read-cells-requires c κs =
     (rw (c .before .before .before .before .before .before .before .before .read-colours .ensures) (colours-places _ .few), area _ _ greatest (size .rows-few) (size .cols-few))
 
 returns-2 : tie.Need-returns-2
-unfolding sheetOf coloursThen
+unfolding sheetOf
 returns-2 c =
     let before = c .before .before .before .before in
     simp (← before .before .before .before .before .before .read-colours .ensures, eq-eqb _ _ (before .before .before .if1 .left), ← before .read-size .ensures, c .before .before .size .given .1)
     (c .refused-sheet2 .ensures)
 
 returns-3 : tie.Need-returns-3
-unfolding sheetOf coloursThen
+unfolding sheetOf
 returns-3 c =
     let before = c .before .before .before .before .before in
     simp (← before .before .before .before .before .before .read-colours .ensures, eq-eqb _ _ (before .before .before .if1 .left), ← before .read-size .ensures, c .before .before .before .size2 .given .1, ← c .before .read-cells .ensures)
