@@ -15,3 +15,5 @@ pub mod SpellingColours
 pub mod Examples
 pub mod SpelledBytes
 pub mod LongestColours
+pub mod Exactly
+pub mod ListExactly

@@ -8,13 +8,10 @@ use borrow.Author.Count.{below-none, below-more}
 use lib.ListN.{length, getD}
 use lib.Dec.{ltb, leb}
 use Rattle.names.specs.Name.{Shown, nameFrom, nameOf}
+use Rattle.names.specs.Reads.{AllShown}
 use Rattle.names.specs.declared.name.NameRead.{NameRead}
 use Rattle.names.specs.declared.name.NameRead.the-variants.{Whole, Ends, Bad}
 use Rattle.names.proofs.Picking.{pick-ind}
-
--- every byte of the first so many may stand in a name
-abbrev pub AllShown : List ℕ → ℕ → Type 0
-AllShown s n = (j : ℕ) → j < n → Shown (getD s j 0)
 
 -- a whole name lies within the input, a name that is cut short reaches its end, and a bad byte lies within both
 abbrev Found : List ℕ → ℕ → NameRead → Type 0

@@ -3,5 +3,7 @@ pub mod Onward
 pub mod Number
 pub mod Put
 pub mod Name
+pub mod Reads
+pub mod ReadsList
 pub mod Colours
 pub mod Spelling
