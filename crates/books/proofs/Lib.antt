@@ -25,3 +25,4 @@ pub mod Packing
 pub mod Showing
 pub mod Settled
 pub mod Ordering
+pub mod LookingUp

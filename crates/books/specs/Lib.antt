@@ -15,5 +15,6 @@ pub mod Sheet
 pub mod SpellSheet
 pub mod Answer
 pub mod Calls
+pub mod Lookups
 pub mod Order
 pub mod inner

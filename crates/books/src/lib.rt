@@ -5,6 +5,7 @@ pub mod book;
 pub mod calls;
 mod cells;
 pub mod family;
+pub mod lookups;
 mod measuring;
 pub mod order;
 pub mod rule;

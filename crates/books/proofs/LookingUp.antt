@@ -1,0 +1,154 @@
+-- What the look-ups answer, from the bytes of the lent book or sheet. Every part of a rule that was read fits a byte, so that division takes the number apart
+-- again; and the number is 0 exactly where nothing is found, since a rule has 1 above its parts and a sheet has a row.
+use Prim.Native.Nat.{ℕ, _/_, _%_, _^_, _≤_, _<_}
+use mathlib.Core.Path.{_≡_, ap, _∙_}
+use mathlib.Core.List.{List}
+use mathlib.Core.Logic.{_↔_, _⊎_, inl, inr, ⊎-elim}
+use native.Mathlib.Nat.{eq-zero-or-pos}
+use native.Mathlib.Omega.{arith}
+use borrow.Author.Tests.{lt-ltb, le-ltb}
+use lib.ListN.{length, getD, take}
+use lib.Seq.{getD-take, length-take-le}
+use Rattle.names.proofs.Tests.{lt-or-le}
+use Rattle.books.specs.ContentsIn.{contentsIn, gridIn}
+use Rattle.books.specs.Keeps.{BodyFits, RuleFits}
+use Rattle.books.specs.Rules.{noRule}
+use Rattle.books.specs.Book.{bookOf}
+use Rattle.books.specs.Size.{greatest}
+use Rattle.books.specs.Sheet.{sheetOf}
+use Rattle.books.specs.Lookups.{ruleIn, ruleOf, sizeOf, kind, first, second, packedRule, packedSize, ruleShown, sizeShown, version}
+use Rattle.books.specs.declared.rule.Rule.{Rule}
+use Rattle.books.specs.declared.rule.Body.{Body}
+use Rattle.books.specs.declared.rule.Body.the-variants.{Colour, Across, Down}
+use Rattle.books.specs.declared.lookups.RuleFound.{RuleFound}
+use Rattle.books.specs.declared.lookups.RuleFound.the-variants.{There, Missing}
+use Rattle.books.specs.declared.lookups.SheetSize.{SheetSize}
+use Rattle.books.proofs.ReadingBooks.{book-lies, book-refused, book-size}
+use Rattle.books.proofs.ReadingSheets.{sheet-lies, sheet-refused}
+use Rattle.books.proofs.Settled.{settled}
+
+-- ── Taking apart ──
+
+-- the parts of a rule, as a host reads them off its number
+pub record RuleApart (r : Rule) (n : ℕ) : Type 0 where
+  pub head-is : n % 2 ^ 8 ≡ r .head
+  pub kind-is : n / 2 ^ 8 % 2 ^ 8 ≡ kind (r .body)
+  pub first-is : n / 2 ^ 16 % 2 ^ 8 ≡ first (r .body)
+  pub second-is : n / 2 ^ 24 % 2 ^ 8 ≡ second (r .body)
+  pub one-above : n / 2 ^ 32 ≡ 1
+
+body-small : (m n : ℕ) → m ≤ 2 ^ 8 → n ≤ 2 ^ 8 → (b : Body) → BodyFits m n b → (kind b < 2 ^ 8) × (first b < 2 ^ 8) × (second b < 2 ^ 8)
+body-small m n h g (Colour c) f = (omega arith, omega arith, omega arith)
+body-small m n h g (Across l r) f = (omega arith, omega arith, omega arith)
+body-small m n h g (Down u v) f = (omega arith, omega arith, omega arith)
+
+pub rule-apart : (m n : ℕ) (r : Rule) → m ≤ 2 ^ 8 → n ≤ 2 ^ 8 → RuleFits m n r → RuleApart r (packedRule r)
+rule-apart m n r h g f =
+    let head = f .head-fits in
+    let small = body-small m n h g (r .body) (f .body-fits) in
+    record { head-is = omega arith; kind-is = omega arith; first-is = omega arith; second-is = omega arith; one-above = omega arith }
+
+-- rows and columns, as a host reads them off the number of a size
+pub record SizeApart (z : SheetSize) (n : ℕ) : Type 0 where
+  pub rows-is : n % 2 ^ 32 ≡ z .rows
+  pub columns-is : n / 2 ^ 32 ≡ z .columns
+
+pub size-apart : (z : SheetSize) → z .rows < 2 ^ 32 → SizeApart z (packedSize z)
+size-apart z h = record { rows-is = omega arith; columns-is = omega arith }
+
+-- ── A rule of a book ──
+
+module _ (s : List ℕ) where
+  -- the rules of the contents; a refused book has none
+  abbrev pub rules : List Rule
+  rules = contentsIn s (bookOf s .family) .rules
+
+  refused-rules : (bookOf s .fault .number ≡ 0 → ⊥) → length rules ≡ 0
+  refused-rules d = rw (book-refused s d .empty)
+
+  -- only an accepted book has rules
+  has-rules : 0 < length rules → bookOf s .fault .number ≡ 0
+  has-rules h = ⊎-elim (λ z. z) (λ p. absurd (omega (arith, refused-rules (λ z. omega arith)))) (eq-zero-or-pos (bookOf s .fault .number))
+
+  pub count-few : bookOf s .family .count ≤ 200
+  count-few =
+      ⊎-elim
+      (λ z. book-lies s z .rules-few)
+      (λ p. rw (book-refused s (λ z. omega arith) .empty) (omega arith))
+      (eq-zero-or-pos (bookOf s .fault .number))
+
+  rules-count : length rules ≡ bookOf s .family .count
+  rules-count = length-take-le (bookOf s .family .count) (bookOf s .family .rules) (omega (arith, count-few, book-size s))
+
+  module _ (k : ℕ) where
+    pub found : k < length rules → ruleOf s k ≡ There (getD rules k noRule)
+    unfolding ruleIn
+    found h = rw (lt-ltb k (length rules) h)
+
+    pub missing : length rules ≤ k → ruleOf s k ≡ Missing
+    unfolding ruleIn
+    missing h = rw (le-ltb k (length rules) h)
+
+    -- the same by the count and the places of the family that was read
+    pub found-read : k < bookOf s .family .count → ruleOf s k ≡ There (getD (bookOf s .family .rules) k noRule)
+    found-read h = found (omega (arith, rules-count)) ∙ ap There (getD-take (bookOf s .family .count) (bookOf s .family .rules) k noRule h)
+
+    pub missing-read : bookOf s .family .count ≤ k → ruleOf s k ≡ Missing
+    missing-read h = missing (omega (arith, rules-count))
+
+    -- the number shown of an accepted book's rule, taken apart, is the rule with that number of the contents
+    pub rule-shown : bookOf s .fault .number ≡ 0 → k < length rules → RuleApart (getD rules k noRule) (ruleShown s k)
+    rule-shown z h =
+        let lies = book-lies s z in
+        let low : k < bookOf s .family .count = omega (arith, rules-count) in
+        rw (found-read low, getD-take (bookOf s .family .count) (bookOf s .family .rules) k noRule low)
+        (rule-apart _ _ _ (omega (arith, lies .motifs-few)) (omega (arith, lies .places .few)) (lies .rules-fit k low))
+
+    -- and there is one exactly where the book is accepted and the number is below the count of its rules
+    pub rule-exactly : (ruleShown s k ≡ 0 → ⊥) ↔ ((bookOf s .fault .number ≡ 0) × (k < length rules))
+    rule-exactly = (
+      λ d. ⊎-elim (λ h. (has-rules (omega arith), h)) (λ h. absurd (d (rw (missing h)))) (lt-or-le k (length rules)),
+      λ x e. omega (arith, rule-shown (x .0) (x .1) .one-above),
+    )
+
+    pub no-rule-exactly : (ruleShown s k ≡ 0) ↔ ((bookOf s .fault .number ≡ 0 → ⊥) ⊎ (length rules ≤ k))
+    no-rule-exactly = (
+      λ e. ⊎-elim (λ h. absurd (rule-exactly .1 (has-rules (omega arith), h) e)) inr (lt-or-le k (length rules)),
+      ⊎-elim (λ d. rw (missing (omega (arith, refused-rules d)))) (λ h. rw (missing h)),
+    )
+
+-- ── The size of a sheet ──
+
+module _ (s : List ℕ) where
+  -- rows and columns of the contents; a refused sheet has none
+  pub size-few : (sizeOf s .rows ≤ greatest) × (sizeOf s .columns ≤ greatest)
+  size-few =
+      ⊎-elim
+      (λ z. let lies = sheet-lies s z in (lies .rows-few, lies .cols-few))
+      (λ p. rw (sheet-refused s (λ z. omega arith) .none) (omega arith, omega arith))
+      (eq-zero-or-pos (sheetOf s .fault .number))
+
+  -- the number shown of a sheet, taken apart, is the size of the contents
+  pub size-shown : SizeApart (sizeOf s) (sizeShown s)
+  size-shown = size-apart (sizeOf s) (omega (arith, size-few))
+
+  -- and there is one exactly where the sheet is accepted
+  pub no-size-exactly : (sizeShown s ≡ 0) ↔ (sheetOf s .fault .number ≡ 0 → ⊥)
+  no-size-exactly = (λ e z. omega (arith, sheet-lies s z .rows-some), λ d. rw (sheet-refused s d .none))
+
+-- ── Two outcomes that a contract allows are equal ──
+
+pub rule-settled : (s : List ℕ) (k : ℕ) (r q : RuleFound) → r ≡ ruleOf s k → q ≡ ruleOf s k → r ≡ q
+rule-settled s k r q = settled
+
+pub sheet-size-settled : (s : List ℕ) (r q : SheetSize) → r ≡ sizeOf s → q ≡ sizeOf s → r ≡ q
+sheet-size-settled s r q = settled
+
+pub dv-rule-settled : (s : List ℕ) (k r q : ℕ) → r ≡ ruleShown s k → q ≡ ruleShown s k → r ≡ q
+dv-rule-settled s k r q = settled
+
+pub dv-sheet-size-settled : (s : List ℕ) (r q : ℕ) → r ≡ sizeShown s → q ≡ sizeShown s → r ≡ q
+dv-sheet-size-settled s r q = settled
+
+pub dv-version-settled : (r q : ℕ) → r ≡ version → q ≡ version → r ≡ q
+dv-version-settled r q = settled

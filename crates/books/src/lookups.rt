@@ -1,0 +1,91 @@
+// What a host looks up in a book or a sheet, so that it never reads their bytes itself.
+use crate::book::read_book;
+use crate::rule::Body;
+use crate::rule::Rule;
+use crate::sheet::read_sheet;
+ghost use mathlib.Core.Path.{_≡_};
+ghost use Prim.Native.Nat.{_+_, _*_, _^_};
+ghost use Rattle.books.specs.Lookups.{ruleOf, sizeOf, ruleShown, sizeShown, version};
+
+// A rule of a book, or that there is none with the number asked for.
+pub enum RuleFound {
+    There(Rule),
+    Missing,
+}
+
+pub struct SheetSize {
+    pub rows: usize,
+    pub columns: usize,
+}
+
+// The rule with a number. A refused book has no rules.
+pub fn rule(book: &[u8], number: usize) -> RuleFound
+    ensures { λ r. ⌜ r ≡ ruleOf (now (book .entry)) number ⌝ }
+{
+    let r = read_book(book);
+    let f = r.family;
+    if number < f.count {
+        let found = f.rules[number];
+        return RuleFound::There(found);
+    }
+    RuleFound::Missing
+}
+
+// Rows and columns of a sheet. A refused one has none.
+pub fn sheet_size(sheet: &[u8]) -> SheetSize
+    ensures { λ r. ⌜ r ≡ sizeOf (now (sheet .entry)) ⌝ }
+{
+    let r = read_sheet(sheet);
+    let g = r.sheet;
+    SheetSize {
+        rows: g.rows,
+        columns: g.cols,
+    }
+}
+
+// A byte for each part of a rule, and 1 above them, so that no rule is 0.
+fn pack(head: u8, kind: u8, first: u8, second: u8) -> u64
+    ensures { λ r. ⌜ r ≡ head + 2 ^ 8 * kind + 2 ^ 16 * first + 2 ^ 24 * second + 2 ^ 32 ⌝ }
+{
+    head as u64
+        + 256 * (kind as u64)
+        + 65536 * (first as u64)
+        + 16777216 * (second as u64)
+        + 4294967296
+}
+
+// The rule with a number, for the C host: its parts in one number, or 0.
+#[no_mangle]
+pub extern "C" fn dv_rule(book: &[u8], number: usize) -> u64
+    ensures { λ r. ⌜ r ≡ ruleShown (now (book .entry)) number ⌝ }
+{
+    let found = rule(book, number);
+    match found {
+        RuleFound::Missing => 0,
+        RuleFound::There(r) => {
+            let body = r.body;
+            match body {
+                Body::Colour(colour) => pack(r.head, 0, colour, 0),
+                Body::Across(left, right) => pack(r.head, 1, left, right),
+                Body::Down(upper, lower) => pack(r.head, 2, upper, lower),
+            }
+        }
+    }
+}
+
+// Rows and columns of a sheet, for the C host: in one number, or 0.
+#[no_mangle]
+pub extern "C" fn dv_sheet_size(sheet: &[u8]) -> u64
+    ensures { λ r. ⌜ r ≡ sizeShown (now (sheet .entry)) ⌝ }
+{
+    let size = sheet_size(sheet);
+    size.rows as u64 + 4294967296 * (size.columns as u64)
+}
+
+// How many of the customer's requests this library has, so that a host notices a header of another version.
+#[no_mangle]
+pub extern "C" fn dv_version() -> u64
+    ensures { λ r. ⌜ r ≡ version ⌝ }
+{
+    0
+}
