@@ -1,13 +1,13 @@
 -- What the look-ups answer, from the bytes of the lent book or sheet. Every part of a rule that was read fits a byte, so that division takes the number apart
 -- again; and the number is 0 exactly where nothing is found, since a rule has 1 above its parts and a sheet has a row.
 use Prim.Native.Nat.{ℕ, _/_, _%_, _^_, _≤_, _<_}
-use mathlib.Core.Path.{_≡_, ap, _∙_}
+use mathlib.Core.Path.{_≡_, refl, ap, ap₂, _∙_}
 use mathlib.Core.List.{List}
-use mathlib.Core.Logic.{_↔_, _⊎_, inl, inr, ⊎-elim}
+use mathlib.Core.Logic.{_↔_, _⊎_, inr, ⊎-elim}
 use native.Mathlib.Nat.{eq-zero-or-pos}
 use native.Mathlib.Omega.{arith}
 use borrow.Author.Tests.{lt-ltb, le-ltb}
-use lib.ListN.{length, getD, take}
+use lib.ListN.{length, getD}
 use lib.Seq.{getD-take, length-take-le}
 use Rattle.names.proofs.Tests.{lt-or-le}
 use Rattle.books.specs.ContentsIn.{contentsIn, gridIn}
@@ -16,7 +16,7 @@ use Rattle.books.specs.Rules.{noRule}
 use Rattle.books.specs.Book.{bookOf}
 use Rattle.books.specs.Size.{greatest}
 use Rattle.books.specs.Sheet.{sheetOf}
-use Rattle.books.specs.Lookups.{ruleIn, ruleOf, sizeOf, kind, first, second, packedRule, packedSize, ruleShown, sizeShown, version}
+use Rattle.books.specs.Lookups.{ruleIn, ruleOf, sizeIn, sizeOf, kind, first, second, packedRule, packedFound, packedSize, ruleShown, sizeShown, version}
 use Rattle.books.specs.declared.rule.Rule.{Rule}
 use Rattle.books.specs.declared.rule.Body.{Body}
 use Rattle.books.specs.declared.rule.Body.the-variants.{Colour, Across, Down}
@@ -47,6 +47,29 @@ rule-apart m n r h g f =
     let head = f .head-fits in
     let small = body-small m n h g (r .body) (f .body-fits) in
     record { head-is = omega arith; kind-is = omega arith; first-is = omega arith; second-is = omega arith; one-above = omega arith }
+
+-- so that the number settles the rule
+body-settled : (b c : Body) → kind b ≡ kind c → first b ≡ first c → second b ≡ second c → b ≡ c
+body-settled (Colour c) (Colour d) k f s = ap Colour f
+body-settled (Across l r) (Across m t) k f s = ap₂ Across f s
+body-settled (Down u v) (Down w x) k f s = ap₂ Down f s
+body-settled (Colour c) (Across m t) k f s = absurd (omega arith)
+body-settled (Colour c) (Down w x) k f s = absurd (omega arith)
+body-settled (Across l r) (Colour d) k f s = absurd (omega arith)
+body-settled (Across l r) (Down w x) k f s = absurd (omega arith)
+body-settled (Down u v) (Colour d) k f s = absurd (omega arith)
+body-settled (Down u v) (Across m t) k f s = absurd (omega arith)
+
+pub one-rule : {n : ℕ} {r q : Rule} → RuleApart r n → RuleApart q n → r ≡ q
+one-rule {n} {r} {q} a b =
+    let head : r .head ≡ q .head = cc in
+    let body = body-settled (r .body) (q .body) (cc) (cc) (cc) in
+    λ i. record { head = head i; body = body i }
+
+-- and no rule has the number 0
+packed-missing : (r : RuleFound) → packedFound r ≡ 0 → r ≡ Missing
+packed-missing (There r) e = absurd (omega arith)
+packed-missing Missing e = refl
 
 -- rows and columns, as a host reads them off the number of a size
 pub record SizeApart (z : SheetSize) (n : ℕ) : Type 0 where
@@ -96,6 +119,13 @@ module _ (s : List ℕ) where
     pub missing-read : bookOf s .family .count ≤ k → ruleOf s k ≡ Missing
     missing-read h = missing (omega (arith, rules-count))
 
+    -- there is none exactly where the book is refused or the number is not below the count of its rules
+    pub missing-exactly : (ruleOf s k ≡ Missing) ↔ ((bookOf s .fault .number ≡ 0 → ⊥) ⊎ (length rules ≤ k))
+    missing-exactly = (
+      λ e. ⊎-elim (λ h. let z : _≡_ {A = ℕ} 0 1 = cc (found h) in absurd (omega arith)) inr (lt-or-le k (length rules)),
+      ⊎-elim (λ d. missing (omega (arith, refused-rules d))) missing,
+    )
+
     -- the number shown of an accepted book's rule, taken apart, is the rule with that number of the contents
     pub rule-shown : bookOf s .fault .number ≡ 0 → k < length rules → RuleApart (getD rules k noRule) (ruleShown s k)
     rule-shown z h =
@@ -104,23 +134,19 @@ module _ (s : List ℕ) where
         rw (found-read low, getD-take (bookOf s .family .count) (bookOf s .family .rules) k noRule low)
         (rule-apart _ _ _ (omega (arith, lies .motifs-few)) (omega (arith, lies .places .few)) (lies .rules-fit k low))
 
-    -- and there is one exactly where the book is accepted and the number is below the count of its rules
+    -- it is 0 exactly where there is none, and not 0 exactly where there is one
+    pub no-rule-exactly : (ruleShown s k ≡ 0) ↔ ((bookOf s .fault .number ≡ 0 → ⊥) ⊎ (length rules ≤ k))
+    no-rule-exactly = (λ e. missing-exactly .0 (packed-missing (ruleOf s k) e), λ x. rw (missing-exactly .1 x))
+
     pub rule-exactly : (ruleShown s k ≡ 0 → ⊥) ↔ ((bookOf s .fault .number ≡ 0) × (k < length rules))
     rule-exactly = (
-      λ d. ⊎-elim (λ h. (has-rules (omega arith), h)) (λ h. absurd (d (rw (missing h)))) (lt-or-le k (length rules)),
+      λ d. ⊎-elim (λ h. (has-rules (omega arith), h)) (λ h. absurd (d (no-rule-exactly .1 (inr h)))) (lt-or-le k (length rules)),
       λ x e. omega (arith, rule-shown (x .0) (x .1) .one-above),
-    )
-
-    pub no-rule-exactly : (ruleShown s k ≡ 0) ↔ ((bookOf s .fault .number ≡ 0 → ⊥) ⊎ (length rules ≤ k))
-    no-rule-exactly = (
-      λ e. ⊎-elim (λ h. absurd (rule-exactly .1 (has-rules (omega arith), h) e)) inr (lt-or-le k (length rules)),
-      ⊎-elim (λ d. rw (missing (omega (arith, refused-rules d)))) (λ h. rw (missing h)),
     )
 
 -- ── The size of a sheet ──
 
 module _ (s : List ℕ) where
-  -- rows and columns of the contents; a refused sheet has none
   pub size-few : (sizeOf s .rows ≤ greatest) × (sizeOf s .columns ≤ greatest)
   size-few =
       ⊎-elim
@@ -129,12 +155,18 @@ module _ (s : List ℕ) where
       (eq-zero-or-pos (sheetOf s .fault .number))
 
   -- the number shown of a sheet, taken apart, is the size of the contents
-  pub size-shown : SizeApart (sizeOf s) (sizeShown s)
+  pub size-shown : SizeApart (sizeIn (gridIn s (sheetOf s .sheet))) (sizeShown s)
   size-shown = size-apart (sizeOf s) (omega (arith, size-few))
 
-  -- and there is one exactly where the sheet is accepted
+  -- it is 0 exactly where the sheet is refused, and not 0 exactly where it is accepted
   pub no-size-exactly : (sizeShown s ≡ 0) ↔ (sheetOf s .fault .number ≡ 0 → ⊥)
   no-size-exactly = (λ e z. omega (arith, sheet-lies s z .rows-some), λ d. rw (sheet-refused s d .none))
+
+  pub size-exactly : (sizeShown s ≡ 0 → ⊥) ↔ (sheetOf s .fault .number ≡ 0)
+  size-exactly = (
+    λ d. ⊎-elim (λ z. z) (λ p. absurd (d (no-size-exactly .1 (λ z. omega arith)))) (eq-zero-or-pos (sheetOf s .fault .number)),
+    λ z e. no-size-exactly .0 e z,
+  )
 
 -- ── Two outcomes that a contract allows are equal ──
 

@@ -44,7 +44,7 @@ pub fn sheet_size(sheet: &[u8]) -> SheetSize
 }
 
 // A byte for each part of a rule, and 1 above them, so that no rule is 0.
-fn pack(head: u8, kind: u8, first: u8, second: u8) -> u64
+fn pack_rule(head: u8, kind: u8, first: u8, second: u8) -> u64
     ensures { λ r. ⌜ r ≡ head + 2 ^ 8 * kind + 2 ^ 16 * first + 2 ^ 24 * second + 2 ^ 32 ⌝ }
 {
     head as u64
@@ -65,9 +65,9 @@ pub extern "C" fn dv_rule(book: &[u8], number: usize) -> u64
         RuleFound::There(r) => {
             let body = r.body;
             match body {
-                Body::Colour(colour) => pack(r.head, 0, colour, 0),
-                Body::Across(left, right) => pack(r.head, 1, left, right),
-                Body::Down(upper, lower) => pack(r.head, 2, upper, lower),
+                Body::Colour(colour) => pack_rule(r.head, 0, colour, 0),
+                Body::Across(left, right) => pack_rule(r.head, 1, left, right),
+                Body::Down(upper, lower) => pack_rule(r.head, 2, upper, lower),
             }
         }
     }
@@ -82,7 +82,7 @@ pub extern "C" fn dv_sheet_size(sheet: &[u8]) -> u64
     size.rows as u64 + 4294967296 * (size.columns as u64)
 }
 
-// How many of the customer's requests this library has, so that a host notices a header of another version.
+// How many of the customer's requests have landed, as `DV_VERSION` of the header says: a host sees by it that header and archive belong together.
 #[no_mangle]
 pub extern "C" fn dv_version() -> u64
     ensures { λ r. ⌜ r ≡ version ⌝ }

@@ -14,13 +14,13 @@ returns : tie.Need-returns
 returns c = rw (← c .before .before .rule .ensures, c .enum-told .given .1)
 
 returns-2 : tie.Need-returns-2
-returns-2 c = rw (standing (c .before .before .before .before .before), c .before .before .body .given .1) (c .pack .ensures)
+returns-2 c = rw (standing (c .before .before .before .before .before), c .before .before .body .given .1) (c .pack-rule .ensures)
 
 returns-3 : tie.Need-returns-3
-returns-3 c = rw (standing (c .before .before .before .before .before), c .before .before .body2 .given .1) (c .pack2 .ensures)
+returns-3 c = rw (standing (c .before .before .before .before .before), c .before .before .body2 .given .1) (c .pack-rule2 .ensures)
 
 returns-4 : tie.Need-returns-4
-returns-4 c = rw (standing (c .before .before .before .before .before), c .before .before .body3 .given .1) (c .pack3 .ensures)
+returns-4 c = rw (standing (c .before .before .before .before .before), c .before .before .body3 .given .1) (c .pack-rule3 .ensures)
 
 pub dv-rule-spec : {M : Type 1} → statement M
 dv-rule-spec =
