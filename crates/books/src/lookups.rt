@@ -36,10 +36,9 @@ pub fn sheet_size(sheet: &[u8]) -> SheetSize
     ensures { λ r. ⌜ r ≡ sizeOf (now (sheet .entry)) ⌝ }
 {
     let r = read_sheet(sheet);
-    let g = r.sheet;
     SheetSize {
-        rows: g.rows,
-        columns: g.cols,
+        rows: r.sheet.rows,
+        columns: r.sheet.cols,
     }
 }
 

@@ -4,7 +4,7 @@ use Rattle.books.proofs.lookups.sheet_size.Statement.{statement}
 use Rattle.books.proofs.lookups.sheet_size.Tie as tie
 
 returns : tie.Need-returns
-returns c = rw (c .before .read-sheet .ensures)
+returns c = rw (c .read-sheet .ensures)
 
 pub sheet-size-spec : {M : Type 1} → statement M
 sheet-size-spec = tie.close (tie.spec (λ c κs. search needs) returns)
