@@ -11,7 +11,7 @@ use Rattle.books.specs.SpellBook.{spellBook}
 use Rattle.books.specs.inner.Draft.{draftIn, writtenBook}
 use Rattle.books.specs.declared.book.BookRead.{BookRead}
 use Rattle.books.specs.declared.sheet.SheetRead.{SheetRead}
-use Rattle.books.specs.declared.writing.Draft.{Draft}
+use Rattle.books.specs.declared.draft.Draft.{Draft}
 use Rattle.books.specs.declared.writing.Written.{Written}
 
 -- what is equal to one thing is equal

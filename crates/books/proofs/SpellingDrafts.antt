@@ -12,7 +12,7 @@ use Rattle.names.proofs.ReadingColours.{names-count}
 use Rattle.books.specs.SpellBook.{spellRules, spellFigures, spellBook}
 use Rattle.books.specs.inner.Draft.{draftIn, DraftFits}
 use Rattle.names.specs.declared.colours.Colours.{Colours}
-use Rattle.books.specs.declared.writing.Draft.{Draft}
+use Rattle.books.specs.declared.draft.Draft.{Draft}
 use Rattle.books.proofs.SpellingOn.{spell-names-append}
 
 -- two lists of names in one

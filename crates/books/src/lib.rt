@@ -4,6 +4,7 @@ mod bodies;
 pub mod book;
 pub mod calls;
 mod cells;
+pub mod draft;
 pub mod family;
 pub mod lookups;
 mod measuring;

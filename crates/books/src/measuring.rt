@@ -1,7 +1,7 @@
 // How many bytes a book will have, before any of it is written.
+use crate::draft::Draft;
 use crate::rule::Body;
 use crate::rule::Rule;
-use crate::writing::Draft;
 use names::colours::Colours;
 use names::name;
 use names::number;

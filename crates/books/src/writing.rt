@@ -1,5 +1,5 @@
 // Writing a book whose names are parts of one or two lent books.
-use crate::family::Family;
+use crate::draft::Draft;
 use crate::measuring;
 use crate::rule::Body;
 use crate::rule::Rule;
@@ -17,12 +17,6 @@ ghost use Rattle.names.specs.Put.{put};
 ghost use Rattle.books.specs.SpellBook.{spellBody, spellRule, spellRules, spellFigures, spellBook};
 ghost use Rattle.books.specs.inner.Wrote.{Wrote};
 ghost use Rattle.books.specs.inner.Draft.{draftIn, DraftFits, writtenBook};
-
-// A book to be written: a family whose colours are parts of a first lent book, with more colours after them that are parts of a second.
-pub struct Draft {
-    pub family: Family,
-    pub more: Colours,
-}
 
 // Answer 0 with the bytes written, or 13 with 0.
 pub struct Written {

@@ -8,7 +8,7 @@ use Rattle.names.specs.Pick.{pick}
 use Rattle.names.specs.Colours.{namesIn}
 use Rattle.books.specs.Contents.{Contents}
 use Rattle.books.specs.SpellBook.{spellBook}
-use Rattle.books.specs.declared.writing.Draft.{Draft}
+use Rattle.books.specs.declared.draft.Draft.{Draft}
 use Rattle.books.specs.declared.writing.Written.{Written}
 
 abbrev pub draftIn : List ℕ → List ℕ → Draft → Contents
