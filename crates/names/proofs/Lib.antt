@@ -17,3 +17,4 @@ pub mod SpelledBytes
 pub mod LongestColours
 pub mod Exactly
 pub mod ListExactly
+pub mod FarBytes

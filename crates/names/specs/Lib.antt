@@ -2,6 +2,7 @@ pub mod Pick
 pub mod Onward
 pub mod Number
 pub mod Put
+pub mod Part
 pub mod Name
 pub mod Reads
 pub mod ReadsList

@@ -2,18 +2,19 @@
 ghost use mathlib.Core.Path.{_≡_};
 ghost use lib.ListN.{take, drop};
 ghost use Rattle.names.specs.Name.{nameOf, sameName};
-ghost use Rattle.names.specs.Put.{put, past};
+ghost use Rattle.names.specs.Part.{Part, tailStart};
+ghost use Rattle.names.specs.Put.{Puts};
 
 // The part of a slice from a place on: nothing past the end.
 pub fn tail(s: &[u8], at: usize) -> &[u8]
-    ensures { λ r. ⌜ now r ≡ drop at (now (s .entry)) ⌝ }
+    ensures { λ r. ⌜ Part (s .entry) (tailStart (now (s .entry)) at) (drop at (now (s .entry))) r ⌝ }
 {
     if at <= s.len() { &s[at..] } else { &s[..0] }
 }
 
 // The part of a slice up to a length: all of a shorter slice.
 pub fn front(s: &[u8], len: usize) -> &[u8]
-    ensures { λ r. ⌜ now r ≡ take len (now (s .entry)) ⌝ }
+    ensures { λ r. ⌜ Part (s .entry) 0 (take len (now (s .entry))) r ⌝ }
 {
     if len <= s.len() { &s[..len] } else { s }
 }
@@ -72,7 +73,7 @@ pub fn same_name(a: &[u8], a_len: usize, b: &[u8], b_len: usize) -> bool
 
 // Copies the bytes of a slice to a place of another, and gives the place after them; where they do not fit, nothing is written.
 fn copy_bytes(name: &[u8], out: &mut [u8], at: usize) -> usize
-    ensures { λ r. ⌜ r ≡ past (now (out .entry)) at (now (name .entry)) ⌝ ∗ ⌜ now (out .exit) ≡ put (now (out .entry)) at (now (name .entry)) ⌝ }
+    ensures { λ r. ⌜ Puts (now (out .entry)) at (now (name .entry)) r (now (out .exit)) ⌝ }
 {
     if out.len() < at {
         return at;
@@ -90,7 +91,7 @@ fn copy_bytes(name: &[u8], out: &mut [u8], at: usize) -> usize
 
 // Copies the name of so many bytes, from its first byte on, to a place of another slice.
 pub fn copy_name(name: &[u8], len: usize, out: &mut [u8], at: usize) -> usize
-    ensures { λ r. ⌜ r ≡ past (now (out .entry)) at (take len (now (name .entry))) ⌝ ∗ ⌜ now (out .exit) ≡ put (now (out .entry)) at (take len (now (name .entry))) ⌝ }
+    ensures { λ r. ⌜ Puts (now (out .entry)) at (take len (now (name .entry))) r (now (out .exit)) ⌝ }
 {
     copy_bytes(front(name, len), out, at)
 }

@@ -2,7 +2,7 @@
 ghost use mathlib.Core.Path.{_≡_};
 ghost use lib.ListN.{length};
 ghost use Rattle.names.specs.Number.{numberAt, numberIn, numberBelow, spellNumber};
-ghost use Rattle.names.specs.Put.{put, past};
+ghost use Rattle.names.specs.Put.{Puts};
 
 // An answer number with its place; 0 at 0 is no fault.
 pub struct Fault {
@@ -113,7 +113,7 @@ pub fn spelled_len(v: usize) -> usize
 
 // Writes the number's spelling at a place, and gives the place after it; where it does not fit, nothing is written.
 pub fn write_number(out: &mut [u8], at: usize, v: usize) -> usize
-    ensures { λ r. ⌜ r ≡ past (now (out .entry)) at (spellNumber v) ⌝ ∗ ⌜ now (out .exit) ≡ put (now (out .entry)) at (spellNumber v) ⌝ }
+    ensures { λ r. ⌜ Puts (now (out .entry)) at (spellNumber v) r (now (out .exit)) ⌝ }
 {
     if v < 128 {
         if out.len() <= at {

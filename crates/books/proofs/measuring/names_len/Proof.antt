@@ -29,7 +29,7 @@ part-named : (c : tie.After-spelled-len Inv-loop μ-loop) →
     let t = c .before .before .before .before .before .before in
     let a = t .before .before .args in
     now (c .before .front .result) ≡ nameIn (now (a .s)) (a .t2) (t .loop .i)
-part-named c = rw (← c .before .before .tail .ensures) (c .before .front .ensures)
+part-named c = rw (← c .before .before .tail .ensures .holds) (c .before .front .ensures .holds)
 
 -- and is no longer than a byte can say
 part-few : (c : tie.After-spelled-len Inv-loop μ-loop) → length (now (c .before .front .result)) ≤ 255

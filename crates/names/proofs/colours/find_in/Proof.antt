@@ -4,7 +4,7 @@ use Rattle.names.proofs.colours.find_in.Statement.{statement}
 use Rattle.names.proofs.colours.find_in.Tie as tie
 
 returns : tie.Need-returns
-returns c = rw (← c .before .tail .ensures) (c .find-name .ensures)
+returns c = rw (← c .before .tail .ensures .holds) (c .find-name .ensures)
 
 pub find-in-spec : {M : Type 1} → statement M
 find-in-spec =

@@ -30,7 +30,7 @@ loop-holds c = (omega arith, refl)
 compared : (c : tie.After-same-name Inv-loop μ-loop) → let a = c .before .before .before .before .before .before .before .before .before .args in
     c .same-name .result ≡ sameName (nameIn (now (a .s)) (a .t2) (c .before .before .before .before .before .loop .j)) (take (a .len) (now (a .name)))
 compared c =
-    rw (← c .before .tail .ensures) (c .same-name .ensures)
+    rw (← c .before .tail .ensures .holds) (c .same-name .ensures)
 
 returns-2 : tie.Need-returns-2 Inv-loop μ-loop
 returns-2 c =

@@ -20,7 +20,7 @@ add-t14 c =
     let text = now (t .tail .result) in
     let g = number-in s _ 1 40 _ _ (sym (r .before .before .read-in .ensures) ∙ r .r2 .given .1) in
     let b = name-bad text _ _ (sym (c .before .before .before .read-name .ensures) ∙ c .before .n .given .1) in
-    let l : length text ≡ length s - r .r2 .given .0 .1 .0 = ap length (t .tail .ensures) ∙ length-drop _ s in
+    let l : length text ≡ length s - r .r2 .given .0 .1 .0 = ap length (t .tail .ensures .holds) ∙ length-drop _ s in
     omega (arith, start .good)
 
 returns : tie.Need-returns
@@ -32,21 +32,21 @@ unfolding colourAt
 returns-2 c =
     let t = c .before .before .before in
     let r = t .before .before in
-    simp ((sym (r .before .before .read-in .ensures) ∙ r .r2 .given .1), ← t .tail .ensures, ← c .before .before .read-name .ensures, c .enum-told .given .1)
+    simp ((sym (r .before .before .read-in .ensures) ∙ r .r2 .given .1), ← t .tail .ensures .holds, ← c .before .before .read-name .ensures, c .enum-told .given .1)
 
 returns-3 : tie.Need-returns-3
 unfolding colourAt
 returns-3 c =
     let t = c .before .before .before in
     let r = t .before .before in
-    simp ((sym (r .before .before .read-in .ensures) ∙ r .r2 .given .1), ← t .tail .ensures, ← c .before .before .read-name .ensures, c .enum-told2 .given .1)
+    simp ((sym (r .before .before .read-in .ensures) ∙ r .r2 .given .1), ← t .tail .ensures .holds, ← c .before .before .read-name .ensures, c .enum-told2 .given .1)
 
 returns-4 : tie.Need-returns-4
 unfolding colourAt
 returns-4 c =
     let t = c .before .before .before .before in
     let r = t .before .before in
-    simp ((sym (r .before .before .read-in .ensures) ∙ r .r2 .given .1), ← t .tail .ensures, ← c .before .before .before .read-name .ensures, c .before .n .given .1)
+    simp ((sym (r .before .before .read-in .ensures) ∙ r .r2 .given .1), ← t .tail .ensures .holds, ← c .before .before .before .read-name .ensures, c .before .n .given .1)
 
 pub read-colour-spec : {M : Type 1} → statement M
 read-colour-spec =

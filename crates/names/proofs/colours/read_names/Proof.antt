@@ -40,7 +40,7 @@ found : (c : tie.After-find-name Inv-loop μ-loop) →
     let s = now (c .before .before .before .before .before .before .before .before .before .before .args .s) in
     c .find-name .result
     ≡ findName s (c .before .before .before .before .before .before .before .loop .c) (take (c .before .before .before .r2 .given .0 .1 .0) (drop (c .before .before .before .r2 .given .0 .0) s))
-found c = rw (← c .before .tail .ensures) (c .find-name .ensures)
+found c = rw (← c .before .tail .ensures .holds) (c .find-name .ensures)
 
 returns-2 : tie.Need-returns-2 Inv-loop μ-loop
 returns-2 c =

@@ -1,5 +1,6 @@
 -- Where the slice is shorter, its front is all of it.
-use mathlib.Core.Path.{sym}
+use mathlib.Core.Path.{refl, sym}
+use native.Mathlib.Omega.{arith}
 use native.Mathlib.Nat.{le-of-lt}
 use lib.Seq.{length-take-le, take-all}
 use borrow.Author.Needs.{needs}
@@ -10,7 +11,7 @@ slice-aggregate-result : tie.Need-slice-aggregate-result
 slice-aggregate-result c = sym (length-take-le _ _ (c .before .if1 .taken))
 
 returns-2 : tie.Need-returns-2
-returns-2 c = sym (take-all _ _ (le-of-lt (c .if1 .left)))
+returns-2 c = record { memory = refl; offset = omega arith; holds = sym (take-all _ _ (le-of-lt (c .if1 .left))) }
 
 pub front-spec : {M : Type 1} → statement M
 front-spec = tie.close (tie.spec slice-aggregate-result (λ c. search needs) returns-2)
