@@ -22,6 +22,7 @@ pub mod InARow
 pub mod SpellingOn
 pub mod SpellingDrafts
 pub mod Packing
+pub mod Demand1
 pub mod Showing
 pub mod Settled
 pub mod Ordering
