@@ -27,3 +27,4 @@ pub mod Showing
 pub mod Settled
 pub mod Ordering
 pub mod LookingUp
+pub mod FarBytes

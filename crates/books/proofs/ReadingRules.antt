@@ -54,6 +54,10 @@ rule-found s at motifs colours =
       spelled = λ bytes. between-both (below-spelled s bytes at motifs 6 head then e) (h .spelled bytes);
     }))
 
+-- a rule takes a few bytes
+pub rule-near : (s : List ℕ) (at motifs colours : ℕ) (r : Rule) (next : ℕ) → ruleAt s at motifs colours ≡ WholeRule r next → next ≤ at + 12
+rule-near s at motifs colours r next e = subst (RuleFound s at motifs colours) e (rule-found s at motifs colours) .near
+
 -- ── The rules ──
 
 -- so many rules that were read after those that stood before, the places after them still fixed

@@ -2,15 +2,18 @@
 -- reads as t ++ u does, whatever u is.
 use Prim.Native.Nat.{ℕ, zero, suc, _+_, _*_, _<_, _≤_}
 use mathlib.Core.Path.{_≡_, refl, ap₂}
+use mathlib.Core.Bool.{Bool, true, false}
 use mathlib.Core.List.{List, _∷_, _++_}
 use native.Mathlib.Omega.{arith}
-use borrow.Author.Tests.{lt-leb}
+use borrow.Author.Tests.{lt-leb, eqb-true}
+use lib.Dec.{eqb}
 use lib.ListN.{length, getD, take, drop, length-append, length-drop, List·getD-append}
 use lib.Seq.{take-append-le, drop-append-le}
-use Rattle.names.specs.Onward.{onward}
+use Rattle.names.specs.Pick.{pick}
+use Rattle.names.specs.Onward.{onward, faultless}
 use Rattle.names.specs.Number.{numberAt, numberIn, numberBelow}
-use Rattle.names.specs.Name.{nameFrom, nameOf}
-use Rattle.names.specs.Colours.{namesFrom, namesIn, findName, namedAt, colourAt, afterColour, noColours, refusedColours, withColour, coloursFrom, coloursOf}
+use Rattle.names.specs.Name.{Name, nameFrom, nameOf}
+use Rattle.names.specs.Colours.{nameIn, namesFrom, namesIn, findName, namedAt, colourAt, afterColour, noColours, refusedColours, withColour, coloursFrom, coloursOf}
 use Rattle.names.specs.declared.number.Fault.{Fault}
 use Rattle.names.specs.declared.number.Read.{Read}
 use Rattle.names.specs.declared.number.Read.the-variants.{Value, Refused}
@@ -28,6 +31,13 @@ pub onward-same {ℓ} : {A : Type ℓ} (refuse : Fault → A) (r q : Read) (go t
     → ((v next : ℕ) → q ≡ Value v next → go v next ≡ to v next) → onward refuse r go ≡ onward refuse q to
 onward-same refuse r (Value v next) go to e f = rw e (f v next refl)
 onward-same refuse r (Refused f) go to e g = rw e
+
+pick-same {ℓ} : {A : Type ℓ} (b : Bool) (x y z : A) → (b ≡ true → x ≡ y) → pick b x z ≡ pick b y z
+pick-same true x y z f = f refl
+pick-same false x y z f = refl
+
+pub faultless-same {ℓ} : {A : Type ℓ} (refuse : Fault → A) (f : Fault) (x y : A) → (f .number ≡ 0 → x ≡ y) → faultless refuse f x ≡ faultless refuse f y
+faultless-same refuse f x y same = pick-same (eqb (f .number) 0) x y (refuse f) (λ t. same (eqb-true (f .number) 0 t))
 
 after-colour-same {ℓ} : {A : Type ℓ} (refuse : Fault → A) (r q : ColourRead) (go to : ℕ → ℕ → A) → r ≡ q
     → ((start len : ℕ) → q ≡ At start len → go start len ≡ to start len) → afterColour refuse r go ≡ afterColour refuse q to
@@ -95,18 +105,26 @@ module _ (t u : List ℕ) where
       let near : start + len < length t = omega (arith, g .near, g .high) in
       rw (name-far start len (omega arith)) (named-far start len (nameOf (drop start t) len) near refl))
 
+  -- the name of a colour that was read from t
+  pub name-in-far : (c : Colours) (i : ℕ) → Places t c → i < c .count → nameIn (t ++ u) c i ≡ nameIn t c i
+  name-in-far c i g h = part-far _ _ (g .inside i h)
+
   names-far : (c : Colours) → Places t c → (k i : ℕ) → i + k ≤ c .count → namesFrom (t ++ u) c i k ≡ namesFrom t c i k
   names-far c g zero i h = refl
-  names-far c g (suc k) i h = ap₂ _∷_ (part-far _ _ (g .inside i (omega arith))) (names-far c g k (i + 1) (omega arith))
+  names-far c g (suc k) i h = ap₂ _∷_ (name-in-far c i g (omega arith)) (names-far c g k (i + 1) (omega arith))
 
   -- the names of a list that was read from t
   pub names-in-far : (c : Colours) → Places t c → namesIn (t ++ u) c ≡ namesIn t c
   names-in-far c g = names-far c g (c .count) 0 (omega arith)
 
+  -- the number that a name has among them
+  pub find-name-far : (c : Colours) (n : Name) → Places t c → findName (t ++ u) c n ≡ findName t c n
+  unfolding findName
+  find-name-far c n g = rw (names-in-far c g)
+
   find-far : (c : Colours) (start len : ℕ) → Places t c → start + len ≤ length t
       → findName (t ++ u) c (take len (drop start (t ++ u))) ≡ findName t c (take len (drop start t))
-  unfolding findName
-  find-far c start len g h = rw (part-far start len h, names-in-far c g)
+  find-far c start len g h = rw (part-far start len h, find-name-far c (take len (drop start t)) g)
 
   colours-from-far : (k : ℕ) (c : Colours) (at : ℕ) → Places t c → c .count + k ≤ 64 → at + 43 * k < length t → coloursFrom (t ++ u) c at k ≡ coloursFrom t c at k
   colours-from-far zero c at g few h = refl
