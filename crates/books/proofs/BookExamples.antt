@@ -2,6 +2,7 @@
 use Prim.Native.Nat.{ℕ}
 use mathlib.Core.Path.{_≡_, refl}
 use mathlib.Core.List.{List, [], _∷_, _++_}
+use lib.ListN.{length}
 use Rattle.names.specs.Pick.{fault}
 use Rattle.names.specs.Number.{numberAt, numberIn, numberBelow, spellNumber}
 use Rattle.names.specs.Name.{Name, nameOf, sameName, listed}
@@ -45,6 +46,7 @@ houseContents =
     }
 
 pub record Books : Type 0 where
+  pub bytes-34 : length house ≡ 34
   pub fine : bookOf house .fault ≡ fault 0 0
   pub contents : contentsIn house (bookOf house .family) ≡ houseContents
   pub spelled : spellBook houseContents ≡ house
@@ -64,6 +66,7 @@ pub books : Books
 unfolding house houseContents book joins colours slateC slateU spellNumber bookOf figuredAt figuresAt ruledAt rulesAt ruleAt bodyAt joinAt colourNumberAt numberIn numberBelow numberAt coloursOf colourAt nameOf findName listed sameName
 books =
     record {
+      bytes-34 = refl;
       fine = refl;
       contents = refl;
       spelled = refl;

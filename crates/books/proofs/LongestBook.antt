@@ -1,18 +1,23 @@
--- No book is longer than 3,429 bytes: 2,625 of colours, 4 of figures, and 4 for each of 200 rules. Its spelling is made of bytes.
-use Prim.Native.Nat.{ℕ, _*_, _≤_}
-use mathlib.Core.Path.{_≡_, refl, ap}
-use mathlib.Core.List.{List, [], _∷_, List·Memᴰ, List·Memᴰ·head, List·Memᴰ·tail}
+-- The longest book has 3,429 bytes: 2,625 of colours, 4 of figures, and 4 for each of 200 rules. Its spelling is made of bytes.
+use Prim.Native.Nat.{ℕ, zero, suc, _+_, _*_, _/_, _%_, _<_, _≤_}
+use mathlib.Core.Path.{_≡_, refl, sym, ap, _∙_}
+use mathlib.Core.List.{List, [], _∷_, _++_, List·Memᴰ, List·Memᴰ·head, List·Memᴰ·tail, List·Memᴰ·cases-cons, List·Memᴰ·not-nil}
+use mathlib.Core.Logic.{⊎-elim}
 use native.Mathlib.Omega.{arith}
-use lib.ListN.{length}
-use Rattle.names.proofs.SpellingNumbers.{Bytes}
+use lib.ListN.{length, getD, length-append}
+use Rattle.names.specs.Number.{spellNumber}
+use Rattle.names.specs.Spelling.{spellColours}
+use Rattle.names.proofs.SpellingNumbers.{Bytes, spell-short, spell-two}
 use Rattle.books.specs.Contents.{Contents}
 use Rattle.books.specs.Keeps.{BodyFits, RuleFits, Keeps}
 use Rattle.books.specs.ContentsIn.{contentsIn}
 use Rattle.books.specs.Book.{bookOf}
-use Rattle.books.specs.SpellBook.{spellBody, spellRules, spellBook}
+use Rattle.books.specs.Rules.{noRule}
+use Rattle.books.specs.SpellBook.{spellBody, spellRule, spellRules, spellBook}
 use Rattle.books.specs.declared.rule.Rule.{Rule}
 use Rattle.books.specs.declared.rule.Body.{Body}
 use Rattle.books.specs.declared.rule.Body.the-variants.{Colour, Across, Down}
+use Rattle.names.proofs.LongestColours.{longestNames, longest-names, longest-length}
 use Rattle.names.proofs.SpelledBytes.{FewBytes, none-few, both-few, fewer, number-one, number-two, colours-few}
 use Rattle.books.proofs.ReadingBooks.{book-accepted}
 
@@ -45,3 +50,74 @@ spelling-length b keeps = book-few b keeps .few
 
 pub longest-book : (s : List ℕ) → Bytes s → bookOf s .fault .number ≡ 0 → length s ≤ 3429
 longest-book s bytes z = let a = book-accepted s bytes z in omega (arith, ap length (a .spelled), spelling-length (contentsIn s (bookOf s .family)) (a .keeps))
+
+-- ── One is as long ──
+
+-- the n-th of 1,024 joins: no two are the same
+abbrev join : ℕ → Rule
+join n = record { head = 0; body = Across (n / 32) (n % 32) }
+
+abbrev joins : ℕ → ℕ → List Rule
+joins n zero = []
+joins n (suc k) = join n ∷ joins (suc n) k
+
+joins-count : (k n : ℕ) → length (joins n k) ≡ k
+joins-count zero n = refl
+joins-count (suc k) n = ap suc (joins-count k (suc n))
+
+joins-fit : (colours k n : ℕ) → n + k ≤ 1024 → (r : Rule) → List·Memᴰ r (joins n k) → RuleFits 32 colours r
+joins-fit colours zero n h r m = absurd (List·Memᴰ·not-nil m)
+joins-fit colours (suc k) n h r m =
+    ⊎-elim
+    (λ e. rw e (record { head-fits = omega arith; body-fits = (omega arith, omega arith) }))
+    (λ t. joins-fit colours k (suc n) (omega arith) r t)
+    (List·Memᴰ·cases-cons m)
+
+joins-length : (k n : ℕ) → n + k ≤ 1024 → length (spellRules (joins n k)) ≡ 4 * k
+joins-length zero n h = refl
+joins-length (suc k) n h =
+    let left = n / 32 in
+    let right = n % 32 in
+    omega (arith, length-append (spellRule (join n)) (spellRules (joins (suc n) k)), length-append (spellNumber 0) (spellBody (Across left right)), length-append (spellNumber 1) (spellNumber left ++ spellNumber right), length-append (spellNumber left) (spellNumber right), spell-short 0 (omega arith), spell-short 1 (omega arith), spell-short left (omega arith), spell-short right (omega arith), joins-length k (suc n) (omega arith))
+
+joins-at : (k n i : ℕ) → i < k → getD (joins n k) i noRule ≡ join (n + i)
+joins-at zero n i h = absurd (omega arith)
+joins-at (suc k) n zero h = ap join (omega arith)
+joins-at (suc k) n (suc i) h = joins-at k (suc n) i (omega arith) ∙ ap join (omega arith)
+
+-- 64 colours, 32 motifs, 200 joins
+pub longest : Contents
+longest = record { colours = longestNames; motifs = 32; start = 0; rules = joins 0 200 }
+
+pub longest-keeps : Keeps longest
+unfolding longest
+longest-keeps =
+    let count = joins-count 200 0 in
+    record {
+      colours-ok = longest-names;
+      motifs-some = omega arith;
+      motifs-few = omega arith;
+      rules-some = omega arith;
+      rules-few = omega arith;
+      sound = record { start-fits = omega arith; rules-fit = joins-fit (length longestNames) 200 0 (omega arith) };
+    }
+
+pub longest-spelling : length (spellBook longest) ≡ 3429
+unfolding longest
+longest-spelling =
+    let colours = spellColours longestNames in
+    let motifs = spellNumber 32 in
+    let start = spellNumber 0 in
+    let count = spellNumber (length (joins 0 200)) in
+    let rules = spellRules (joins 0 200) in
+    omega (arith, length-append colours (motifs ++ (start ++ (count ++ rules))), length-append motifs (start ++ (count ++ rules)), length-append start (count ++ rules), length-append count rules, longest-length, spell-short 32 (omega arith), spell-short 0 (omega arith), ap length (spell-two (length (joins 0 200)) (omega (arith, joins-count 200 0)) (omega (arith, joins-count 200 0))), joins-length 200 0 (omega arith))
+
+-- no rule of it stands twice
+pub longest-rules : (i j : ℕ) → i < 200 → j < 200 → getD (longest .rules) i noRule ≡ getD (longest .rules) j noRule → i ≡ j
+unfolding longest
+longest-rules i j hi hj e =
+    let same : join i ≡ join j = sym (joins-at 200 0 i hi ∙ ap join (omega arith)) ∙ (e ∙ (joins-at 200 0 j hj ∙ ap join (omega arith))) in
+    let bodies : Across (i / 32) (i % 32) ≡ Across (j / 32) (j % 32) = ap (λ (r : Rule). r .body) same in
+    let left : i / 32 ≡ j / 32 = cc in
+    let right : i % 32 ≡ j % 32 = cc in
+    omega arith

@@ -1,4 +1,4 @@
--- The longest sheet has 2,771 bytes: those of the longest colour list, one for the rows, one for the columns, and one for each cell.
+-- The longest sheet has 2,771 bytes: those of the longest colour list, one for the rows, one for the columns, and one for each cell. Its spelling is made of bytes.
 use Prim.Native.Nat.{ℕ, suc, _+_, _*_, _≤_}
 use mathlib.Core.Path.{_≡_, refl, ap}
 use mathlib.Core.List.{List, [], _∷_, _++_}
@@ -14,6 +14,7 @@ use Rattle.books.specs.Cells.{noCells}
 use Rattle.books.specs.Sheet.{sheetOf}
 use Rattle.books.specs.SpellSheet.{spellCells, spellSheet}
 use Rattle.books.proofs.Area.{area}
+use Rattle.names.proofs.SpelledBytes.{FewBytes, none-few, both-few, fewer, number-one, colours-few}
 use Rattle.names.proofs.LongestColours.{colours-longest, longestNames, longest-names, longest-length}
 use Rattle.books.proofs.ReadingCells.{Fit}
 use Rattle.books.proofs.SpellingSheets.{sheet-accepted}
@@ -32,6 +33,18 @@ sheet-length g k =
     let cols = spellNumber (g .cols) in
     let cells = spellCells (g .cells) in
     omega (arith, length-append colours (rows ++ (cols ++ cells)), length-append rows (cols ++ cells), length-append cols cells, spell-short (g .rows) (omega (arith, k .rows-few)), spell-short (g .cols) (omega (arith, k .cols-few)), cells-length (length (g .colours)) (omega (arith, k .colours-ok .few)) (g .cells) (k .cells-fit), k .cells-all)
+
+cells-few : (colours : ℕ) → colours ≤ 128 → (vs : List ℕ) → Fit colours vs → FewBytes (spellCells vs) (length vs)
+cells-few colours few [] fit = none-few
+cells-few colours few (v ∷ vs) fit =
+    let low = fit 0 (omega arith) in
+    fewer (omega arith) (both-few (number-one v (omega arith)) (cells-few colours few vs (λ i h. fit (suc i) (omega arith))))
+
+pub spelling-bytes : (g : Grid) → GridKeeps g → Bytes (spellSheet g)
+spelling-bytes g k =
+    both-few (colours-few (g .colours) (k .colours-ok))
+    (both-few (number-one (g .rows) (omega (arith, k .rows-few)))
+    (both-few (number-one (g .cols) (omega (arith, k .cols-few))) (cells-few (length (g .colours)) (omega (arith, k .colours-ok .few)) (g .cells) (k .cells-fit)))) .bytes
 
 pub sheet-longest : (s : List ℕ) → Bytes s → sheetOf s .fault .number ≡ 0 → length s ≤ 2771
 sheet-longest s bytes z =
