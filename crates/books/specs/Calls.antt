@@ -2,7 +2,7 @@
 use Prim.Native.Nat.{ℕ, _+_, _*_, _^_}
 use mathlib.Core.List.{List}
 use lib.Dec.{ltb}
-use lib.ListN.{getD}
+use lib.ListN.{length, getD}
 use Rattle.names.specs.Pick.{pick}
 use Rattle.names.specs.Name.{Name}
 use Rattle.books.specs.Contents.{name}
@@ -22,9 +22,10 @@ sheetAnswer s = blaming 1 (sheetOf s .fault)
 abbrev pub shown : List ℕ → ℕ → Name
 shown s k = name (contentsIn s (bookOf s .family)) k
 
--- where that name starts, and how long it is above 2 ^ 32
+-- where that name starts in the book, 0 where there is none
+abbrev pub shownStart : List ℕ → ℕ → ℕ
+shownStart s k = pick (ltb k (bookOf s .family .colours .count)) (getD (bookOf s .family .colours .starts) k 0) 0
+
+-- where it starts, and how long it is above 2 ^ 32
 abbrev pub shownPlace : List ℕ → ℕ → ℕ
-shownPlace s k =
-    pick (ltb k (bookOf s .family .colours .count))
-    (getD (bookOf s .family .colours .starts) k 0 + 2 ^ 32 * getD (bookOf s .family .colours .lens) k 0)
-    0
+shownPlace s k = shownStart s k + 2 ^ 32 * length (shown s k)

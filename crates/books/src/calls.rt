@@ -3,8 +3,9 @@ use crate::answer;
 use crate::book;
 use crate::sheet;
 ghost use mathlib.Core.Path.{_≡_};
+ghost use Rattle.names.specs.Part.{Part};
 ghost use Rattle.books.specs.Answer.{packed};
-ghost use Rattle.books.specs.Calls.{bookAnswer, sheetAnswer, shown, shownPlace};
+ghost use Rattle.books.specs.Calls.{bookAnswer, sheetAnswer, shown, shownStart, shownPlace};
 
 // Whether these bytes are a book; the answer blames input 1.
 #[no_mangle]
@@ -28,7 +29,7 @@ pub extern "C" fn dv_read_sheet(sheet: &[u8]) -> u64
 
 // A colour's name, as the part of the lent book that holds it. A refused book has no colours, so that it shows an empty part too.
 pub fn colour(book: &[u8], number: usize) -> &[u8]
-    ensures { λ r. ⌜ now r ≡ shown (now (book .entry)) number ⌝ }
+    ensures { λ r. ⌜ Part (book .entry) (shownStart (now (book .entry)) number) (shown (now (book .entry)) number) r ⌝ }
 {
     let r = book::read_book(book);
     let f = r.family;

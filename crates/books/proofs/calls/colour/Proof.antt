@@ -1,7 +1,7 @@
 -- A colour below the count lies in the book where its place and length say; any other number shows nothing.
-use mathlib.Core.Path.{sym}
+use mathlib.Core.Path.{refl, sym}
 use native.Mathlib.Nat.{add-sub-cancel-left}
-use Rattle.books.proofs.Showing.{shown-there, shown-nothing}
+use Rattle.books.proofs.Showing.{shown-start, shown-there, shown-nowhere, shown-nothing}
 use native.Mathlib.Omega.{arith}
 use denote.Ref.{now}
 use Rattle.names.proofs.ReadingColours.{Places}
@@ -35,12 +35,23 @@ returns c =
     let b = t .before .before .before in
     let a = b .before .before .args in
     let read = b .read-book .ensures in
-    simp (shown-there (now (a .book)) (a .number) (rw read at (t .if1 .taken)), ← read, add-sub-cancel-left)
+    let below = rw read at (t .if1 .taken) in
+    record {
+      memory = refl;
+      offset = rw (shown-start (now (a .book)) (a .number) below) (rw (← read) (omega arith));
+      holds = simp (shown-there (now (a .book)) (a .number) below, ← read, add-sub-cancel-left);
+    }
 
 returns-2 : tie.Need-returns-2
 returns-2 c =
     let s = now (c .before .before .before .before .before .before .args .book) in
-    sym (shown-nothing s (c .before .before .before .before .before .before .args .number) (rw (c .before .before .before .before .read-book .ensures) at (c .before .if1 .left)))
+    let k = c .before .before .before .before .before .before .args .number in
+    let above = rw (c .before .before .before .before .read-book .ensures) at (c .before .if1 .left) in
+    record {
+      memory = refl;
+      offset = rw (shown-nowhere s k above) (omega arith);
+      holds = sym (shown-nothing s k above);
+    }
 
 pub colour-spec : {M : Type 1} → statement M
 colour-spec =

@@ -2,11 +2,11 @@
 use mir.Val.{Fits}
 use mir.Syntax.{w8, w16}
 use lib.ListN.{getD}
-use borrow.Author.Tests.{lt-ltb, le-ltb}
 use native.Mathlib.Omega.{arith}
 use denote.Ref.{now}
 use Rattle.names.proofs.ReadingColours.{Places}
 use Rattle.books.proofs.ReadingBooks.{book-places}
+use Rattle.books.proofs.Showing.{shown-start, shown-length, shown-nowhere, shown-nothing}
 use borrow.Author.Needs.{needs}
 use Rattle.books.proofs.calls.dv_colour.Statement.{statement}
 use Rattle.books.proofs.calls.dv_colour.Tie as tie
@@ -36,10 +36,17 @@ add-result c =
     omega arith
 
 returns : tie.Need-returns
-returns c = simp (← c .before .before .before .before .before .read-book .ensures, lt-ltb _ _ (c .before .before .if1 .taken))
+returns c =
+    let a = c .before .before .before .before .before .before .before .args in
+    let read = c .before .before .before .before .before .read-book .ensures in
+    let below = rw read at (c .before .before .if1 .taken) in
+    rw (shown-start (now (a .book)) (a .number) below, shown-length (now (a .book)) (a .number) below) (rw (← read))
 
 returns-2 : tie.Need-returns-2
-returns-2 c = simp (← c .before .before .before .read-book .ensures, le-ltb _ _ (c .if1 .left))
+returns-2 c =
+    let a = c .before .before .before .before .before .args in
+    let above = rw (c .before .before .before .read-book .ensures) at (c .if1 .left) in
+    simp (shown-nowhere (now (a .book)) (a .number) above, shown-nothing (now (a .book)) (a .number) above)
 
 pub dv-colour-spec : {M : Type 1} → statement M
 dv-colour-spec =
