@@ -1,15 +1,16 @@
 -- A combination of books that keep the rules of a book keeps them, where it is within the limits: it is sound, its colours are theirs, and it has at least
--- the rules of the first. Images keep them without a limit, since they change no count.
+-- the rules of the first. Images keep them without a limit, since they change no count. So what is shown of every combination that keeps the rules holds of each call.
 use Prim.Native.Nat.{_≤_}
 use native.Mathlib.Omega.{arith}
 use lib.ListN.{length, length-append}
 use Rattle.names.specs.Spelling.{ColoursOk}
 use Rattle.books.specs.Contents.{Contents}
-use Rattle.books.specs.Picture.{Dir}
+use Rattle.books.specs.Picture.{Dir, across, down}
 use Rattle.books.specs.Keeps.{Sound, Keeps}
 use Rattle.books.specs.declared.rule.Body.{Body}
 use Rattle.families.specs.Combine.{either-of, joined, repeated, rebodied, turned, swapped, transposed, swapping}
 use Rattle.families.specs.Limits.{WithinLimits}
+use Rattle.families.specs.EachCall.{EachCall}
 use Rattle.families.proofs.Merging.{merged-ok}
 use Rattle.families.proofs.Counting.{rebodied-length}
 use Rattle.families.proofs.Fitting.{joined-sound, either-of-sound, repeated-sound, transposed-sound, swapping-sound}
@@ -69,3 +70,24 @@ swapping-keeps d f kf = rebodied-keeps (swapped d) f kf (swapping-sound d f (kf 
 -- What keeps the rules is within the limits, so that nothing is refused that could be written.
 pub keeps-within : (b : Contents) → Keeps b → WithinLimits b
 keeps-within b k = record { colours-few = k .colours-ok .few; motifs-few = k .motifs-few; rules-few = k .rules-few }
+
+-- The combinations that keep the rules within the limits, of two books and of one.
+abbrev pub KeptTwo : (Contents → Contents → Contents) → Type 0
+KeptTwo op = (f g : Contents) → Keeps f → Keeps g → WithinLimits (op f g) → Keeps (op f g)
+
+abbrev pub KeptOne : (Contents → Contents) → Type 0
+KeptOne op = (f : Contents) → Keeps f → WithinLimits (op f) → Keeps (op f)
+
+pub each-call : (Two : (Contents → Contents → Contents) → Type 0) (One : (Contents → Contents) → Type 0)
+    → ((op : Contents → Contents → Contents) → KeptTwo op → Two op) → ((op : Contents → Contents) → KeptOne op → One op) → EachCall Two One
+each-call Two One two one =
+    record {
+      dv-either-of = two _ either-of-keeps;
+      dv-beside = two _ (joined-keeps across);
+      dv-above = two _ (joined-keeps down);
+      dv-run = one _ (repeated-keeps across);
+      dv-stack = one _ (repeated-keeps down);
+      dv-mirrored = one _ (λ f k _. swapping-keeps across f k);
+      dv-flipped = one _ (λ f k _. swapping-keeps down f k);
+      dv-transposed = one _ (λ f k _. transposed-keeps f k);
+    }

@@ -10,6 +10,7 @@ pub mod Merging
 pub mod MergingInOrder
 pub mod Copying
 pub mod Counting
+pub mod Lengths
 pub mod Heads
 pub mod Inside
 pub mod Standing
@@ -22,6 +23,7 @@ pub mod DraftsOfTwo
 pub mod Reading
 pub mod Finishing
 pub mod Outcomes
+pub mod ReadingOff
 pub mod CallTheorems
 pub mod Refusing
 pub mod Settled

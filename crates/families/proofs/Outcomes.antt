@@ -1,5 +1,4 @@
--- An outcome with number 0 comes only from accepted books, contents within the limits and a slice with room, and then the contents' spelling stands at the front
--- of the slice; every outcome packs into one number.
+-- An outcome with number 0 comes only from accepted books, and then the contents' spelling stands at the front of the slice; every outcome packs into one number.
 use Prim.Native.Nat.{ℕ, _+_, _≤_, _<_, _^_}
 use mathlib.Core.Path.{_≡_, refl, sym, _∙_, ap}
 use mathlib.Core.Bool.{Bool}
@@ -8,7 +7,7 @@ use native.Mathlib.Omega.{arith}
 use lib.Dec.{leb, eqb}
 use lib.ListN.{length, take, drop}
 use lib.Seq.{take-at, drop-at}
-use borrow.Author.Tests.{leb-true, eqb-true, eqb-false}
+use borrow.Author.Tests.{eqb-true, eqb-false}
 use Rattle.names.specs.Pick.{pick}
 use Rattle.names.specs.Put.{put}
 use Rattle.names.proofs.Picking.{pick-ind}
@@ -26,23 +25,17 @@ use Rattle.families.specs.Within.{within?}
 use Rattle.families.specs.Outcome.{Outcome, refused, written, made, lent}
 use Rattle.families.proofs.Testing.{within-limits}
 
--- What was written where the answer is 0.
-pub record WroteBook (c : Contents) (out : List ℕ) (o : Outcome) : Type 0 where
-  pub small : WithinLimits c
-  pub room : length (spellBook c) ≤ length out
-  pub counted : o .count ≡ length (spellBook c)
-  pub left : o .out ≡ put out 0 (spellBook c)
+-- Where the answer is 0 the spelling of the contents is put at the front of the slice.
+abbrev Wrote : Contents → List ℕ → Outcome → Type 0
+Wrote c out o = o .answer .number ≡ 0 → o .out ≡ put out 0 (spellBook c)
 
-abbrev Fine : Contents → List ℕ → Outcome → Type 0
-Fine c out o = o .answer .number ≡ 0 → WroteBook c out o
-
-pub made-wrote : (c : Contents) (out : List ℕ) → made c out .answer .number ≡ 0 → WroteBook c out (made c out)
+pub made-wrote : (c : Contents) (out : List ℕ) → made c out .answer .number ≡ 0 → made c out .out ≡ put out 0 (spellBook c)
 unfolding made written
 made-wrote c out =
-    pick-ind (Fine c out) (within? c) _ (refused (plain 12) out)
-    (λ w. pick-ind (Fine c out) (leb (length (spellBook c)) (length out))
+    pick-ind (Wrote c out) (within? c) _ (refused (plain 12) out)
+    (λ _. pick-ind (Wrote c out) (leb (length (spellBook c)) (length out))
     (record { answer = plain 0; count = length (spellBook c); out = put out 0 (spellBook c) }) (refused (plain 13) out)
-    (λ e _. record { small = within-limits c .0 w; room = leb-true _ _ e; counted = refl; left = refl })
+    (λ _ _. refl)
     (λ _ z. absurd (omega arith)))
     (λ _ z. absurd (omega arith))
 

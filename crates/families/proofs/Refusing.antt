@@ -1,57 +1,103 @@
 -- Which number the combination of accepted books gets: 12 where it exceeds the limits, else 13 where the slice is shorter than its spelling, else 0. The tests are
 -- made in that order.
 use Prim.Native.Nat.{ℕ, _≤_, _<_}
-use mathlib.Core.Path.{_≡_, refl, sym, _∙_}
+use mathlib.Core.Path.{_≡_, refl, sym, _∙_, ap, subst}
 use mathlib.Core.Bool.{true, false, true≢false}
 use mathlib.Core.List.{List}
-use mathlib.Core.Logic.{_↔_}
 use native.Mathlib.Omega.{arith}
 use lib.Dec.{leb}
 use lib.ListN.{length}
 use borrow.Author.Tests.{leb-true, leb-false}
 use Rattle.names.specs.Put.{put}
+use Rattle.names.specs.declared.number.Fault.{Fault}
 use Rattle.names.proofs.Picking.{pick-ind}
+use Rattle.names.proofs.SpellingNumbers.{Bytes}
 use Rattle.books.specs.Contents.{Contents}
+use Rattle.books.specs.Book.{bookOf}
 use Rattle.books.specs.SpellBook.{spellBook}
 use Rattle.books.specs.Answer.{plain}
+use Rattle.books.specs.declared.answer.Answer.{Answer}
 use Rattle.families.specs.Limits.{WithinLimits}
 use Rattle.families.specs.Within.{within?}
-use Rattle.families.specs.Outcome.{Outcome, refused, written, made}
+use Rattle.families.specs.Outcome.{Outcome, refused, written, made, lent, onOne, onSecond, onTwo, Leaves}
+use Rattle.families.specs.NewBook.{Accepted, bookIn}
+use Rattle.families.specs.Answers.{answerOf, countOf, Numbered}
+use Rattle.families.specs.EachCall.{EachCall}
 use Rattle.families.proofs.Testing.{within-limits}
+use Rattle.families.proofs.Keeping.{KeptTwo, KeptOne, each-call}
+use Rattle.families.proofs.Reading.{read-accepted}
+use Rattle.families.proofs.ReadingOff.{ReadOff, one-read, two-read}
 
--- The three cases, each with its number.
-pub record Numbering (c : Contents) (out : List ℕ) (o : Outcome) : Type 0 where
-  pub zero : (o .answer .number ≡ 0) ↔ (WithinLimits c × (length (spellBook c) ≤ length out))
-  pub twelve : (o .answer .number ≡ 12) ↔ (WithinLimits c → ⊥)
-  pub thirteen : (o .answer .number ≡ 13) ↔ (WithinLimits c × (length out < length (spellBook c)))
+-- The number and the count of an outcome.
+abbrev Gets : Contents → List ℕ → Outcome → Type 0
+Gets c out o = Numbered c out (o .answer .number) (o .count)
 
-pub made-numbered : (c : Contents) (out : List ℕ) → Numbering c out (made c out)
+made-numbered : (c : Contents) (out : List ℕ) → Gets c out (made c out)
 unfolding made written
 made-numbered c out =
     let size : ℕ = length (spellBook c) in
-    pick-ind (Numbering c out) (within? c) _ (refused (plain 12) out)
+    pick-ind (Gets c out) (within? c) _ (refused (plain 12) out)
     (λ w.
     let small : WithinLimits c = within-limits c .0 w in
-    pick-ind (Numbering c out) (leb size (length out))
+    pick-ind (Gets c out) (leb size (length out))
     (record { answer = plain 0; count = size; out = put out 0 (spellBook c) }) (refused (plain 13) out)
     (λ e.
     let room : size ≤ length out = leb-true size (length out) e in
     record {
-      zero = (λ _. (small, room), λ _. refl);
       twelve = (λ z. absurd (omega arith), λ big. absurd (big small));
       thirteen = (λ z. absurd (omega arith), λ x. absurd (omega (arith, x .1)));
+      zero = (λ _. (small, room), λ _. refl);
+      counted = λ _. refl;
     })
     (λ e.
     let short : length out < size = leb-false size (length out) e in
     record {
-      zero = (λ z. absurd (omega arith), λ x. absurd (omega (arith, x .1)));
       twelve = (λ z. absurd (omega arith), λ big. absurd (big small));
       thirteen = (λ _. (small, short), λ _. refl);
+      zero = (λ z. absurd (omega arith), λ x. absurd (omega (arith, x .1)));
+      counted = λ z. absurd (omega arith);
     }))
     (λ w.
     let big : WithinLimits c → ⊥ = λ small. true≢false (sym (within-limits c .1 small) ∙ w) in
     record {
-      zero = (λ z. absurd (omega arith), λ x. absurd (big (x .0)));
       twelve = (λ _. big, λ _. refl);
       thirteen = (λ z. absurd (omega arith), λ x. absurd (big (x .0)));
+      zero = (λ z. absurd (omega arith), λ x. absurd (big (x .0)));
+      counted = λ z. absurd (omega arith);
     })
+
+-- A call whose outcome is that of contents gets their number.
+pub read-numbered : (c : Contents) (out : List ℕ) (o : Outcome) (left : List ℕ) (r : ℕ) → o ≡ made c out → ReadOff o left r
+    → Numbered c out (answerOf r .number) (countOf r)
+read-numbered c out o left r e read =
+    subst (λ (n : ℕ). Numbered c out n (countOf r)) (sym (ap (λ (a : Answer). a .number) (read .answer-is)))
+    (subst (Numbered c out (o .answer .number)) (sym (read .count-is))
+    (subst (Gets c out) (sym e) (made-numbered c out)))
+
+-- An accepted book goes on.
+accepted-goes : (input : ℕ) (s out : List ℕ) (go : Contents → Outcome) → Accepted s → lent input s out go ≡ go (bookIn s)
+accepted-goes input s out go a = read-accepted s (bookOf s) refl input out go (ap (λ (f : Fault). f .number) a)
+
+-- Two accepted books, and one.
+abbrev pub NumbersTwo : (Contents → Contents → Contents) → Type 0
+NumbersTwo op = (first second out left : List ℕ) (r : ℕ) → Bytes first → Bytes second → Accepted first → Accepted second
+    → Leaves (onTwo op first second out) r left → Numbered (op (bookIn first) (bookIn second)) out (answerOf r .number) (countOf r)
+
+abbrev pub NumbersOne : (Contents → Contents) → Type 0
+NumbersOne op = (book out left : List ℕ) (r : ℕ) → Bytes book → Accepted book
+    → Leaves (onOne op book out) r left → Numbered (op (bookIn book)) out (answerOf r .number) (countOf r)
+
+two-numbered : (op : Contents → Contents → Contents) → KeptTwo op → NumbersTwo op
+two-numbered op keeps first second out left r bf bs af ag leaves =
+    read-numbered (op (bookIn first) (bookIn second)) out (onTwo op first second out) left r
+    (accepted-goes 1 first out (λ f. onSecond (op f) second out) af ∙ accepted-goes 2 second out (λ g. made (op (bookIn first) g) out) ag)
+    (two-read op keeps first second out left r bf bs leaves)
+
+pub one-numbered : (op : Contents → Contents) → KeptOne op → NumbersOne op
+one-numbered op keeps book out left r bytes accepted leaves =
+    read-numbered (op (bookIn book)) out (onOne op book out) left r
+    (accepted-goes 1 book out (λ f. made (op f) out) accepted)
+    (one-read op keeps book out left r bytes leaves)
+
+pub numbered : EachCall NumbersTwo NumbersOne
+numbered = each-call NumbersTwo NumbersOne two-numbered one-numbered

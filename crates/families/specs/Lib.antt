@@ -6,4 +6,6 @@ pub mod Limits
 pub mod Within
 pub mod Outcome
 pub mod NewBook
+pub mod Answers
+pub mod EachCall
 pub mod inner

@@ -1,5 +1,5 @@
 -- What a call that answers 0 has written: a new book at the front of the output slice, and nothing beyond it.
-use Prim.Native.Nat.{ℕ}
+use Prim.Native.Nat.{ℕ, _≤_}
 use mathlib.Core.Path.{_≡_}
 use mathlib.Core.List.{List}
 use mathlib.Core.Logic.{_↔_}
@@ -12,6 +12,10 @@ use Rattle.books.specs.Derives.{Member}
 use Rattle.books.specs.Keeps.{Keeps}
 use Rattle.books.specs.Picture.{Picture}
 
+-- these bytes are a book
+abbrev pub Accepted : List ℕ → Type 0
+Accepted s = bookOf s .fault ≡ fault 0 0
+
 -- the contents of the book that these bytes are, and the pictures that it holds
 abbrev pub bookIn : List ℕ → Contents
 bookIn s = contentsIn s (bookOf s .family)
@@ -21,8 +25,9 @@ Held s = Member (bookIn s)
 
 -- the first count bytes of left are a book that keeps the rules and holds exactly the pictures of X; beyond them left is as out was
 pub record NewBook (out left : List ℕ) (count : ℕ) (X : Picture → Type 0) : Type 0 where
-  pub accepted : bookOf (take count left) .fault ≡ fault 0 0
+  pub accepted : Accepted (take count left)
   pub keeps : Keeps (bookIn (take count left))
   pub holds : (p : Picture) → Held (take count left) p ↔ X p
+  pub room : count ≤ length out
   pub beyond : drop count left ≡ drop count out
   pub as-long : length left ≡ length out
