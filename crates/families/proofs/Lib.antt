@@ -24,6 +24,7 @@ pub mod Reading
 pub mod Finishing
 pub mod Outcomes
 pub mod ReadingOff
+pub mod Demand1
 pub mod CallTheorems
 pub mod Refusing
 pub mod Settled
