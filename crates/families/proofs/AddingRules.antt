@@ -15,8 +15,13 @@ use Rattle.families.specs.declared.gathering.Rules.{Rules}
 use Rattle.families.specs.Combine.{copies}
 use Rattle.families.specs.inner.Counts.{headed}
 use Rattle.families.proofs.Copying.{copies-taken, copies-left, copies-raised}
-use Rattle.families.proofs.Counting.{copies-length}
+use Rattle.families.proofs.Counting.{copies-length, headed-few}
 use Rattle.families.specs.inner.Gathered.{standing, followed, raisedBy, changed, Rows}
+use Rattle.families.specs.inner.Lent.{rulesOf, Sized}
+use Rattle.families.specs.inner.Combined.{addedBy}
+use Rattle.families.specs.declared.asked.Pairing.{Pairing}
+use Rattle.families.specs.declared.asked.Pairing.the-variants.{EitherOf, Joined}
+use Rattle.books.specs.declared.family.Family.{Family}
 
 -- the rule at a place, and what a place past the last one has
 abbrev noRule : Rule
@@ -118,3 +123,13 @@ headed-raised k rows by s numbers =
     ∙ ap length (copies-raised 0 by s (λ c. getD numbers c 0) (standing k))
     ∙ length-map (copies 0 s (standing k)) _
     ∙ copies-length 0 s (standing k)
+
+-- No more rules are copied from a start than the family has.
+pub copied-few : (f : Family) → Sized f → headed (f .start) (standing (rulesOf f)) ≤ 200
+copied-few f sized =
+    let few = headed-few (f .start) (standing (rulesOf f)) in
+    omega (arith, sized .rows .few, standing-length (rulesOf f) (sized .rows))
+
+pub added-few : (p : Pairing) (f g : Family) → Sized f → Sized g → addedBy p f g ≤ 400
+added-few EitherOf f g sf sg = omega (arith, copied-few f sf, copied-few g sg)
+added-few (Joined way) f g sf sg = omega arith

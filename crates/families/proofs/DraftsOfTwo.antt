@@ -2,7 +2,7 @@
 -- numbers in the merged list, and the new ones follow.
 use Prim.Native.Nat.{ℕ, _+_, _≤_, _<_}
 use mathlib.Core.Path.{_≡_, refl, sym, _∙_, ap}
-use mathlib.Core.Bool.{true}
+use mathlib.Core.Bool.{Bool, true}
 use mathlib.Core.List.{List, [], _∷_, _++_, map, append-assoc, List·Memᴰ, List·Memᴰ·head, List·Memᴰ·tail}
 use native.Mathlib.Omega.{arith}
 use lib.ListN.{length, getD, length-append}
@@ -20,12 +20,14 @@ use Rattle.books.specs.declared.rule.Body.the-variants.{Colour, Across, Down}
 use Rattle.families.specs.Merged.{merged}
 use Rattle.families.specs.inner.Merges.{Merges}
 use Rattle.families.specs.Combine.{moved, renumbered, raised, copies, joined, either-of}
-use Rattle.families.specs.inner.Counts.{headed}
+use Rattle.families.specs.inner.Asked.{direction, paired}
 use Rattle.families.specs.inner.Gathered.{standing, followed, raisedBy}
 use Rattle.families.specs.inner.Lent.{rulesOf, Lent}
 use Rattle.families.specs.Within.{few?, within?}
-use Rattle.families.specs.inner.Combined.{raisedRules, bothRules, joinedRules, eitherRules}
-use Rattle.families.specs.inner.Made.{draftedAs, Makes}
+use Rattle.families.specs.inner.Combined.{raisedRules, bothRules, addedBy, pairRules}
+use Rattle.families.specs.inner.Made.{draftedAs, MakesPair}
+use Rattle.families.specs.declared.asked.Pairing.{Pairing}
+use Rattle.families.specs.declared.asked.Pairing.the-variants.{EitherOf, Joined}
 use Rattle.families.specs.declared.merge.Merged.{Merged}
 use Rattle.families.proofs.Counting.{copies-length, joined-length, either-of-length}
 use Rattle.families.proofs.Testing.{within-counts}
@@ -97,42 +99,31 @@ module _ (s t : List ℕ) (f g : Family) (m : Merged) (lf : Lent s f) (lg : Lent
   more-few : m .more .count ≤ 64
   more-few = omega (arith, mm .few, lg .fitted .sized .colours-few)
 
-  -- Beside and above.
-  module _ (d : Dir) where
-    abbrev newRule : Rule
-    newRule = record { head = f .motifs + g .motifs; body = joins d (f .start) (f .motifs + g .start) }
+  -- the motifs and the colours of any pairing, tested with the rules that it adds
+  abbrev tested : ℕ → Bool
+  tested added = few? (f .colours .count + m .more .count) (f .motifs + g .motifs + 1) (f .count + g .count + added)
 
-    pub joined-test : within? (joined d first second) ≡ few? (f .colours .count + m .more .count) (f .motifs + g .motifs + 1) (f .count + g .count + 1)
-    unfolding joined
-    joined-test =
-        let rules : length (joined d first second .rules) ≡ f .count + g .count + 1 = joined-length d first second ∙ omega (arith, first-count, second-count) in
-        within-counts (joined d first second) _ _ _ merged-count refl rules
+  joined-test : (d : Dir) → within? (joined d first second) ≡ tested 1
+  unfolding joined
+  joined-test d =
+      let rules : length (joined d first second .rules) ≡ f .count + g .count + 1 = joined-length d first second ∙ omega (arith, first-count, second-count) in
+      within-counts (joined d first second) _ _ _ merged-count refl rules
 
-    pub joined-makes : f .count + g .count + 1 ≤ 200 → within? (joined d first second) ≡ true
-        → Makes s t (joined d first second) (draftedAs f (m .more) (f .motifs + g .motifs + 1) (f .motifs + g .motifs) (joinedRules d f g (m .numbers)))
-    unfolding joined joinedRules
-    joined-makes room small =
-        let both : List Rule = first .rules ++ risen in
-        let last : length both + 1 ≤ 200 = omega (arith, length-append (first .rules) risen, first-count, risen-count) in
-        let st = followed-stands (bothRules f g (m .numbers)) both (both-stand (omega arith)) (newRule ∷ []) last in
-        drafted-makes s t f (m .more) (joinedRules d f g (m .numbers)) (joined d first second) (lf .fitted .sized) more-few (st .rows)
-        (mm .names)
-        (st .are ∙ simp (risen-are, append-assoc))
-        small
-
-  -- Either-of.
-  pub either-of-test : within? (either-of first second)
-      ≡ few? (f .colours .count + m .more .count) (f .motifs + g .motifs + 1) (f .count + g .count + headed (f .start) (first .rules) + headed (g .start) (second .rules))
+  either-of-test : within? (either-of first second) ≡ tested (addedBy EitherOf f g)
   unfolding either-of
   either-of-test =
-      let rules : length (either-of first second .rules) ≡ f .count + g .count + headed (f .start) (first .rules) + headed (g .start) (second .rules) =
+      let rules : length (either-of first second .rules) ≡ f .count + g .count + addedBy EitherOf f g =
       either-of-length first second ∙ omega (arith, first-count, second-count) in
       within-counts (either-of first second) _ _ _ merged-count refl rules
 
-  pub either-of-makes : f .count + g .count + headed (f .start) (first .rules) + headed (g .start) (second .rules) ≤ 200 → within? (either-of first second) ≡ true
-      → Makes s t (either-of first second) (draftedAs f (m .more) (f .motifs + g .motifs + 1) (f .motifs + g .motifs) (eitherRules f g (m .numbers)))
-  unfolding either-of eitherRules
-  either-of-makes room small =
+  pub pair-test : (p : Pairing) → within? (paired p first second) ≡ tested (addedBy p f g)
+  pair-test EitherOf = either-of-test
+  pair-test (Joined way) = joined-test (direction way)
+
+  pub pair-makes : (p : Pairing) → f .count + g .count + addedBy p f g ≤ 200 → within? (paired p first second) ≡ true
+      → MakesPair p s f t g (draftedAs f (m .more) (f .motifs + g .motifs + 1) (f .motifs + g .motifs) (pairRules p f g (m .numbers)))
+  unfolding either-of joined pairRules
+  pair-makes EitherOf room small =
       let new : ℕ = f .motifs + g .motifs in
       let both : List Rule = first .rules ++ risen in
       let own : List Rule = copies new (f .start) (first .rules) in
@@ -143,7 +134,16 @@ module _ (s t : List ℕ) (f g : Family) (m : Merged) (lf : Lent s f) (lg : Lent
       let longer = followed-stands (bothRules f g (m .numbers)) both (both-stand (omega arith)) own (omega arith) in
       let last : length (both ++ own) + length other ≤ 200 = omega (arith, length-append both own) in
       let st = followed-stands (followed (bothRules f g (m .numbers)) own) (both ++ own) longer other last in
-      drafted-makes s t f (m .more) (eitherRules f g (m .numbers)) (either-of first second) (lf .fitted .sized) more-few (st .rows)
+      drafted-makes s t f (m .more) (pairRules EitherOf f g (m .numbers)) (either-of first second) (lf .fitted .sized) more-few (st .rows)
+      (mm .names)
+      (st .are ∙ simp (risen-are, append-assoc))
+      small
+  pair-makes (Joined way) room small =
+      let both : List Rule = first .rules ++ risen in
+      let new : Rule = record { head = f .motifs + g .motifs; body = joins (direction way) (f .start) (f .motifs + g .start) } in
+      let last : length both + 1 ≤ 200 = omega (arith, length-append (first .rules) risen, first-count, risen-count) in
+      let st = followed-stands (bothRules f g (m .numbers)) both (both-stand (omega arith)) (new ∷ []) last in
+      drafted-makes s t f (m .more) (pairRules (Joined way) f g (m .numbers)) (joined (direction way) first second) (lf .fitted .sized) more-few (st .rows)
       (mm .names)
       (st .are ∙ simp (risen-are, append-assoc))
       small

@@ -22,18 +22,22 @@ use Rattle.books.specs.Answer.{plain, Packs}
 use Rattle.books.specs.declared.writing.Written.{Written}
 use Rattle.books.proofs.Packing.{plain-packs}
 use Rattle.books.proofs.LongestBook.{spelling-length}
+use Rattle.families.specs.Combine.{rebodied}
 use Rattle.families.specs.Limits.{WithinLimits}
 use Rattle.families.specs.Within.{within?}
 use Rattle.families.specs.inner.Made.{Makes}
 use Rattle.families.specs.Outcome.{Outcome, written, made, Leaves}
-use Rattle.families.specs.inner.Calls.{paired, alone, finished, Finishes}
+use Rattle.families.specs.inner.Asked.{direction, changedBody, paired, alone}
+use Rattle.families.specs.inner.Finished.{finished, Finishes}
 use Rattle.families.specs.declared.making.Made.{Made}
-use Rattle.families.specs.declared.answering.Pairing.{Pairing}
-use Rattle.families.specs.declared.answering.Pairing.the-variants.{EitherOf, Beside, Above}
-use Rattle.families.specs.declared.answering.Single.{Single}
-use Rattle.families.specs.declared.answering.Single.the-variants.{Run, Stack, Mirrored, Flipped, Transposed}
+use Rattle.families.specs.declared.asked.Change.{Change}
+use Rattle.families.specs.declared.asked.Change.the-variants.{Mirrored, Flipped, Transposed}
+use Rattle.families.specs.declared.asked.Pairing.{Pairing}
+use Rattle.families.specs.declared.asked.Pairing.the-variants.{EitherOf, Joined}
+use Rattle.families.specs.declared.asked.Single.{Single}
+use Rattle.families.specs.declared.asked.Single.the-variants.{Repeated, Changed}
 use Rattle.families.proofs.Testing.{within-limits}
-use Rattle.families.proofs.Keeping.{joined-keeps, either-of-keeps, repeated-keeps, transposed-keeps, swapping-keeps}
+use Rattle.families.proofs.Keeping.{KeptTwo, KeptOne, joined-keeps, either-of-keeps, repeated-keeps, transposed-keeps, swapping-keeps}
 use Rattle.books.specs.Picture.{across, down}
 
 -- A choice whose test is known.
@@ -56,17 +60,18 @@ written-by c out =
     (true-or-false (leb (length (spellBook c)) (length out)))
 
 -- A combination of books that keep the rules keeps them where it is within the limits.
-pub paired-keeps : (p : Pairing) (f g : Contents) → Keeps f → Keeps g → WithinLimits (paired p f g) → Keeps (paired p f g)
-paired-keeps EitherOf f g = either-of-keeps f g
-paired-keeps Beside f g = joined-keeps across f g
-paired-keeps Above f g = joined-keeps down f g
+pub paired-keeps : (p : Pairing) → KeptTwo (paired p)
+paired-keeps EitherOf = either-of-keeps
+paired-keeps (Joined way) = joined-keeps (direction way)
 
-pub alone-keeps : (p : Single) (f : Contents) → Keeps f → WithinLimits (alone p f) → Keeps (alone p f)
-alone-keeps Run f k = repeated-keeps across f k
-alone-keeps Stack f k = repeated-keeps down f k
-alone-keeps Mirrored f k = λ _. swapping-keeps across f k
-alone-keeps Flipped f k = λ _. swapping-keeps down f k
-alone-keeps Transposed f k = λ _. transposed-keeps f k
+changed-keeps : (change : Change) (f : Contents) → Keeps f → Keeps (rebodied (changedBody change) f)
+changed-keeps Mirrored = swapping-keeps across
+changed-keeps Flipped = swapping-keeps down
+changed-keeps Transposed = transposed-keeps
+
+pub alone-keeps : (p : Single) → KeptOne (alone p)
+alone-keeps (Repeated way) = repeated-keeps (direction way)
+alone-keeps (Changed change) = λ f k _. changed-keeps change f k
 
 module _ (s t : List ℕ) (c : Contents) (m : Made) (makes : Makes s t c m) where
   pub finishes : (WithinLimits c → Keeps c) → Finishes s t m

@@ -1,8 +1,8 @@
 pub mod Counts
 pub mod Merges
 pub mod Gathered
-pub mod Changed
+pub mod Asked
 pub mod Lent
 pub mod Combined
 pub mod Made
-pub mod Calls
+pub mod Finished

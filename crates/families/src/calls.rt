@@ -1,7 +1,9 @@
 // The eight combinations as calls for the C host. Each takes the lent books and an output slice, and answers one number.
 use crate::answering;
-use crate::answering::Pairing;
-use crate::answering::Single;
+use crate::asked::Change;
+use crate::asked::Pairing;
+use crate::asked::Single;
+use crate::asked::Way;
 ghost use Rattle.families.specs.Combine.{either-of, beside, above, run, stack, mirrored, flipped, transposed};
 ghost use Rattle.families.specs.Outcome.{onOne, onTwo, Leaves};
 
@@ -18,7 +20,7 @@ pub extern "C" fn dv_either_of(first: &[u8], second: &[u8], out: &mut [u8]) -> u
 pub extern "C" fn dv_beside(first: &[u8], second: &[u8], out: &mut [u8]) -> u64
     ensures { λ r. ⌜ Leaves (onTwo beside (now (first .entry)) (now (second .entry)) (now (out .entry))) r (now (out .exit)) ⌝ }
 {
-    answering::on_two(Pairing::Beside, first, second, out)
+    answering::on_two(Pairing::Joined(Way::Across), first, second, out)
 }
 
 // The first book's sheets with the second's below them.
@@ -26,7 +28,7 @@ pub extern "C" fn dv_beside(first: &[u8], second: &[u8], out: &mut [u8]) -> u64
 pub extern "C" fn dv_above(first: &[u8], second: &[u8], out: &mut [u8]) -> u64
     ensures { λ r. ⌜ Leaves (onTwo above (now (first .entry)) (now (second .entry)) (now (out .entry))) r (now (out .exit)) ⌝ }
 {
-    answering::on_two(Pairing::Above, first, second, out)
+    answering::on_two(Pairing::Joined(Way::Down), first, second, out)
 }
 
 // One or more of the book's sheets side by side.
@@ -34,7 +36,7 @@ pub extern "C" fn dv_above(first: &[u8], second: &[u8], out: &mut [u8]) -> u64
 pub extern "C" fn dv_run(book: &[u8], out: &mut [u8]) -> u64
     ensures { λ r. ⌜ Leaves (onOne run (now (book .entry)) (now (out .entry))) r (now (out .exit)) ⌝ }
 {
-    answering::on_one(Single::Run, book, out)
+    answering::on_one(Single::Repeated(Way::Across), book, out)
 }
 
 // One or more of the book's sheets on top of each other.
@@ -42,7 +44,7 @@ pub extern "C" fn dv_run(book: &[u8], out: &mut [u8]) -> u64
 pub extern "C" fn dv_stack(book: &[u8], out: &mut [u8]) -> u64
     ensures { λ r. ⌜ Leaves (onOne stack (now (book .entry)) (now (out .entry))) r (now (out .exit)) ⌝ }
 {
-    answering::on_one(Single::Stack, book, out)
+    answering::on_one(Single::Repeated(Way::Down), book, out)
 }
 
 // The book's sheets with left and right exchanged.
@@ -50,7 +52,7 @@ pub extern "C" fn dv_stack(book: &[u8], out: &mut [u8]) -> u64
 pub extern "C" fn dv_mirrored(book: &[u8], out: &mut [u8]) -> u64
     ensures { λ r. ⌜ Leaves (onOne mirrored (now (book .entry)) (now (out .entry))) r (now (out .exit)) ⌝ }
 {
-    answering::on_one(Single::Mirrored, book, out)
+    answering::on_one(Single::Changed(Change::Mirrored), book, out)
 }
 
 // The book's sheets with top and bottom exchanged.
@@ -58,7 +60,7 @@ pub extern "C" fn dv_mirrored(book: &[u8], out: &mut [u8]) -> u64
 pub extern "C" fn dv_flipped(book: &[u8], out: &mut [u8]) -> u64
     ensures { λ r. ⌜ Leaves (onOne flipped (now (book .entry)) (now (out .entry))) r (now (out .exit)) ⌝ }
 {
-    answering::on_one(Single::Flipped, book, out)
+    answering::on_one(Single::Changed(Change::Flipped), book, out)
 }
 
 // The book's sheets with rows and columns exchanged.
@@ -66,5 +68,5 @@ pub extern "C" fn dv_flipped(book: &[u8], out: &mut [u8]) -> u64
 pub extern "C" fn dv_transposed(book: &[u8], out: &mut [u8]) -> u64
     ensures { λ r. ⌜ Leaves (onOne transposed (now (book .entry)) (now (out .entry))) r (now (out .exit)) ⌝ }
 {
-    answering::on_one(Single::Transposed, book, out)
+    answering::on_one(Single::Changed(Change::Transposed), book, out)
 }

@@ -1,17 +1,11 @@
 // Mirrored, flipped and transposed rules.
+use crate::asked::Change;
 use crate::gathering::Rules;
 use books::rule::Body;
 use books::rule::Rule;
 ghost use mathlib.Core.Path.{_≡_};
 ghost use Rattle.families.specs.inner.Gathered.{changed, Rows};
-ghost use Rattle.families.specs.inner.Changed.{changedBody, changedRule};
-
-// Mirrored exchanges left and right, flipped upper and lower, transposed rows and columns.
-pub(crate) enum Change {
-    Mirrored,
-    Flipped,
-    Transposed,
-}
+ghost use Rattle.families.specs.inner.Asked.{changedBody, changedRule};
 
 fn change_across(change: Change, left: u8, right: u8) -> Body
     ensures { λ r. ⌜ r ≡ changedBody change (Body.Across left right) ⌝ }

@@ -1,16 +1,19 @@
 // The rules of a combination, gathered from the families of one or two books.
+use crate::asked::Pairing;
+use crate::asked::Way;
 use crate::gathering;
 use crate::gathering::Rules;
-use crate::way;
-use crate::way::Way;
 use books::family::Family;
+use books::rule::Body;
+use books::rule::Rule;
 ghost use mathlib.Core.Path.{_≡_};
-ghost use Prim.Native.Nat.{_+_, _≤_};
-ghost use Rattle.families.specs.inner.Changed.{direction};
+ghost use Prim.Native.Nat.{_+_, _≤_, _<_};
+ghost use Rattle.books.specs.Picture.{joins};
+ghost use Rattle.families.specs.inner.Asked.{direction};
 ghost use Rattle.families.specs.inner.Counts.{headed};
 ghost use Rattle.families.specs.inner.Gathered.{standing};
-ghost use Rattle.families.specs.inner.Lent.{rulesOf, Sized, Fitted};
-ghost use Rattle.families.specs.inner.Combined.{joinedRules, eitherRules, repeatedRules};
+ghost use Rattle.families.specs.inner.Lent.{rulesOf, Sized};
+ghost use Rattle.families.specs.inner.Combined.{addedBy, PairFits, pairRules, repeatedRules};
 
 // A family's rules by themselves.
 pub(crate) fn rules_of(f: Family) -> Rules
@@ -31,29 +34,51 @@ pub(crate) fn start_rules(f: Family) -> usize
     gathering::count_headed(rules_of(f), f.start)
 }
 
-// Either-of: both families' rules, and copies of those of both starts under the new start.
-pub(crate) fn either_rules(f: Family, g: Family, numbers: [u8; 64]) -> Rules
-    requires { ⌜ Sized f × Fitted g × (f .count + g .count + headed (f .start) (standing (rulesOf f)) + headed (g .start) (standing (rulesOf g)) ≤ 200) ⌝ }
-    ensures { λ r. ⌜ r ≡ eitherRules f g numbers ⌝ }
+// How many rules a pairing adds to those of both families.
+pub(crate) fn added_by(pairing: Pairing, f: Family, g: Family) -> usize
+    requires { ⌜ Sized f × Sized g ⌝ }
+    ensures { λ r. ⌜ r ≡ addedBy pairing f g ⌝ }
+{
+    match pairing {
+        Pairing::EitherOf => start_rules(f) + start_rules(g),
+        Pairing::Joined(_) => 1,
+    }
+}
+
+// The rule that joins two motifs.
+fn join_rule(way: Way, head: usize, first: usize, second: usize) -> Rule
+    requires { ⌜ (head < 256) × (first < 256) × (second < 256) ⌝ }
+    ensures { λ r. ⌜ r ≡ record { head = head; body = joins (direction way) first second } ⌝ }
+{
+    match way {
+        Way::Across => Rule {
+            head: head as u8,
+            body: Body::Across(first as u8, second as u8),
+        },
+        Way::Down => Rule {
+            head: head as u8,
+            body: Body::Down(first as u8, second as u8),
+        },
+    }
+}
+
+// Both families' rules, and under the new start copies of those of both starts, or the rule that joins both starts.
+pub(crate) fn pair_rules(pairing: Pairing, f: Family, g: Family, numbers: [u8; 64]) -> Rules
+    requires { ⌜ PairFits pairing f g ⌝ }
+    ensures { λ r. ⌜ r ≡ pairRules pairing f g numbers ⌝ }
 {
     let own = rules_of(f);
     let raised = gathering::raise_rules(rules_of(g), f.motifs, numbers);
-    let start = f.motifs + g.motifs;
     let both = gathering::add_rules(own, raised);
-    let longer = gathering::add_copies(both, own, f.start, start);
-    gathering::add_copies(longer, raised, f.motifs + g.start, start)
-}
-
-// Beside or above: both families' rules, and the new start joins both starts.
-pub(crate) fn joined_rules(way: Way, f: Family, g: Family, numbers: [u8; 64]) -> Rules
-    requires { ⌜ Sized f × Fitted g × (f .count + g .count + 1 ≤ 200) ⌝ }
-    ensures { λ r. ⌜ r ≡ joinedRules (direction way) f g numbers ⌝ }
-{
-    let raised = gathering::raise_rules(rules_of(g), f.motifs, numbers);
-    let both = gathering::add_rules(rules_of(f), raised);
     let start = f.motifs + g.motifs;
-    let rule = way::join_rule(way, start, f.start, f.motifs + g.start);
-    gathering::add_rule(both, rule)
+    let other = f.motifs + g.start;
+    match pairing {
+        Pairing::EitherOf => {
+            let longer = gathering::add_copies(both, own, f.start, start);
+            gathering::add_copies(longer, raised, other, start)
+        }
+        Pairing::Joined(way) => gathering::add_rule(both, join_rule(way, start, f.start, other)),
+    }
 }
 
 // Run or stack: copies of the start's rules under the new start, which joins the old start with itself.
@@ -63,6 +88,6 @@ pub(crate) fn repeated_rules(way: Way, f: Family) -> Rules
 {
     let own = rules_of(f);
     let longer = gathering::add_copies(own, own, f.start, f.motifs);
-    let rule = way::join_rule(way, f.motifs, f.start, f.motifs);
+    let rule = join_rule(way, f.motifs, f.start, f.motifs);
     gathering::add_rule(longer, rule)
 }

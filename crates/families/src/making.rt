@@ -1,23 +1,20 @@
 // The combinations as drafts. The counts of what is to be made are tested before anything is gathered.
+use crate::asked::Change;
+use crate::asked::Pairing;
+use crate::asked::Single;
+use crate::asked::Way;
 use crate::changing;
-use crate::changing::Change;
 use crate::combining;
 use crate::gathering::Rules;
 use crate::merge;
-use crate::way::Way;
 use books::draft::Draft;
 use books::family::Family;
 use names::colours;
 use names::colours::Colours;
 ghost use mathlib.Core.Path.{_≡_};
-ghost use mathlib.Core.List.{List};
-ghost use Prim.Native.Nat.{ℕ};
-ghost use Rattle.books.specs.ContentsIn.{contentsIn};
-ghost use Rattle.families.specs.Combine.{either-of, joined, repeated, rebodied};
-ghost use Rattle.families.specs.inner.Changed.{changedBody, direction};
-ghost use Rattle.families.specs.inner.Lent.{Sized, Lent};
 ghost use Rattle.families.specs.Within.{few?};
-ghost use Rattle.families.specs.inner.Made.{draftedAs, tooMuch, Makes};
+ghost use Rattle.families.specs.inner.Lent.{Sized, Lent};
+ghost use Rattle.families.specs.inner.Made.{draftedAs, tooMuch, MakesPair, MakesSingle};
 
 // Whether a combination is within the limits, and its draft; where it is not, the draft is that of the first book.
 pub(crate) struct Made {
@@ -53,59 +50,35 @@ fn drafting(f: Family, more: Colours, motifs: usize, start: usize, l: Rules) -> 
 {
     let colours = f.colours;
     let rules = l.rules;
+    let family = Family {
+        colours,
+        motifs,
+        start,
+        count: l.count,
+        rules,
+    };
     Made {
         within: true,
-        draft: Draft {
-            family: Family {
-                colours,
-                motifs,
-                start,
-                count: l.count,
-                rules,
-            },
-            more,
-        },
+        draft: Draft { family, more },
     }
 }
 
-// Either-of: one rule for each that is copied from a start.
-pub(crate) fn make_either_of(first: &[u8], f: Family, second: &[u8], g: Family) -> Made
+// A pairing has one motif more than both books, and the rules that it adds to theirs.
+pub(crate) fn make_pair(pairing: Pairing, first: &[u8], f: Family, second: &[u8], g: Family) -> Made
     requires { ⌜ Lent (now first) f × Lent (now second) g ⌝ }
-    ensures { λ r. ⌜ Makes (now (first .entry)) (now (second .entry)) (either-of (contentsIn (now (first .entry)) f) (contentsIn (now (second .entry)) g)) r ⌝ }
+    ensures { λ r. ⌜ MakesPair pairing (now (first .entry)) f (now (second .entry)) g r ⌝ }
 {
     let m = merge::merge(first, f.colours, second, g.colours);
     let more = m.more;
     let start = f.motifs + g.motifs;
-    let own = combining::start_rules(f);
-    let other = combining::start_rules(g);
+    let added = combining::added_by(pairing, f, g);
     if within(
         f.colours.count + more.count,
         start + 1,
-        f.count + g.count + own + other,
+        f.count + g.count + added,
     ) {
         let numbers = m.numbers;
-        let rules = combining::either_rules(f, g, numbers);
-        drafting(f, more, start + 1, start, rules)
-    } else {
-        exceeding(f)
-    }
-}
-
-// Beside or above: one rule more than both books have.
-pub(crate) fn make_joined(way: Way, first: &[u8], f: Family, second: &[u8], g: Family) -> Made
-    requires { ⌜ Lent (now first) f × Lent (now second) g ⌝ }
-    ensures { λ r. ⌜ Makes (now (first .entry)) (now (second .entry)) (joined (direction way) (contentsIn (now (first .entry)) f) (contentsIn (now (second .entry)) g)) r ⌝ }
-{
-    let m = merge::merge(first, f.colours, second, g.colours);
-    let more = m.more;
-    let start = f.motifs + g.motifs;
-    if within(
-        f.colours.count + more.count,
-        start + 1,
-        f.count + g.count + 1,
-    ) {
-        let numbers = m.numbers;
-        let rules = combining::joined_rules(way, f, g, numbers);
+        let rules = combining::pair_rules(pairing, f, g, numbers);
         drafting(f, more, start + 1, start, rules)
     } else {
         exceeding(f)
@@ -113,9 +86,9 @@ pub(crate) fn make_joined(way: Way, first: &[u8], f: Family, second: &[u8], g: F
 }
 
 // Run or stack: one rule for each that is copied from the start, and the rule that joins.
-pub(crate) fn make_repeated(way: Way, f: Family) -> Made
+fn make_repeated(way: Way, f: Family) -> Made
     requires { ⌜ Sized f ⌝ }
-    ensures { λ r. ⌜ ((s t : List ℕ) → Makes s t (repeated (direction way) (contentsIn s f)) r) ⌝ }
+    ensures { λ r. ⌜ MakesSingle (Single.Repeated way) f r ⌝ }
 {
     let own = combining::start_rules(f);
     if within(f.colours.count, f.motifs + 1, f.count + own + 1) {
@@ -128,11 +101,21 @@ pub(crate) fn make_repeated(way: Way, f: Family) -> Made
 }
 
 // Mirrored, flipped or transposed: no count changes.
-pub(crate) fn make_changed(change: Change, f: Family) -> Made
+fn make_changed(change: Change, f: Family) -> Made
     requires { ⌜ Sized f ⌝ }
-    ensures { λ r. ⌜ ((s t : List ℕ) → Makes s t (rebodied (changedBody change) (contentsIn s f)) r) ⌝ }
+    ensures { λ r. ⌜ MakesSingle (Single.Changed change) f r ⌝ }
 {
     let rules = changing::change_rules(change, combining::rules_of(f));
     let more = colours::no_colours();
     drafting(f, more, f.motifs, f.start, rules)
+}
+
+pub(crate) fn make_single(single: Single, f: Family) -> Made
+    requires { ⌜ Sized f ⌝ }
+    ensures { λ r. ⌜ MakesSingle single f r ⌝ }
+{
+    match single {
+        Single::Repeated(way) => make_repeated(way, f),
+        Single::Changed(change) => make_changed(change, f),
+    }
 }

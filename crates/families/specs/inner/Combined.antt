@@ -1,11 +1,15 @@
 -- The rules of a combination, as they are gathered from families that were read. A colour of a second family gets its number from a list.
-use Prim.Native.Nat.{ℕ, _+_}
+use Prim.Native.Nat.{ℕ, _+_, _≤_}
 use mathlib.Core.List.{List, [], _∷_}
 use Rattle.books.specs.Picture.{Dir, joins}
 use Rattle.books.specs.declared.family.Family.{Family}
 use Rattle.families.specs.Combine.{copies}
+use Rattle.families.specs.inner.Asked.{direction}
+use Rattle.families.specs.inner.Counts.{headed}
 use Rattle.families.specs.inner.Gathered.{standing, followed, raisedBy, changed}
-use Rattle.families.specs.inner.Lent.{rulesOf}
+use Rattle.families.specs.inner.Lent.{rulesOf, Sized, Fitted}
+use Rattle.families.specs.declared.asked.Pairing.{Pairing}
+use Rattle.families.specs.declared.asked.Pairing.the-variants.{EitherOf, Joined}
 use Rattle.families.specs.declared.gathering.Rules.{Rules}
 
 -- the second family's rules, raised
@@ -16,15 +20,24 @@ raisedRules f g numbers = changed (raisedBy (f .motifs) numbers) (rulesOf g)
 abbrev pub bothRules : Family → Family → List ℕ → Rules
 bothRules f g numbers = followed (rulesOf f) (standing (raisedRules f g numbers))
 
-unfoldable pub joinedRules : Dir → Family → Family → List ℕ → Rules
-joinedRules d f g numbers =
-    followed (bothRules f g numbers) (record { head = f .motifs + g .motifs; body = joins d (f .start) (f .motifs + g .start) } ∷ [])
+-- how many rules a pairing adds
+abbrev pub addedBy : Pairing → Family → Family → ℕ
+addedBy EitherOf f g = headed (f .start) (standing (rulesOf f)) + headed (g .start) (standing (rulesOf g))
+addedBy (Joined way) f g = 1
 
-unfoldable pub eitherRules : Family → Family → List ℕ → Rules
-eitherRules f g numbers =
+-- two families as they are read, with room for what a pairing adds
+pub record PairFits (p : Pairing) (f g : Family) : Type 0 where
+  pub own : Sized f
+  pub other : Fitted g
+  pub room : f .count + g .count + addedBy p f g ≤ 200
+
+unfoldable pub pairRules : Pairing → Family → Family → List ℕ → Rules
+pairRules EitherOf f g numbers =
     followed
     (followed (bothRules f g numbers) (copies (f .motifs + g .motifs) (f .start) (standing (rulesOf f))))
     (copies (f .motifs + g .motifs) (f .motifs + g .start) (standing (raisedRules f g numbers)))
+pairRules (Joined way) f g numbers =
+    followed (bothRules f g numbers) (record { head = f .motifs + g .motifs; body = joins (direction way) (f .start) (f .motifs + g .start) } ∷ [])
 
 unfoldable pub repeatedRules : Dir → Family → Rules
 repeatedRules d f =

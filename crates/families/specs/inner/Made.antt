@@ -7,8 +7,12 @@ use Rattle.names.specs.Colours.{noColours}
 use Rattle.names.specs.declared.colours.Colours.{Colours}
 use Rattle.books.specs.declared.family.Family.{Family}
 use Rattle.books.specs.Contents.{Contents}
+use Rattle.books.specs.ContentsIn.{contentsIn}
 use Rattle.books.specs.inner.Draft.{draftIn, DraftFits}
 use Rattle.families.specs.Within.{within?}
+use Rattle.families.specs.inner.Asked.{paired, alone}
+use Rattle.families.specs.declared.asked.Pairing.{Pairing}
+use Rattle.families.specs.declared.asked.Single.{Single}
 use Rattle.families.specs.declared.gathering.Rules.{Rules}
 use Rattle.families.specs.declared.making.Made.{Made}
 
@@ -32,3 +36,11 @@ pub record Makes (s t : List ℕ) (c : Contents) (m : Made) : Type 0 where
   pub tested : m .within ≡ within? c
   pub drafted : m .within ≡ true → draftIn s t (m .draft) ≡ c
   pub ready : DraftFits (m .draft)
+
+-- ... of families that were read from them
+abbrev pub MakesPair : Pairing → List ℕ → Family → List ℕ → Family → Made → Type 0
+MakesPair p s f t g = Makes s t (paired p (contentsIn s f) (contentsIn t g))
+
+-- ... and of one family, whichever book stands as the second
+abbrev pub MakesSingle : Single → Family → Made → Type 0
+MakesSingle p f m = (s t : List ℕ) → Makes s t (alone p (contentsIn s f)) m

@@ -6,42 +6,62 @@ use denote.Ref.{now}
 use Rattle.books.specs.Contents.{Contents}
 use Rattle.books.specs.ContentsIn.{contentsIn}
 use Rattle.families.specs.inner.Lent.{Lent}
-use Rattle.families.specs.inner.Calls.{alone}
+use Rattle.families.specs.inner.Asked.{alone}
 use Rattle.families.proofs.Reading.{read-lent, read-accepted, blamed-packs, blamed-leaves}
 use Rattle.families.proofs.Finishing.{alone-keeps, finishes, finished-leaves}
 use borrow.Author.Needs.{needs}
 use Rattle.families.proofs.answering.on_one.Statement.{statement}
 use Rattle.families.proofs.answering.on_one.Tie as tie
 
+-- where the book was read, from where its fault is looked at, and the start
+abbrev read : tie.After-struct-known → tie.After-read-book
+read c = c .before .before
+
+abbrev began : tie.After-read-book → tie.Start
+began r = r .before .before .before
+
+abbrev book : tie.After-read-book → List ℕ
+book r = now (began r .args .book)
+
 pack-requires : tie.Need-pack-requires
-pack-requires c κs = blamed-packs (now (c .before .before .before .before .before .before .before .args .book)) _ (c .before .before .before .before .read-book .ensures) 1 _ (c .blame .ensures) (omega arith)
+pack-requires c κs =
+    let r = read (c .before .before) in
+    blamed-packs (book r) _ (r .read-book .ensures) 1 _ (c .blame .ensures) (omega arith)
 
 returns : tie.Need-returns
-returns c = blamed-leaves (now (c .before .before .before .before .before .before .before .before .args .book)) _ (c .before .before .before .before .before .read-book .ensures) 1 _ (c .before .blame .ensures) _ _ _ (c .before .before .if1 .taken) (c .pack .ensures)
+returns c =
+    let test = c .before .before in
+    let r = read (test .before) in
+    blamed-leaves (book r) _ (r .read-book .ensures) 1 _ (c .before .blame .ensures) _ _ _ (test .if1 .taken) (c .pack .ensures)
 
 -- the book, which was accepted
-book-lent : (c : tie.After-f) → Lent (now (c .before .before .before .before .before .before .before .args .book)) (c .before .before .before .before .read-book .result .family)
-book-lent c = read-lent (now (c .before .before .before .before .before .before .before .args .book)) _ (c .before .before .before .before .read-book .ensures) (λ i. c .before .before .before .before .before .before .shared-slice-known .given i .fits) (c .before .if1 .left)
+book-lent : (c : tie.Else1) → let r = read (c .before) in Lent (book r) (r .read-book .result .family)
+book-lent c =
+    let r = read (c .before) in
+    read-lent (book r) _ (r .read-book .ensures) (λ i. r .before .before .shared-slice-known .given i .fits) (c .if1 .left)
 
 make-single-requires : tie.Need-make-single-requires
-make-single-requires c κs = book-lent c .fitted .sized
+make-single-requires c κs = book-lent (c .before) .fitted .sized
 
 finish-requires : tie.Need-finish-requires
 finish-requires c κs =
-    let a = c .before .before .before .before .before .before .before .before .before .args in
-    let s : List ℕ = now (a .book) in
-    let book : Contents = contentsIn s (c .before .before .before .before .before .before .read-book .result .family) in
-    finishes s s (alone (a .single) book) (c .before .make-single .result) (c .before .make-single .ensures s s)
-    (alone-keeps (a .single) book (book-lent (c .before .before) .keeps))
+    let accepted = c .before .before .before in
+    let r = read (accepted .before) in
+    let single = began r .args .single in
+    let contents : Contents = contentsIn (book r) (r .read-book .result .family) in
+    finishes (book r) (book r) (alone single contents) (c .before .make-single .result) (c .before .make-single .ensures (book r) (book r))
+    (alone-keeps single contents (book-lent accepted .keeps))
 
 returns-2 : tie.Need-returns-2
 returns-2 c =
-    let a = c .before .before .before .before .before .before .before .before .before .before .before .before .args in
-    let s : List ℕ = now (a .book) in
-    let b = c .before .before .before .before .before .before .before .before .before .read-book .result in
-    let made = c .before .before .before .before .make-single in
-    let accepted = read-accepted s b (c .before .before .before .before .before .before .before .before .before .read-book .ensures) 1 (now (a .out)) _ (c .before .before .before .before .before .before .if1 .left) in
-    finished-leaves s s (alone (a .single) (contentsIn s (b .family))) (made .result) (made .ensures s s) _ (now (a .out)) _ _ accepted (c .before .before .finish .ensures)
+    let made = c .before .before .before .before in
+    let accepted = made .before .before in
+    let r = read (accepted .before) in
+    let a = began r .args in
+    let family = r .read-book .result .family in
+    let went = read-accepted (book r) _ (r .read-book .ensures) 1 (now (a .out)) _ (accepted .if1 .left) in
+    finished-leaves (book r) (book r) (alone (a .single) (contentsIn (book r) family)) (made .make-single .result) (made .make-single .ensures (book r) (book r))
+    _ (now (a .out)) _ _ went (c .before .before .finish .ensures)
 
 pub on-one-spec : {M : Type 1} → statement M
 on-one-spec =

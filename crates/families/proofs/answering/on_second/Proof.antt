@@ -1,46 +1,72 @@
 -- A refused second book is blamed; of two accepted ones the combination is made, which keeps the rules, so that its length can be answered, and finished.
+use Prim.Native.Nat.{ℕ}
+use mathlib.Core.List.{List}
 use native.Mathlib.Omega.{arith}
 use denote.Ref.{now}
 use Rattle.books.specs.Contents.{Contents}
 use Rattle.books.specs.ContentsIn.{contentsIn}
 use Rattle.families.specs.inner.Lent.{Lent}
-use Rattle.families.specs.inner.Calls.{paired}
+use Rattle.families.specs.inner.Asked.{paired}
 use Rattle.families.proofs.Reading.{read-lent, read-accepted, blamed-packs, blamed-leaves}
 use Rattle.families.proofs.Finishing.{paired-keeps, finishes, finished-leaves}
 use borrow.Author.Needs.{needs}
 use Rattle.families.proofs.answering.on_second.Statement.{statement}
 use Rattle.families.proofs.answering.on_second.Tie as tie
 
+-- where the second book was read, from where its fault is looked at, and the start
+abbrev read : tie.After-struct-known → tie.After-read-book
+read c = c .before .before
+
+abbrev began : tie.After-read-book → tie.Start
+began r = r .before .before .before .before
+
+abbrev second : tie.After-read-book → List ℕ
+second r = now (began r .args .second)
+
+-- the contents of both books
+abbrev firstIn : tie.After-read-book → Contents
+firstIn r = contentsIn (now (began r .args .first)) (began r .args .f)
+
+abbrev secondIn : tie.After-read-book → Contents
+secondIn r = contentsIn (second r) (r .read-book .result .family)
+
 pack-requires : tie.Need-pack-requires
-pack-requires c κs = blamed-packs (now (c .before .before .before .before .before .before .before .before .args .second)) _ (c .before .before .before .before .read-book .ensures) 2 _ (c .blame .ensures) (omega arith)
+pack-requires c κs =
+    let r = read (c .before .before) in
+    blamed-packs (second r) _ (r .read-book .ensures) 2 _ (c .blame .ensures) (omega arith)
 
 returns : tie.Need-returns
-returns c = blamed-leaves (now (c .before .before .before .before .before .before .before .before .before .args .second)) _ (c .before .before .before .before .before .read-book .ensures) 2 _ (c .before .blame .ensures) _ _ _ (c .before .before .if1 .taken) (c .pack .ensures)
+returns c =
+    let test = c .before .before in
+    let r = read (test .before) in
+    blamed-leaves (second r) _ (r .read-book .ensures) 2 _ (c .before .blame .ensures) _ _ _ (test .if1 .taken) (c .pack .ensures)
 
 -- the second book, which was accepted
-second-lent : (c : tie.After-g) → Lent (now (c .before .before .before .before .before .before .before .before .args .second)) (c .before .before .before .before .read-book .result .family)
-second-lent c = read-lent (now (c .before .before .before .before .before .before .before .before .args .second)) _ (c .before .before .before .before .read-book .ensures) (λ i. c .before .before .before .before .before .before .shared-slice-known2 .given i .fits) (c .before .if1 .left)
+second-lent : (c : tie.Else1) → let r = read (c .before) in Lent (second r) (r .read-book .result .family)
+second-lent c =
+    let r = read (c .before) in
+    read-lent (second r) _ (r .read-book .ensures) (λ i. r .before .before .shared-slice-known2 .given i .fits) (c .if1 .left)
 
 make-pair-requires : tie.Need-make-pair-requires
-make-pair-requires c κs = (c .before .before .before .before .before .before .before .before .pre, second-lent c)
+make-pair-requires c κs = (began (read (c .before .before)) .pre, second-lent (c .before))
 
 finish-requires : tie.Need-finish-requires
 finish-requires c κs =
-    let a = c .before .before .before .before .before .before .before .before .before .before .args in
-    let first : Contents = contentsIn (now (a .first)) (a .f) in
-    let second : Contents = contentsIn (now (a .second)) (c .before .before .before .before .before .before .read-book .result .family) in
-    finishes (now (a .first)) (now (a .second)) (paired (a .pairing) first second) (c .before .make-pair .result) (c .before .make-pair .ensures)
-    (paired-keeps (a .pairing) first second (c .before .before .before .before .before .before .before .before .before .before .pre .keeps) (second-lent (c .before .before) .keeps))
+    let accepted = c .before .before .before in
+    let r = read (accepted .before) in
+    let a = began r .args in
+    finishes (now (a .first)) (second r) (paired (a .pairing) (firstIn r) (secondIn r)) (c .before .make-pair .result) (c .before .make-pair .ensures)
+    (paired-keeps (a .pairing) (firstIn r) (secondIn r) (began r .pre .keeps) (second-lent accepted .keeps))
 
 returns-2 : tie.Need-returns-2
 returns-2 c =
-    let a = c .before .before .before .before .before .before .before .before .before .before .before .before .before .args in
-    let first : Contents = contentsIn (now (a .first)) (a .f) in
-    let b = c .before .before .before .before .before .before .before .before .before .read-book .result in
-    let second : Contents = contentsIn (now (a .second)) (b .family) in
-    let made = c .before .before .before .before .make-pair in
-    let accepted = read-accepted (now (a .second)) b (c .before .before .before .before .before .before .before .before .before .read-book .ensures) 2 (now (a .out)) _ (c .before .before .before .before .before .before .if1 .left) in
-    finished-leaves (now (a .first)) (now (a .second)) (paired (a .pairing) first second) (made .result) (made .ensures) _ (now (a .out)) _ _ accepted (c .before .before .finish .ensures)
+    let made = c .before .before .before .before in
+    let accepted = made .before .before in
+    let r = read (accepted .before) in
+    let a = began r .args in
+    let went = read-accepted (second r) _ (r .read-book .ensures) 2 (now (a .out)) _ (accepted .if1 .left) in
+    finished-leaves (now (a .first)) (second r) (paired (a .pairing) (firstIn r) (secondIn r)) (made .make-pair .result) (made .make-pair .ensures)
+    _ (now (a .out)) _ _ went (c .before .before .finish .ensures)
 
 pub on-second-spec : {M : Type 1} → statement M
 on-second-spec =

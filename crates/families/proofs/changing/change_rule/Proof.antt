@@ -2,10 +2,10 @@
 use Prim.Native.Nat.{ℕ}
 use mathlib.Core.Path.{_≡_, refl}
 use Rattle.books.specs.declared.rule.Body.the-variants.{Colour}
-use Rattle.families.specs.inner.Changed.{changedBody}
-use Rattle.families.specs.declared.changing.Change.{Change}
-use Rattle.families.specs.declared.changing.Change.the-variants.{Mirrored, Flipped, Transposed}
-use Rattle.families.specs.inner.Changed.{changedRule}
+use Rattle.families.specs.inner.Asked.{changedBody}
+use Rattle.families.specs.declared.asked.Change.{Change}
+use Rattle.families.specs.declared.asked.Change.the-variants.{Mirrored, Flipped, Transposed}
+use Rattle.families.specs.inner.Asked.{changedRule}
 use borrow.Author.Needs.{needs}
 use Rattle.families.proofs.changing.change_rule.Statement.{statement}
 use Rattle.families.proofs.changing.change_rule.Tie as tie

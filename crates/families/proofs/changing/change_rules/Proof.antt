@@ -6,7 +6,7 @@ use native.Mathlib.Omega.{arith}
 use lib.ListN.{drop}
 use lib.Seq.{sets}
 use Rattle.families.specs.inner.Gathered.{standing}
-use Rattle.families.specs.inner.Changed.{changedRule}
+use Rattle.families.specs.inner.Asked.{changedRule}
 use Rattle.families.proofs.AddingRules.{one-written, left-next, left-none}
 use Rattle.families.proofs.changing.change_rules.Statement.{statement}
 use Rattle.families.proofs.changing.change_rules.Tie as tie

@@ -1,5 +1,5 @@
 -- No count changes, and the draft has the changed rules.
-use Rattle.families.specs.inner.Changed.{changedBody, changedRule}
+use Rattle.families.specs.inner.Asked.{changedBody, changedRule}
 use Rattle.families.proofs.Drafts.{rebodied-makes}
 use borrow.Author.Needs.{needs}
 use Rattle.families.proofs.making.make_changed.Statement.{statement}

@@ -1,33 +1,15 @@
--- Which combination a call asks for, and how a draft is finished.
+-- How a draft is finished.
 use Prim.Native.Nat.{ℕ, _^_, _<_}
 use mathlib.Core.Path.{_≡_}
 use mathlib.Core.List.{List}
 use mathlib.Core.Bool.{true}
 use lib.ListN.{length}
 use Rattle.names.specs.Pick.{pick}
-use Rattle.books.specs.Contents.{Contents}
 use Rattle.books.specs.inner.Draft.{draftIn, DraftFits}
 use Rattle.books.specs.SpellBook.{spellBook}
 use Rattle.books.specs.Answer.{plain}
-use Rattle.families.specs.Combine.{either-of, beside, above, run, stack, mirrored, flipped, transposed}
 use Rattle.families.specs.Outcome.{Outcome, refused, written}
 use Rattle.families.specs.declared.making.Made.{Made}
-use Rattle.families.specs.declared.answering.Pairing.{Pairing}
-use Rattle.families.specs.declared.answering.Pairing.the-variants.{EitherOf, Beside, Above}
-use Rattle.families.specs.declared.answering.Single.{Single}
-use Rattle.families.specs.declared.answering.Single.the-variants.{Run, Stack, Mirrored, Flipped, Transposed}
-
-abbrev pub paired : Pairing → Contents → Contents → Contents
-paired EitherOf = either-of
-paired Beside = beside
-paired Above = above
-
-abbrev pub alone : Single → Contents → Contents
-alone Run = run
-alone Stack = stack
-alone Mirrored = mirrored
-alone Flipped = flipped
-alone Transposed = transposed
 
 -- what exceeds the limits is refused, and any other draft is written
 abbrev pub finished : List ℕ → List ℕ → Made → List ℕ → Outcome

@@ -1,7 +1,7 @@
 -- Each way is a line of the definition.
 use borrow.Author.Needs.{needs}
-use Rattle.families.proofs.way.join_rule.Statement.{statement}
-use Rattle.families.proofs.way.join_rule.Tie as tie
+use Rattle.families.proofs.combining.join_rule.Statement.{statement}
+use Rattle.families.proofs.combining.join_rule.Tie as tie
 
 returns : tie.Need-returns
 returns c = simp (c .enum-told .given .1)
