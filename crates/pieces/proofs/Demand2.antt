@@ -28,7 +28,7 @@ use Rattle.pieces.specs.Pieces.{Inside, slotOf}
 use Rattle.pieces.specs.Table.{bit, cut, table}
 use Rattle.pieces.specs.Tree.{tree}
 use Rattle.pieces.specs.Given.{Given}
-use Rattle.pieces.specs.Derivation.{Derivation, entriesNeeded, numbersNeeded, filled, judged, roomed, derivation, outcome}
+use Rattle.pieces.specs.Derivation.{Derivation, entriesNeeded, numbersNeeded, filled, judged, roomed, derivation, outcome, Left, Leaves, LeavesPacked}
 use Rattle.pieces.proofs.Entries.{entry-derives, derives-entry}
 use Rattle.pieces.proofs.ExactViews.{motif-below}
 use Rattle.pieces.proofs.Judging.{filled-holds, held-entry}
@@ -121,7 +121,15 @@ module _ (book sheet entries numbers : List ℕ) (book-bytes : Bytes book)
 
 -- ── Two outcomes that the contract allows are equal ──
 
-pub derive-settled : (book sheet entries numbers w v t u : List ℕ) (r q : Answer) → let d = derivation book sheet entries numbers in
-    (r ≡ d .answer) × ((w ≡ d .entries) × (t ≡ d .numbers)) → (q ≡ d .answer) × ((v ≡ d .entries) × (u ≡ d .numbers))
-    → (r ≡ q) × ((w ≡ v) × (t ≡ u))
-derive-settled book sheet entries numbers w v t u r q x y = (x .0 ∙ sym (y .0), (x .1 .0 ∙ sym (y .1 .0), x .1 .1 ∙ sym (y .1 .1)))
+module _ {A : Type 0} {told : Answer → A} {d : Derivation} {r q : A} {w v t u : List ℕ} where
+  settled : Left told d r w t → Left told d q v u → (r ≡ q) × (w ≡ v) × (t ≡ u)
+  settled x y = (x .answers ∙ sym (y .answers), x .leaves-work ∙ sym (y .leaves-work), x .leaves-tree ∙ sym (y .leaves-tree))
+
+module _ (book sheet entries numbers : List ℕ) where
+  pub derive-settled : {r q : Answer} {w v t u : List ℕ} → let d = derivation book sheet entries numbers in
+      Leaves d r w t → Leaves d q v u → (r ≡ q) × (w ≡ v) × (t ≡ u)
+  derive-settled x y = settled x y
+
+  pub dv-derive-settled : {r q : ℕ} {w v t u : List ℕ} → let d = derivation book sheet entries numbers in
+      LeavesPacked d r w t → LeavesPacked d q v u → (r ≡ q) × (w ≡ v) × (t ≡ u)
+  dv-derive-settled x y = settled x y

@@ -13,7 +13,7 @@ use Rattle.books.specs.ContentsIn.{contentsIn, gridIn}
 use Rattle.books.specs.Decide.{derives?}
 use Rattle.books.specs.Book.{bookOf}
 use Rattle.books.specs.Sheet.{sheetOf}
-use Rattle.books.specs.Answer.{plain, blaming}
+use Rattle.books.specs.Answer.{plain, blaming, packed}
 use Rattle.books.specs.declared.answer.Answer.{Answer}
 use Rattle.pieces.specs.Pieces.{total}
 use Rattle.pieces.specs.Area.{whole, treeSize}
@@ -76,3 +76,17 @@ derivation book sheet entries numbers =
     (roomed (contentsIn book (bookOf book .family)) (picture (gridIn sheet (sheetOf sheet .sheet))) entries numbers)
     (leaving (blaming 2 (sheetOf sheet .fault)) entries numbers))
     (leaving (blaming 1 (bookOf book .fault)) entries numbers)
+
+-- what a caller is told of the answer, and both slices as the call leaves them, are those of a derivation
+pub record Left {A : Type 0} (told : Answer → A) (d : Derivation) (r : A) (entries numbers : List ℕ) : Type 0 where
+  pub answers : r ≡ told (d .answer)
+  pub leaves-work : entries ≡ d .entries
+  pub leaves-tree : numbers ≡ d .numbers
+
+-- told as it is, ...
+abbrev pub Leaves : Derivation → Answer → List ℕ → List ℕ → Type 0
+Leaves d r entries numbers = Left (λ a. a) d r entries numbers
+
+-- ... or packed into one number for the C host, with 0 for the count
+abbrev pub LeavesPacked : Derivation → ℕ → List ℕ → List ℕ → Type 0
+LeavesPacked d r entries numbers = Left (λ a. packed a 0) d r entries numbers

@@ -6,9 +6,8 @@ use books::answer;
 use books::answer::Answer;
 use books::order;
 ghost use mathlib.Core.Path.{_≡_};
-ghost use Rattle.books.specs.Answer.{packed};
 ghost use Rattle.pieces.specs.Pieces.{Room};
-ghost use Rattle.pieces.specs.Derivation.{derivation};
+ghost use Rattle.pieces.specs.Derivation.{derivation, Leaves, LeavesPacked};
 ghost use Rattle.pieces.specs.inner.Verdict.{lacking};
 
 // What two slices lack for a sheet of so many rows and columns: 9 where the work slice is too short, 10 where the tree slice is, and else 0.
@@ -27,7 +26,7 @@ fn lack(rows: usize, cols: usize, entries: usize, numbers: usize) -> u8
 
 // Asks whether the family of a book has a sheet. The work slice gets the table of pieces, and on 0 the tree slice the derivation given.
 pub fn derive(book: &[u8], sheet: &[u8], work: &mut [u32], tree: &mut [u16]) -> Answer
-    ensures { λ r. ⌜ r ≡ derivation (now (book .entry)) (now (sheet .entry)) (now (work .entry)) (now (tree .entry)) .answer ⌝ ∗ ⌜ now (work .exit) ≡ derivation (now (book .entry)) (now (sheet .entry)) (now (work .entry)) (now (tree .entry)) .entries ⌝ ∗ ⌜ now (tree .exit) ≡ derivation (now (book .entry)) (now (sheet .entry)) (now (work .entry)) (now (tree .entry)) .numbers ⌝ }
+    ensures { λ r. ⌜ Leaves (derivation (now (book .entry)) (now (sheet .entry)) (now (work .entry)) (now (tree .entry))) r (now (work .exit)) (now (tree .exit)) ⌝ }
 {
     let o = order::read_order(book, sheet);
     if o.answer.number != 0 {
@@ -55,7 +54,7 @@ pub fn derive(book: &[u8], sheet: &[u8], work: &mut [u32], tree: &mut [u16]) -> 
 // The same for the C host.
 #[no_mangle]
 pub extern "C" fn dv_derive(book: &[u8], sheet: &[u8], work: &mut [u32], tree: &mut [u16]) -> u64
-    ensures { λ r. ⌜ r ≡ packed (derivation (now (book .entry)) (now (sheet .entry)) (now (work .entry)) (now (tree .entry)) .answer) 0 ⌝ ∗ ⌜ now (work .exit) ≡ derivation (now (book .entry)) (now (sheet .entry)) (now (work .entry)) (now (tree .entry)) .entries ⌝ ∗ ⌜ now (tree .exit) ≡ derivation (now (book .entry)) (now (sheet .entry)) (now (work .entry)) (now (tree .entry)) .numbers ⌝ }
+    ensures { λ r. ⌜ LeavesPacked (derivation (now (book .entry)) (now (sheet .entry)) (now (work .entry)) (now (tree .entry))) r (now (work .exit)) (now (tree .exit)) ⌝ }
 {
     answer::pack(derive(book, sheet, work, tree), 0)
 }

@@ -45,7 +45,8 @@ returns : tie.Need-returns
 returns c =
     let k = c .before .before .before in
     let a = began k .args in
-    rw (refused _ _ (k .read-order .ensures) (now (a .work)) (now (a .tree)) (c .before .if1 .taken)) (refl, (refl, refl))
+    rw (refused _ _ (k .read-order .ensures) (now (a .work)) (now (a .tree)) (c .before .if1 .taken))
+    (record { answers = refl; leaves-work = refl; leaves-tree = refl })
 
 lack-requires : tie.Need-lack-requires
 lack-requires c κs =
@@ -59,7 +60,7 @@ returns-2 c =
     let a = began k .args in
     rw (lacks _ _ (k .read-order .ensures) (book-bytes k) (sheet-bytes k) (l .before .if1 .left) (now (a .work)) (now (a .tree))
     (λ z. c .before .if2 .taken (l .lack .ensures ∙ z)))
-    (c .unblamed .ensures ∙ ap plain (l .lack .ensures), (refl, refl))
+    (record { answers = c .unblamed .ensures ∙ ap plain (l .lack .ensures); leaves-work = refl; leaves-tree = refl })
 
 fill-table-requires : tie.Need-fill-table-requires
 fill-table-requires c κs =
@@ -89,7 +90,7 @@ returns-3 c =
     let none = sym (l .lack .ensures) ∙ t .before .before .before .before .before .if2 .left in
     rw (told _ _ (k .read-order .ensures) (book-bytes k) (sheet-bytes k) (l .before .if1 .left) (now (a .work)) (now (a .tree)) none _ (t .fill-table .ensures)
     (sym (t .fill-table .kept .1 .1 .1 .1 .1 .0)))
-    (c .unblamed2 .ensures ∙ ap plain (j .ensures .0), (refl, j .ensures .1))
+    (record { answers = c .unblamed2 .ensures ∙ ap plain (j .ensures .0); leaves-work = refl; leaves-tree = j .ensures .1 })
 
 pub derive-spec : {M : Type 1} → statement M
 derive-spec =

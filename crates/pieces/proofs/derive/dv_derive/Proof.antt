@@ -13,12 +13,13 @@ pack-requires : tie.Need-pack-requires
 pack-requires c κs =
     let k = c .before .before .before .before in
     let a = began k .args in
-    rw (k .derive .ensures .0) (derivation-packs (now (a .book)) (now (a .sheet)) (now (a .work)) (now (a .tree)))
+    rw (k .derive .ensures .answers) (derivation-packs (now (a .book)) (now (a .sheet)) (now (a .work)) (now (a .tree)))
 
 returns : tie.Need-returns
 returns c =
     let k = c .before .before .before .before .before in
-    (rw (← k .derive .ensures .0) (c .pack .ensures), k .derive .ensures .1)
+    let left = k .derive .ensures in
+    record { answers = rw (← left .answers) (c .pack .ensures); leaves-work = left .leaves-work; leaves-tree = left .leaves-tree }
 
 pub dv-derive-spec : {M : Type 1} → statement M
 dv-derive-spec =
