@@ -6,7 +6,8 @@ use native.Mathlib.Nat.{add-mul, mul-add, one-mul, mul-comm, mul-le-mul, le-tran
 use native.Mathlib.Numerals.{add-one}
 use native.Mathlib.Omega.{arith}
 use Rattle.books.specs.Picture.{Dir, across, down}
-use Rattle.pieces.specs.Pieces.{Room, Inside, total, stretches, slotAt, slotOf}
+use Rattle.pieces.specs.Pieces.{Inside, total, stretches, slotAt, slotOf}
+use Rattle.pieces.specs.inner.Room.{Room}
 use Rattle.pieces.specs.Parts.{extent, firstPart, restPart}
 use Rattle.pieces.specs.inner.Course.{step, after, cells, change, short, shorter, courseOf, Runs}
 use Rattle.pieces.specs.declared.piece.Piece.{Piece}

@@ -1,6 +1,6 @@
 -- Demand 2, of the call: a sheet is accepted exactly when the rules derive it, the derivation given is the one that the rules single out, and the table lists
 -- exactly the motifs that derive each piece. Stated from the bytes of the lent book and sheet.
-use Prim.Native.Nat.{ℕ, _+_, _≤_}
+use Prim.Native.Nat.{ℕ, _≤_}
 use mathlib.Core.Path.{_≡_, refl, sym, ap, _∙_, subst}
 use mathlib.Core.Bool.{true, false, true≢false}
 use mathlib.Core.List.{List, _++_}

@@ -22,9 +22,16 @@ use Rattle.books.proofs.Deciding.{called, decided}
 use Rattle.pieces.specs.declared.piece.Piece.{Piece}
 use Rattle.pieces.specs.Pieces.{Inside, slotOf}
 use Rattle.pieces.specs.Table.{bit, cut, entry}
-use Rattle.pieces.specs.View.{Exact, named, hasBit, hasColour, seen}
+use Rattle.pieces.specs.View.{View, named}
+use Rattle.pieces.specs.inner.Seen.{hasBit, hasColour, seen}
 use Rattle.pieces.proofs.Entries.{entry-derives, derives-entry}
 use Rattle.pieces.proofs.Giving.{derives-able, at-has}
+
+-- a view that tells exactly what the motifs derive, and where the colours of the rules stand
+pub record Exact (b : Contents) (p : Picture) (v : View) : Type 0 where
+  pub has-exact : (a : ℕ) (q : Piece) → Inside (p .rows) (p .cols) q → (v .has a q ≡ true) ↔ Derives b a (cut p q)
+  pub paints-exact : (c : ℕ) (q : Piece) → Inside (p .rows) (p .cols) q → ((a : ℕ) × Has b a (Colour c))
+      → (v .paints c q ≡ true) ↔ Called b c (p .cell (q .top) (q .left))
 
 pub named-exact : (b : Contents) (p : Picture) → Exact b p (named b p (λ a q. derives? b a (cut p q)))
 named-exact b p =

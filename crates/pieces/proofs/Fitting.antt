@@ -15,7 +15,8 @@ use Rattle.pieces.specs.declared.choice.Choice.{Choice}
 use Rattle.pieces.specs.declared.choice.Choice.the-variants.{NoRule, Leaf, Join}
 use Rattle.pieces.specs.View.{View}
 use Rattle.books.specs.Rules.{noRule}
-use Rattle.pieces.specs.Choice.{covers, fits, takes, lowest, chosen, offered, choose}
+use Rattle.pieces.specs.Choice.{covers, fits, takes, lowest, chosen, choose}
+use Rattle.pieces.specs.inner.Offered.{offered}
 use Rattle.pieces.proofs.Least.{and-on, and-off}
 
 -- A piece is one cell of a colour where it has one row and one column and the cell has the colour.

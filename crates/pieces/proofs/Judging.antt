@@ -31,11 +31,12 @@ use Rattle.pieces.specs.declared.piece.Piece.{Piece}
 use Rattle.pieces.specs.Pieces.{piece, pieces, Inside, slotOf, total}
 use Rattle.pieces.specs.Area.{whole, treeSize}
 use Rattle.pieces.specs.Table.{bit, cut, entry, table}
-use Rattle.pieces.specs.View.{Exact, hasBit, seen}
+use Rattle.pieces.specs.inner.Seen.{hasBit, seen}
+use Rattle.pieces.proofs.ExactViews.{Exact}
 use Rattle.pieces.specs.Tree.{tree, treeOf}
 use Rattle.pieces.specs.inner.Settled.{TableMade}
 use Rattle.pieces.specs.inner.Verdict.{Verdict, verdict, lacking}
-use Rattle.pieces.specs.Derivation.{Derivation, leaving, entriesNeeded, numbersNeeded, filled, Holds, treeAnswer, judged, roomed, outcome}
+use Rattle.pieces.specs.Derivation.{Derivation, leaving, entriesNeeded, numbersNeeded, filled, treeAnswer, judged, roomed, outcome}
 use Rattle.pieces.proofs.Entries.{derives-entry}
 use Rattle.pieces.proofs.Slots.{length-pieces, slot-lt, getD-slot}
 use Rattle.pieces.proofs.CellsFirst.{cell-before}
@@ -46,6 +47,9 @@ use Rattle.pieces.proofs.TheTree.{exact-tree}
 use Rattle.pieces.proofs.WholeTable.{AsRead, Numbered, book-colours, cell-name, whole-table}
 
 -- ── A slice that holds the table ──
+
+pub record Holds (b : Contents) (p : Picture) (entries : List ℕ) : Type 0 where
+  pub held : take (entriesNeeded p) entries ≡ table b p
 
 table-length : (b : Contents) (p : Picture) → length (table b p) ≡ entriesNeeded p
 unfolding table

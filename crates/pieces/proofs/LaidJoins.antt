@@ -14,6 +14,7 @@ use Rattle.pieces.specs.Table.{bit}
 use Rattle.pieces.specs.inner.Firing.{firing, allFired}
 use Rattle.pieces.specs.inner.Masks.{Join, join, joinOf, joinsIn, Laid}
 use Rattle.pieces.proofs.Gathered.{gathered-has, has-gathered, gathered-lt, firing-has, has-firing, firing-lt}
+use Rattle.pieces.specs.inner.Layout.{secondsFrom, headsFrom}
 
 -- ---- members and places of a list
 
@@ -57,7 +58,7 @@ rule-join d (r ∷ rs) a x y m =
 -- ---- all of them at one cut
 
 module _ (js : List Join) (masks : List ℕ) (laid : Laid js masks) (l r : ℕ) where
-  at-join : (i : ℕ) → i < length js → firing l r (getD masks i 0) (getD masks (200 + i) 0) (getD masks (400 + i) 0)
+  at-join : (i : ℕ) → i < length js → firing l r (getD masks i 0) (getD masks (secondsFrom + i) 0) (getD masks (headsFrom + i) 0)
       ≡ firing l r (2 ^ (getD js i (join 0 0 0) .first)) (2 ^ (getD js i (join 0 0 0) .second)) (2 ^ (getD js i (join 0 0 0) .head))
   at-join i h = rw (laid .firsts i h, laid .seconds i h, laid .heads i h)
 

@@ -5,7 +5,8 @@ use Prim.Native.Nat.{ℕ, _+_, _-_, _*_, _≤_, _<_}
 use native.Mathlib.Nat.{zero-mul, mul-zero, add-mul, one-mul, mul-add}
 use native.Mathlib.Omega.{arith}
 use native.Mathlib.Decide.{decLt}
-use Rattle.pieces.specs.Pieces.{piece, Inside, total, stretches, slotAt, slotOf, NextTo}
+use Rattle.pieces.specs.Pieces.{piece, Inside, total, stretches, slotAt, slotOf}
+use Rattle.pieces.specs.inner.NextTo.{NextTo}
 use Rattle.pieces.specs.declared.piece.Piece.{Piece}
 use Rattle.pieces.proofs.Stretches.{stretches-next, total-stretches}
 

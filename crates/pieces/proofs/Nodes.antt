@@ -13,12 +13,13 @@ use Rattle.pieces.specs.declared.choice.Choice.the-variants.{Leaf, Join}
 use Rattle.pieces.specs.Pieces.{Inside}
 use Rattle.pieces.specs.Area.{treeSize}
 use Rattle.pieces.specs.Direction.{reach, front, back}
-use Rattle.pieces.specs.View.{Ready, seen}
+use Rattle.pieces.specs.inner.Seen.{Ready, seen}
 use Rattle.pieces.specs.Choice.{choose}
 use Rattle.pieces.specs.Tree.{nodeTree, treeOf}
 use Rattle.pieces.proofs.Cutting.{reach-small, area-pos}
 use Rattle.pieces.proofs.Choosing.{Right, choose-right}
 use Rattle.pieces.proofs.TreeSteps.{Parts, parts, parts-room, tree-step}
+use Rattle.pieces.specs.inner.Layout.{mostRules}
 
 pub room-some : (m n : ℕ) (q : Piece) → Inside m n q → 2 ≤ treeSize q
 room-some m n q i = omega (arith, area-pos m n q i)
@@ -34,7 +35,7 @@ pub record JoinFits (m n : ℕ) (q : Piece) (i : ℕ) (d : Direction) (k : ℕ) 
 pub record Chose (m n : ℕ) (work colours : List ℕ) (rules : List Rule) (a : ℕ) (q : Piece) (o : Choice) : Type 0 where
   pub ready : Ready m n work colours
   pub in-sheet : Inside m n q
-  pub few : length rules ≤ 200
+  pub few : length rules ≤ mostRules
   pub choice : o ≡ choose (seen m n work colours) rules a q
 
 module _ {m n : ℕ} {work colours : List ℕ} {rules : List Rule} {a : ℕ} {q : Piece} {o : Choice} (c : Chose m n work colours rules a q o) where

@@ -26,11 +26,12 @@ use Rattle.books.proofs.ReadingSheets.{sheet-lies}
 use Rattle.books.proofs.SpellingSheets.{sheet-accepted}
 use Rattle.pieces.specs.Area.{whole}
 use Rattle.pieces.specs.Derivation.{leaving, derivation}
+use Rattle.pieces.specs.inner.Layout.{colourMasks}
 use Rattle.pieces.specs.inner.Painted.{SmallRules}
-use Rattle.pieces.specs.Pieces.{Room}
+use Rattle.pieces.specs.inner.Room.{Room}
 use Rattle.pieces.specs.inner.Settled.{TableMade}
 use Rattle.pieces.specs.inner.Verdict.{Verdict, verdict, lacking}
-use Rattle.pieces.specs.View.{seen}
+use Rattle.pieces.specs.inner.Seen.{seen}
 use Rattle.pieces.proofs.DerivationAnswers.{book-first, sheet-second, then-room}
 use Rattle.pieces.proofs.Judging.{judged-made, nothing-lacks, roomed-short, roomed-enough}
 use Rattle.pieces.proofs.WholeTable.{AsRead, Numbered, room, small-rules, numbers-low}
@@ -41,7 +42,7 @@ pub record Ordered (o : Order) : Type 0 where
   pub sizes : Room (o .rows) (o .cols)
   pub cells-room : length (o .cells) ≡ cells-most
   pub cells-all : o .rows * o .cols ≤ length (o .cells)
-  pub cells-low : (i : ℕ) → i < o .rows * o .cols → getD (o .cells) i 0 < 65
+  pub cells-low : (i : ℕ) → i < o .rows * o .cols → getD (o .cells) i 0 < colourMasks
 
 -- what a table tells of an order
 abbrev pub tells : Order → List ℕ → List ℕ → Verdict

@@ -8,7 +8,8 @@ use lib.Bits.{bitOr}
 use lib.ListN.{length, getD, set, length-set}
 use lib.Seq.{getD-set-same, getD-set-other}
 use Rattle.books.specs.Picture.{Dir, across, down}
-use Rattle.pieces.specs.Pieces.{piece, Inside, total, slotOf, NextTo}
+use Rattle.pieces.specs.Pieces.{piece, Inside, total, slotOf}
+use Rattle.pieces.specs.inner.NextTo.{NextTo}
 use Rattle.pieces.specs.Parts.{extent}
 use Rattle.pieces.specs.inner.Firing.{allFired}
 use Rattle.pieces.specs.inner.Settled.{Plan, at, cutsOf, entryOf, Settled, Filled}

@@ -16,7 +16,8 @@ use Rattle.books.proofs.NothingEmpty.{derives-rows, derives-cols}
 use Rattle.pieces.specs.Pieces.{Inside}
 use Rattle.pieces.specs.Area.{whole, treeSize}
 use Rattle.pieces.specs.Table.{cut}
-use Rattle.pieces.specs.View.{View, Exact, named}
+use Rattle.pieces.specs.View.{View, named}
+use Rattle.pieces.proofs.ExactViews.{Exact}
 use Rattle.pieces.specs.Given.{Given}
 use Rattle.pieces.specs.Tree.{treeOf, tree}
 use Rattle.pieces.proofs.Cutting.{whole-inside, cut-whole}

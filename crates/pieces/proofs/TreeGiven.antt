@@ -2,7 +2,7 @@
 -- lowest rule and the smallest cut are those of the tree, and each part of the cut is derived, and so has its tree.
 use Prim.Native.Nat.{ℕ, zero, suc, _+_, _≤_, _<_}
 use mathlib.Core.Path.{_≡_, refl, sym, _∙_, ap₂}
-use mathlib.Core.Bool.{true, false, true≢false}
+use mathlib.Core.Bool.{true, true≢false}
 use mathlib.Core.List.{List, [], _∷_, _++_}
 use mathlib.Core.Logic.{_↔_, ⊎-elim}
 use mathlib.Core.Option.{Option, some}
@@ -25,7 +25,8 @@ use Rattle.pieces.specs.Pieces.{Inside}
 use Rattle.pieces.specs.Area.{area}
 use Rattle.pieces.specs.Direction.{dirOf, reach, front, back}
 use Rattle.pieces.specs.Table.{cut}
-use Rattle.pieces.specs.View.{View, Exact}
+use Rattle.pieces.specs.View.{View}
+use Rattle.pieces.proofs.ExactViews.{Exact}
 use Rattle.pieces.specs.Given.{At, Works, Able, Lowest, Given, leaf, node}
 use Rattle.pieces.specs.Choice.{works, cutOf, fits, takes, taken, choose}
 use Rattle.pieces.specs.Tree.{both, nodeTree, treeWithin, treeOf}

@@ -23,18 +23,20 @@ use Rattle.books.specs.declared.rule.Body.the-variants.{Colour, Across, Down}
 use Rattle.pieces.specs.inner.Masks.{BodySmall}
 use Rattle.books.specs.Rules.{noRule}
 use Rattle.pieces.specs.inner.Painted.{SmallRules, paintersOf}
-use Rattle.pieces.specs.Pieces.{piece, Room, total}
+use Rattle.pieces.specs.Pieces.{piece, total}
+use Rattle.pieces.specs.inner.Room.{Room}
 use Rattle.pieces.specs.inner.Settled.{TableMade}
 use Rattle.pieces.specs.Table.{cut, entry, table}
 use Rattle.pieces.proofs.CellEntries.{rule-in, painters-entry}
 use Rattle.pieces.proofs.CellsFirst.{cell-before}
 use Rattle.pieces.proofs.SettledTable.{settled-table}
+use Rattle.pieces.specs.inner.Layout.{mostRules, colourMasks}
 
 -- what reading gives of a book and of a sheet
 pub record AsRead (book : List ℕ) (f : Family) (bytes : List ℕ) (g : Sheet) : Type 0 where
   pub book-keeps : Keeps (contentsIn book f)
-  pub rules-few : f .count ≤ 200
-  pub rules-size : length (f .rules) ≡ 200
+  pub rules-few : f .count ≤ mostRules
+  pub rules-size : length (f .rules) ≡ mostRules
   pub sheet-keeps : GridKeeps (gridIn bytes g)
 
 -- the number that the colour of each cell has in the book
@@ -95,7 +97,7 @@ module _ {book : List ℕ} {f : Family} {bytes : List ℕ} {g : Sheet} (read : A
       ap (λ (k : ℕ). getD (namesIn bytes (g .colours)) k []) (cell-at (r * g .cols + c) i) ∙ name-at bytes (g .colours) _ (cell-low (r * g .cols + c) i)
 
   module _ (cells : List ℕ) (numbered : Numbered book f bytes g cells) where
-    pub numbers-low : (i : ℕ) → i < g .rows * g .cols → getD cells i 0 < 65
+    pub numbers-low : (i : ℕ) → i < g .rows * g .cols → getD cells i 0 < colourMasks
     numbers-low i h =
         let n = nameIn bytes (g .colours) (getD (g .cells) i 0) in
         omega (arith, numbered i h, find-listed book (f .colours) n book-colours, listed-le (namesIn book (f .colours)) n, names-count book (f .colours), book-colours)

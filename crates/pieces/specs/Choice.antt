@@ -64,11 +64,3 @@ chosen has q i (DownBody u w) = joinWith has q i Down u w
 unfoldable pub choose : View → List Rule → ℕ → Piece → Choice
 choose v rules a q =
     pick (ltb (lowest v rules a q) (length rules)) (chosen (v .has) q (lowest v rules a q) (getD rules (lowest v rules a q) noRule .body)) NoRule
-
--- rule number i as a join with its smallest cut, or nothing where no cut works
-unfoldable pub joinOffered : (ℕ → Piece → Bool) → Piece → ℕ → Direction → ℕ → ℕ → Choice
-joinOffered has q i d l r = pick (ltb (cutOf has d l r q) (reach d q)) (joinWith has q i d l r) NoRule
-
--- what rule number i offers by its body when the rules are tried one by one: itself where the body fits, else nothing
-unfoldable pub offered : View → Piece → ℕ → Body → Choice
-offered v q i x = pick (fits v q x) (chosen (v .has) q i x) NoRule

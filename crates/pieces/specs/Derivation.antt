@@ -4,7 +4,7 @@ use mathlib.Core.Path.{_≡_}
 use mathlib.Core.List.{List, _++_}
 use mathlib.Core.Option.{Option, some, none}
 use lib.Dec.{eqb, ltb}
-use lib.ListN.{length, take, drop, replicate}
+use lib.ListN.{length, drop, replicate}
 use Rattle.names.specs.Pick.{pick}
 use Rattle.books.specs.Contents.{Contents}
 use Rattle.books.specs.Picture.{Picture}
@@ -40,10 +40,6 @@ numbersNeeded p = treeSize (whole (p .rows) (p .cols))
 abbrev pub filled : Contents → Picture → List ℕ → List ℕ
 filled b p entries = table b p ++ drop (entriesNeeded p) entries
 
--- a slice that holds the table
-pub record Holds (b : Contents) (p : Picture) (entries : List ℕ) : Type 0 where
-  pub held : take (entriesNeeded p) entries ≡ table b p
-
 -- there is a derivation, or at some node no rule fits
 abbrev pub treeAnswer : Option (List ℕ) → Answer
 treeAnswer (some xs) = plain 0
@@ -54,7 +50,8 @@ unfoldable pub outcome : ℕ → List ℕ → Option (List ℕ) → List ℕ
 outcome room s (some xs) = xs ++ drop (length xs) s
 outcome room s none = replicate room 0 ++ drop room s
 
--- with the table written: 11 where the start motif does not derive the picture, and else the derivation given
+-- with the table written: 11 where the start motif does not derive the picture, and else the derivation given, which `tree` computes: read `Given` of
+-- Given.antt for it, since they are the same (`tree-given` in proofs/TheTree.antt), so that 14 is never answered (`derived-accepted` in proofs/Demand2.antt)
 unfoldable pub judged : Contents → Picture → List ℕ → List ℕ → Derivation
 judged b p entries numbers =
     pick (derives? b (b .start) p)

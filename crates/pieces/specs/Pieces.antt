@@ -1,6 +1,5 @@
 -- The pieces of a sheet of m rows and n columns, in the order of the table, and the slot of each.
-use Prim.Native.Nat.{ℕ, zero, suc, _+_, _-_, _*_, _/_, _≤_, _<_}
-use mathlib.Core.Path.{_≡_}
+use Prim.Native.Nat.{ℕ, zero, suc, _+_, _-_, _*_, _/_, _≤_}
 use mathlib.Core.List.{List, [], _∷_, _++_}
 use Rattle.pieces.specs.declared.piece.Piece.{Piece}
 
@@ -13,16 +12,6 @@ pub record Inside (m n : ℕ) (p : Piece) : Type 0 where
   pub wide : 1 ≤ p .width
   pub low : p .top + p .height ≤ m
   pub right : p .left + p .width ≤ n
-
--- the most rows, and the most columns, that the code's numbers have room for
-abbrev pub most : ℕ
-most = 24
-
-pub record Room (m n : ℕ) : Type 0 where
-  pub rows-some : 1 ≤ m
-  pub rows-few : m ≤ most
-  pub cols-some : 1 ≤ n
-  pub cols-few : n ≤ most
 
 -- f 0, then f 1, .., then f (n - 1)
 unfoldable pub each : {A : Type 0} → ℕ → (ℕ → List A) → List A
@@ -48,8 +37,3 @@ slotAt m n u v t l = stretches m u * stretches n n + ((m - u) * stretches n v + 
 
 unfoldable pub slotOf : ℕ → ℕ → Piece → ℕ
 slotOf m n p = slotAt m n (p .height - 1) (p .width - 1) (p .top) (p .left)
-
--- q comes right after p: its slot is the next, and it is a piece of the sheet unless p is the last
-pub record NextTo (m n : ℕ) (p q : Piece) : Type 0 where
-  pub one : slotOf m n q ≡ slotOf m n p + 1
-  pub still : slotOf m n q < total m n → Inside m n q

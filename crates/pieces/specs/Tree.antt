@@ -1,5 +1,6 @@
--- The derivation given, computed: node first, then the left or upper part, then the right or lower part. Where at some node no rule fits,
--- there is none.
+-- The derivation given, computed, so that a contract can say which numbers a call writes. What it means is `Given` of Given.antt, which a person reads:
+-- the tree of a derived picture is the derivation given (`tree-given` in proofs/TheTree.antt), there is one exactly where the picture is derived (`given-exists`, there too),
+-- and no other (`given-unique` in proofs/Giving.antt). Where at some node no rule fits, there is no tree.
 use Prim.Native.Nat.{ℕ, zero, suc}
 use mathlib.Core.List.{List, [], _∷_, _++_}
 use mathlib.Core.Option.{Option, some, none}
@@ -22,7 +23,7 @@ both none y = none
 both (some xs) none = none
 both (some xs) (some ys) = some (xs ++ ys)
 
--- a node and its parts, with `go` for the tree of a part; the cut of a colour rule is written as 0
+-- node first, then the left or upper part, then the right or lower part, with `go` for the tree of a part; the cut of a colour rule is written as 0
 abbrev pub nodeTree : (ℕ → Piece → Option (List ℕ)) → Piece → Choice → Option (List ℕ)
 nodeTree go q NoRule = none
 nodeTree go q (Leaf i) = some (i ∷ 0 ∷ [])
@@ -36,6 +37,6 @@ treeWithin (suc n) v rules a q = nodeTree (λ x y. treeWithin n v rules x y) q (
 unfoldable pub treeOf : View → List Rule → ℕ → Piece → Option (List ℕ)
 treeOf v rules a q = treeWithin (area q) v rules a q
 
--- the tree of a picture, by the bits of its own table
+-- the tree of a picture, by the motifs that derive its pieces: the numbers that `Given` singles out
 abbrev pub tree : Contents → Picture → Option (List ℕ)
 tree b p = treeOf (named b p (λ a q. derives? b a (cut p q))) (b .rules) (b .start) (whole (p .rows) (p .cols))

@@ -1,3 +1,8 @@
+pub mod Layout
+pub mod Room
+pub mod NextTo
+pub mod Seen
+pub mod Offered
 pub mod Course
 pub mod Firing
 pub mod Masks

@@ -1,6 +1,7 @@
 // What is taken at a piece and its motif: the lowest-numbered rule that fits, and for a join the smallest cut that works.
 // The first `count` rules stand, and colours has for each cell the number of its colour in the book; the rest is as for the cuts.
 use crate::cut::works;
+use crate::masks::MOST_RULES;
 use crate::part::Direction;
 use crate::piece::Piece;
 use crate::piece::times;
@@ -9,10 +10,13 @@ use books::rule::Rule;
 ghost use mathlib.Core.Path.{_≡_};
 ghost use Prim.Native.Nat.{_*_, _≤_};
 ghost use lib.ListN.{length, take};
-ghost use Rattle.pieces.specs.Pieces.{Inside, Room};
+ghost use Rattle.pieces.specs.Pieces.{Inside};
+ghost use Rattle.pieces.specs.inner.Layout.{mostRules};
+ghost use Rattle.pieces.specs.inner.Room.{Room};
 ghost use Rattle.pieces.specs.Direction.{reach};
-ghost use Rattle.pieces.specs.View.{Tabled, Ready, hasBit, hasColour, seen};
-ghost use Rattle.pieces.specs.Choice.{covers, joinOffered, offered, choose};
+ghost use Rattle.pieces.specs.inner.Seen.{Tabled, Ready, hasBit, hasColour, seen};
+ghost use Rattle.pieces.specs.Choice.{covers, choose};
+ghost use Rattle.pieces.specs.inner.Offered.{joinOffered, offered};
 
 // Nothing, since no rule fits; a colour rule, by its number; or a join, by its number, direction, cut and the motifs of its two parts.
 pub(crate) enum Choice {
@@ -87,7 +91,7 @@ fn offer(
 
 // The rules are tried in their order: the first with the motif for its head that offers something is taken.
 pub(crate) fn choose(
-    rules: [Rule; 200],
+    rules: [Rule; MOST_RULES],
     count: usize,
     work: &[u32],
     colours: &[u8],
@@ -96,7 +100,7 @@ pub(crate) fn choose(
     p: Piece,
     motif: u8,
 ) -> Choice
-    requires { ⌜ (count ≤ 200) × Ready rows cols (now work) (now colours) × Inside rows cols p ⌝ }
+    requires { ⌜ (count ≤ mostRules) × Ready rows cols (now work) (now colours) × Inside rows cols p ⌝ }
     ensures { λ x. ⌜ x ≡ choose (seen rows cols (now (work .entry)) (now (colours .entry))) (take count rules) motif p ⌝ }
 {
     let mut i = 0;

@@ -3,7 +3,8 @@ use crate::piece;
 use crate::piece::Piece;
 ghost use mathlib.Core.Path.{_≡_};
 ghost use Rattle.books.specs.Picture.{across, down};
-ghost use Rattle.pieces.specs.Pieces.{Inside, Room, slotOf};
+ghost use Rattle.pieces.specs.Pieces.{Inside, slotOf};
+ghost use Rattle.pieces.specs.inner.Room.{Room};
 ghost use Rattle.pieces.specs.inner.Course.{step, Steps, courseOf};
 
 // The first part's slot rises, each time by less, and the second part's falls, each time by more; both steps change by one number.

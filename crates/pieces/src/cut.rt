@@ -8,7 +8,7 @@ ghost use mathlib.Core.Path.{_≡_};
 ghost use Prim.Native.Nat.{_≤_, _<_};
 ghost use Rattle.pieces.specs.Pieces.{Inside};
 ghost use Rattle.pieces.specs.Direction.{reach};
-ghost use Rattle.pieces.specs.View.{Tabled, hasBit};
+ghost use Rattle.pieces.specs.inner.Seen.{Tabled, hasBit};
 ghost use Rattle.pieces.specs.Choice.{works};
 
 // Whether a motif has its bit set at a piece. An entry has 32 bits.

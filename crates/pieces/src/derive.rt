@@ -6,7 +6,7 @@ use books::answer;
 use books::answer::Answer;
 use books::order;
 ghost use mathlib.Core.Path.{_≡_};
-ghost use Rattle.pieces.specs.Pieces.{Room};
+ghost use Rattle.pieces.specs.inner.Room.{Room};
 ghost use Rattle.pieces.specs.Derivation.{derivation, Leaves, LeavesPacked};
 ghost use Rattle.pieces.specs.inner.Verdict.{lacking};
 

@@ -2,7 +2,9 @@
 ghost use mathlib.Core.Path.{_≡_};
 ghost use Prim.Native.Nat.{_*_, _≤_, _<_};
 ghost use Rattle.pieces.specs.Area.{whole, treeSize};
-ghost use Rattle.pieces.specs.Pieces.{most, Inside, Room, stretches, total, slotOf, NextTo};
+ghost use Rattle.pieces.specs.Pieces.{Inside, stretches, total, slotOf};
+ghost use Rattle.pieces.specs.inner.NextTo.{NextTo};
+ghost use Rattle.pieces.specs.inner.Room.{most, Room};
 
 // So many rows and columns, from a top row and a left column on.
 pub(crate) struct Piece {

@@ -3,6 +3,7 @@
 use crate::choice::Choice;
 use crate::choice::choose;
 use crate::cut::has;
+use crate::masks::MOST_RULES;
 use crate::part::Parts;
 use crate::part::parts_of;
 use crate::piece::Piece;
@@ -14,7 +15,8 @@ ghost use Prim.Native.Nat.{_+_, _≤_, _<_};
 ghost use lib.ListN.{length, take, drop, replicate};
 ghost use Rattle.pieces.specs.Pieces.{Inside};
 ghost use Rattle.pieces.specs.Area.{whole, treeSize};
-ghost use Rattle.pieces.specs.View.{Ready, seen};
+ghost use Rattle.pieces.specs.inner.Layout.{mostRules};
+ghost use Rattle.pieces.specs.inner.Seen.{Ready, seen};
 ghost use Rattle.pieces.specs.Tree.{both, treeOf};
 ghost use Rattle.pieces.specs.inner.TreeWrote.{TreeWrote};
 ghost use Rattle.pieces.specs.inner.Verdict.{verdict};
@@ -37,7 +39,7 @@ fn put_node(tree: &mut [u16], at: usize, rule: usize, cut: usize)
 // The tree of a motif at a piece, from a place on: its rule and cut, and then its parts.
 // There is room for it, and at most 200 rules keep its numbers small.
 fn pick_node(
-    rules: [Rule; 200],
+    rules: [Rule; MOST_RULES],
     count: usize,
     work: &[u32],
     colours: &[u8],
@@ -48,7 +50,7 @@ fn pick_node(
     tree: &mut [u16],
     at: usize,
 ) -> Written
-    requires { ⌜ Ready rows cols (now work) (now colours) × Inside rows cols p × (count ≤ 200) × (at + treeSize p ≤ length (now tree)) ⌝ }
+    requires { ⌜ Ready rows cols (now work) (now colours) × Inside rows cols p × (count ≤ mostRules) × (at + treeSize p ≤ length (now tree)) ⌝ }
     ensures { λ r. ⌜ TreeWrote (now (tree .entry)) (now (tree .exit)) at (treeSize p) (treeOf (seen rows cols (now (work .entry)) (now (colours .entry))) (take count rules) motif p) r ⌝ }
 {
     let choice = choose(rules, count, work, colours, rows, cols, p, motif);
@@ -79,7 +81,7 @@ fn pick_node(
 
 // The trees of the two parts of a join, the second behind the first.
 fn write_parts(
-    rules: [Rule; 200],
+    rules: [Rule; MOST_RULES],
     count: usize,
     work: &[u32],
     colours: &[u8],
@@ -91,7 +93,7 @@ fn write_parts(
     tree: &mut [u16],
     at: usize,
 ) -> Written
-    requires { ⌜ Ready rows cols (now work) (now colours) × Inside rows cols (parts .first) × Inside rows cols (parts .rest) × (count ≤ 200) × (at + (treeSize (parts .first) + treeSize (parts .rest)) ≤ length (now tree)) ⌝ }
+    requires { ⌜ Ready rows cols (now work) (now colours) × Inside rows cols (parts .first) × Inside rows cols (parts .rest) × (count ≤ mostRules) × (at + (treeSize (parts .first) + treeSize (parts .rest)) ≤ length (now tree)) ⌝ }
     ensures { λ x. ⌜ TreeWrote (now (tree .entry)) (now (tree .exit)) at (treeSize (parts .first) + treeSize (parts .rest)) (both (treeOf (seen rows cols (now (work .entry)) (now (colours .entry))) (take count rules) l (parts .first)) (treeOf (seen rows cols (now (work .entry)) (now (colours .entry))) (take count rules) r (parts .rest))) x ⌝ }
 {
     let done = pick_node(
@@ -138,7 +140,7 @@ fn clear(tree: &mut [u16], n: usize)
 // What a filled table tells of a whole sheet: 11 where the start motif has no bit there; else 0, with its tree at the start of the slice, or
 // 14 where at some node no rule fits, and as many zeros stand for it.
 pub(crate) fn judge(
-    rules: [Rule; 200],
+    rules: [Rule; MOST_RULES],
     count: usize,
     start: u8,
     work: &[u32],
@@ -147,7 +149,7 @@ pub(crate) fn judge(
     cols: usize,
     tree: &mut [u16],
 ) -> u8
-    requires { ⌜ (count ≤ 200) × Ready rows cols (now work) (now colours) × (treeSize (whole rows cols) ≤ length (now tree)) ⌝ }
+    requires { ⌜ (count ≤ mostRules) × Ready rows cols (now work) (now colours) × (treeSize (whole rows cols) ≤ length (now tree)) ⌝ }
     ensures { λ r. ⌜ r ≡ verdict (seen rows cols (now (work .entry)) (now (colours .entry))) (take count rules) start (whole rows cols) (now (tree .entry)) .number ⌝ ∗ ⌜ now (tree .exit) ≡ verdict (seen rows cols (now (work .entry)) (now (colours .entry))) (take count rules) start (whole rows cols) (now (tree .entry)) .numbers ⌝ }
 {
     let sheet = Piece {

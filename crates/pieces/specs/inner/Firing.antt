@@ -7,6 +7,7 @@ use lib.Dec.{eqb}
 use Rattle.names.specs.Pick.{pick}
 use Rattle.pieces.specs.inner.Course.{step, after}
 use Rattle.pieces.specs.declared.course.Course.{Course}
+use Rattle.pieces.specs.inner.Layout.{secondsFrom, headsFrom}
 
 -- one join at one cut: its head, where the entries l and r of the two parts have the motifs of its first and its second part
 unfoldable pub firing : ℕ → ℕ → ℕ → ℕ → ℕ → ℕ
@@ -17,9 +18,9 @@ unfoldable pub gathered : ℕ → (ℕ → ℕ) → ℕ
 gathered zero f = 0
 gathered (suc n) f = bitOr (gathered n f) (f n)
 
--- all joins at one cut: the masks of their first parts, of their second parts from 200 on, and of their heads from 400 on
+-- all joins at one cut, by the three rows of their masks
 unfoldable pub allFired : List ℕ → ℕ → ℕ → ℕ → ℕ
-allFired masks count l r = gathered count (λ i. firing l r (getD masks i 0) (getD masks (200 + i) 0) (getD masks (400 + i) 0))
+allFired masks count l r = gathered count (λ i. firing l r (getD masks i 0) (getD masks (secondsFrom + i) 0) (getD masks (headsFrom + i) 0))
 
 -- all joins at the k-th cut of a course over the table t, and at all its cuts
 abbrev pub atCut : List ℕ → List ℕ → ℕ → Course → ℕ → ℕ

@@ -9,6 +9,7 @@ use Rattle.books.specs.declared.rule.Rule.{Rule}
 use Rattle.books.specs.declared.rule.Body.{Body}
 use Rattle.books.specs.declared.rule.Body.the-variants.{Colour, Across, Down}
 use Rattle.pieces.specs.declared.masks.Joins.{Joins}
+use Rattle.pieces.specs.inner.Layout.{secondsFrom, headsFrom, joinMasks, paintersFrom}
 
 -- a head motif, and the motifs of its left and right or upper and lower parts
 pub record Join : Type 0 where
@@ -31,21 +32,21 @@ abbrev pub joinsIn : Dir → List Rule → List Join
 joinsIn d [] = []
 joinsIn d (r ∷ rs) = joinOf d (r .head) (r .body) ++ joinsIn d rs
 
--- the masks of joins in three rows of 200: first parts, second parts, heads
+-- the masks of joins in their three rows
 pub record Laid (js : List Join) (masks : List ℕ) : Type 0 where
   pub firsts : (i : ℕ) → i < length js → getD masks i 0 ≡ 2 ^ (getD js i (join 0 0 0) .first)
-  pub seconds : (i : ℕ) → i < length js → getD masks (200 + i) 0 ≡ 2 ^ (getD js i (join 0 0 0) .second)
-  pub heads : (i : ℕ) → i < length js → getD masks (400 + i) 0 ≡ 2 ^ (getD js i (join 0 0 0) .head)
+  pub seconds : (i : ℕ) → i < length js → getD masks (secondsFrom + i) 0 ≡ 2 ^ (getD js i (join 0 0 0) .second)
+  pub heads : (i : ℕ) → i < length js → getD masks (headsFrom + i) 0 ≡ 2 ^ (getD js i (join 0 0 0) .head)
 
 -- masks and counts of both directions that are those of some rules
 pub record Serves (rs : List Rule) (masks : Dir → List ℕ) (count : Dir → ℕ) : Type 0 where
   pub counted : (d : Dir) → count d ≡ length (joinsIn d rs)
   pub laid : (d : Dir) → Laid (joinsIn d rs) (masks d)
 
--- in one row of numbers: the masks of the across joins, from 600 on those of the down joins, and from 1200 on those of the colours
+-- the three rows of a direction
 abbrev pub masksOf : List ℕ → Dir → List ℕ
-masksOf rules across = take 600 rules
-masksOf rules down = take 600 (drop 600 rules)
+masksOf rules across = take joinMasks rules
+masksOf rules down = take joinMasks (drop joinMasks rules)
 
 abbrev pub countOf : Joins → Dir → ℕ
 countOf j across = j .across
@@ -53,13 +54,13 @@ countOf j down = j .down
 
 -- the masks of a join at a place, ...
 abbrev pub putJoin : List ℕ → ℕ → Join → List ℕ
-putJoin rules at j = set (set (set rules at (2 ^ j .first)) (200 + at) (2 ^ j .second)) (400 + at) (2 ^ j .head)
+putJoin rules at j = set (set (set rules at (2 ^ j .first)) (secondsFrom + at) (2 ^ j .second)) (headsFrom + at) (2 ^ j .head)
 
 -- ... and of a rule: a join behind those of its direction, the head of a colour rule with the others of its colour
 abbrev pub putRule : List ℕ → Joins → ℕ → Body → List ℕ
-putRule rules j a (Colour c) = set rules (1200 + c) (bitOr (getD rules (1200 + c) 0) (2 ^ a))
+putRule rules j a (Colour c) = set rules (paintersFrom + c) (bitOr (getD rules (paintersFrom + c) 0) (2 ^ a))
 putRule rules j a (Across l r) = putJoin rules (j .across) (join a l r)
-putRule rules j a (Down u v) = putJoin rules (600 + j .down) (join a u v)
+putRule rules j a (Down u v) = putJoin rules (joinMasks + j .down) (join a u v)
 
 abbrev pub countRule : Joins → Body → Joins
 countRule j (Colour c) = j

@@ -12,6 +12,7 @@ use Rattle.pieces.specs.inner.Firing.{gathered}
 use Rattle.pieces.specs.inner.Masks.{Serves, Small, masksOf, countOf}
 use Rattle.books.specs.Rules.{noRule}
 use Rattle.pieces.specs.declared.masks.Joins.{Joins}
+use Rattle.pieces.specs.inner.Layout.{mostRules, paintersFrom, colourMasks}
 
 -- the head's mask, where the body is the colour of a number
 abbrev pub painterOf : ℕ → ℕ → Body → ℕ
@@ -28,16 +29,16 @@ paintersOf rs count colour = gathered count (painterAt rs colour)
 
 -- rules of which the first so many have a place among the masks
 pub record SmallRules (rs : List Rule) (count : ℕ) : Type 0 where
-  pub few : count ≤ 200
+  pub few : count ≤ mostRules
   pub held : count ≤ length rs
   pub small : (i : ℕ) → i < count → Small (getD rs i noRule)
 
 -- the masks of these rules: of the joins in each direction, and of each of at most 64 colours, with one for all colours that the book lacks
 pub record SplitInto (rs : List Rule) (count : ℕ) (masks : List ℕ) (j : Joins) : Type 0 where
   pub serves : Serves (take count rs) (masksOf masks) (countOf j)
-  pub painters : (c : ℕ) → c < 65 → getD masks (1200 + c) 0 ≡ paintersOf rs count c
+  pub painters : (c : ℕ) → c < colourMasks → getD masks (paintersFrom + c) 0 ≡ paintersOf rs count c
 
 -- a table that begins with the masks of the cells, row by row, and goes on as before
 pub record Begun (rules colours : List ℕ) (count : ℕ) (before after : List ℕ) : Type 0 where
-  pub begins : (i : ℕ) → i < count → getD after i 0 ≡ getD rules (1200 + getD colours i 0) 0
+  pub begins : (i : ℕ) → i < count → getD after i 0 ≡ getD rules (paintersFrom + getD colours i 0) 0
   pub rest : (i : ℕ) → count ≤ i → getD after i 0 ≡ getD before i 0

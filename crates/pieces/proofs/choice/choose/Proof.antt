@@ -8,7 +8,7 @@ use lib.ListN.{length, take}
 use lib.Seq.{length-take-le, getD-take}
 use borrow.Author.Needs.{needs}
 use Rattle.books.specs.Rules.{noRule}
-use Rattle.pieces.specs.View.{seen}
+use Rattle.pieces.specs.inner.Seen.{seen}
 use Rattle.pieces.specs.Choice.{least, taken, lowest}
 use Rattle.pieces.proofs.Least.{least-found, least-passed, least-none}
 use Rattle.pieces.proofs.Fitting.{takes-own, takes-other, offered-rule, offered-none, choose-rule, choose-none}

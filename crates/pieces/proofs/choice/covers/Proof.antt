@@ -2,7 +2,7 @@
 use mathlib.Core.Path.{sym}
 use native.Mathlib.Omega.{arith}
 use borrow.Author.Needs.{needs}
-use Rattle.pieces.specs.View.{hasColour}
+use Rattle.pieces.specs.inner.Seen.{hasColour}
 use Rattle.pieces.proofs.Cutting.{cell-inside}
 use Rattle.pieces.proofs.Fitting.{covers-cell, covers-high, covers-wide}
 use Rattle.pieces.proofs.choice.covers.Statement.{statement}

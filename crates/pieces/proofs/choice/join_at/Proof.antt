@@ -4,8 +4,9 @@ use mathlib.Core.Path.{_≡_, sym, _∙_}
 use native.Mathlib.Omega.{arith}
 use borrow.Author.Needs.{needs}
 use borrow.Author.Tests.{lt-ltb, le-ltb}
-use Rattle.pieces.specs.View.{hasBit}
-use Rattle.pieces.specs.Choice.{least, works, cutOf, joinOffered}
+use Rattle.pieces.specs.inner.Seen.{hasBit}
+use Rattle.pieces.specs.Choice.{least, works, cutOf}
+use Rattle.pieces.specs.inner.Offered.{joinOffered}
 use Rattle.pieces.proofs.Cutting.{reach-pos}
 use Rattle.pieces.proofs.Least.{least-found, least-passed, least-none}
 use Rattle.pieces.proofs.choice.join_at.Statement.{statement}

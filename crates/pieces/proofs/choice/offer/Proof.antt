@@ -1,7 +1,8 @@
 -- A colour is held to the one cell of the piece, and a join to its smallest cut.
 use mathlib.Core.Path.{refl, sym, _∙_}
 use Rattle.pieces.specs.Direction.{reach}
-use Rattle.pieces.specs.Choice.{fits, chosen, joinOffered, offered}
+use Rattle.pieces.specs.Choice.{fits, chosen}
+use Rattle.pieces.specs.inner.Offered.{joinOffered, offered}
 use borrow.Author.Needs.{needs}
 use Rattle.pieces.proofs.choice.offer.Statement.{statement}
 use Rattle.pieces.proofs.choice.offer.Tie as tie

@@ -1,7 +1,7 @@
 -- The entry of a piece stands at its slot, and an entry, below 2 to the power 32, has no bit from the 32nd on.
 use lib.ListN.{getD}
 use Rattle.pieces.specs.Pieces.{slotOf}
-use Rattle.pieces.specs.View.{hasBit}
+use Rattle.pieces.specs.inner.Seen.{hasBit}
 use Rattle.pieces.specs.Table.{bit}
 use Rattle.pieces.proofs.Bits.{bit-high}
 use borrow.Author.Needs.{needs}

@@ -13,15 +13,16 @@ use Rattle.pieces.proofs.AllCuts.{along-cuts}
 use borrow.Author.Needs.{needs}
 use Rattle.pieces.proofs.table.entry_of.Statement.{statement}
 use Rattle.pieces.proofs.table.entry_of.Tie as tie
+use Rattle.pieces.specs.inner.Layout.{joinMasks}
 
 slice-aggregate-join-along : tie.Need-slice-aggregate-join-along
-slice-aggregate-join-along c = let s = c .before .before .before in sym (length-take-le 600 (s .args .rules .now) (omega (arith, s .pre .1)))
+slice-aggregate-join-along c = let s = c .before .before .before in sym (length-take-le joinMasks (s .args .rules .now) (omega (arith, s .pre .1)))
 
 join-along-requires : tie.Need-join-along-requires
 join-along-requires c κs =
     let s = c .before .before .before .before in (
       rw (c .across-course .ensures) (course-runs across _ _ _ _ (s .pre .0 .0) (s .pre .0 .1) (s .pre .0 .3)),
-      length-take-le 600 (s .args .rules .now) (omega (arith, s .pre .1)),
+      length-take-le joinMasks (s .args .rules .now) (omega (arith, s .pre .1)),
       s .pre .1 .1,
     )
 
@@ -29,7 +30,7 @@ join-along-requires-2 : tie.Need-join-along-requires-2
 join-along-requires-2 c κs =
     let s = c .before .before .before .before .before .before .before in (
       rw (c .down-course .ensures) (course-runs down _ _ _ _ (s .pre .0 .0) (s .pre .0 .1) (s .pre .0 .3)),
-      length-take-le 600 (drop 600 (s .args .rules .now)) (omega (arith, length-drop 600 (s .args .rules .now), s .pre .1)),
+      length-take-le joinMasks (drop joinMasks (s .args .rules .now)) (omega (arith, length-drop joinMasks (s .args .rules .now), s .pre .1)),
       s .pre .1 .2,
     )
 

@@ -3,7 +3,7 @@ use mathlib.Core.Path.{_≡_, refl, sym, _∙_}
 use mathlib.Core.Bool.{true}
 use denote.Ref.{now}
 use Rattle.pieces.specs.Area.{whole}
-use Rattle.pieces.specs.View.{hasBit}
+use Rattle.pieces.specs.inner.Seen.{hasBit}
 use Rattle.pieces.specs.inner.Verdict.{verdict}
 use Rattle.pieces.proofs.Writing.{wrote-found, wrote-lost}
 use borrow.Author.Needs.{needs}

@@ -1,0 +1,12 @@
+-- The sheets that the code's numbers have room for.
+use Prim.Native.Nat.{ℕ, _≤_}
+
+-- the most rows, and the most columns, that the code's numbers have room for
+abbrev pub most : ℕ
+most = 24
+
+pub record Room (m n : ℕ) : Type 0 where
+  pub rows-some : 1 ≤ m
+  pub rows-few : m ≤ most
+  pub cols-some : 1 ≤ n
+  pub cols-few : n ≤ most
