@@ -28,7 +28,9 @@ pub mod Giving
 pub mod TreeGiven
 pub mod ExactViews
 pub mod TheTree
+pub mod Endings
 pub mod Judging
 pub mod DerivationAnswers
 pub mod Orders
+pub mod Demand1
 pub mod Demand2

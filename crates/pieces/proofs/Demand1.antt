@@ -1,0 +1,112 @@
+-- Demand 1, of the call: from any bytes and any slices, what the answer can be, which input it blames and where, and what each lent slice then holds. Stated on the number
+-- that the C host gets, taken apart as the header does. Each way in which a derivation ends says it, and the number is the answer packed.
+use Prim.Native.Nat.{ℕ, _/_, _%_, _^_, _≤_, _<_}
+use mathlib.Core.Path.{_≡_, refl}
+use mathlib.Core.List.{List, _++_}
+use mathlib.Core.Logic.{_⊎_, inl, inr}
+use native.Mathlib.Omega.{arith}
+use lib.ListN.{length, drop}
+use Rattle.books.specs.Book.{bookOf}
+use Rattle.books.specs.Sheet.{sheetOf}
+use Rattle.books.specs.declared.answer.Answer.{Answer}
+use Rattle.books.proofs.Packing.{apart}
+use Rattle.books.proofs.ReadingBooks.{book-refused}
+use Rattle.books.proofs.ReadingSheets.{sheet-refused}
+use Rattle.pieces.specs.Table.{table}
+use Rattle.pieces.specs.Derivation.{Derivation, entriesNeeded, derivation, LeavesPacked}
+use Rattle.pieces.proofs.DerivationAnswers.{derivation-packs}
+use Rattle.pieces.proofs.Endings.{contents, shown, derivation-ends}
+
+-- The fault stands in the book: it is blamed at its place, which is a byte of the book or its end.
+pub record InBook (book : List ℕ) (number blamed place : ℕ) : Type 0 where
+  pub number-is : number ≡ bookOf book .fault .number
+  pub place-is : place ≡ bookOf book .fault .place
+  pub first : blamed ≡ 1
+  pub within : place ≤ length book
+
+-- The fault stands in the sheet, and the book has none.
+pub record InSheet (book sheet : List ℕ) (number blamed place : ℕ) : Type 0 where
+  pub book-fine : bookOf book .fault .number ≡ 0
+  pub number-is : number ≡ sheetOf sheet .fault .number
+  pub place-is : place ≡ sheetOf sheet .fault .place
+  pub second : blamed ≡ 2
+  pub within : place ≤ length sheet
+
+-- A call that was lent a book, a sheet and two slices answers so, and leaves the slices so.
+pub record Answered (book sheet work tree : List ℕ) (number blamed place : ℕ) (work-left tree-left : List ℕ) : Type 0 where
+  pub listed : number ≤ 11
+  pub faults : 1 ≤ number → number ≤ 8 → InBook book number blamed place ⊎ InSheet book sheet number blamed place
+  pub others : (number ≡ 0) ⊎ (9 ≤ number) → (blamed ≡ 0) × (place ≡ 0)
+  pub unwritten : 1 ≤ number → number ≤ 10 → (work-left ≡ work) × (tree-left ≡ tree)
+  pub eleven : number ≡ 11 → (work-left ≡ table (contents book) (shown sheet) ++ drop (entriesNeeded (shown sheet)) work) × (tree-left ≡ tree)
+
+module _ (book sheet work tree : List ℕ) where
+  abbrev Obeys : Derivation → Type 0
+  Obeys d = Answered book sheet work tree (d .answer .number) (d .answer .blamed) (d .answer .place) (d .entries) (d .numbers)
+
+  obeys : Obeys (derivation book sheet work tree)
+  obeys =
+      derivation-ends book sheet work tree Obeys
+      (record {
+        in-book = λ n. let f = book-refused book n .blamed in
+            record {
+              listed = omega (arith, f .known);
+              faults = λ h g. inl (record { number-is = refl; place-is = refl; first = refl; within = f .inside });
+              others = λ z. absurd (unlisted _ (f .some) (f .known) z);
+              unwritten = λ h g. (refl, refl);
+              eleven = λ e. absurd (omega (arith, f .known, e));
+            };
+        in-sheet = λ z n. let f = sheet-refused sheet n .blamed in
+            record {
+              listed = omega (arith, f .known);
+              faults = λ h g. inr (record { book-fine = z; number-is = refl; place-is = refl; second = refl; within = f .inside });
+              others = λ o. absurd (unlisted _ (f .some) (f .known) o);
+              unwritten = λ h g. (refl, refl);
+              eleven = λ e. absurd (omega (arith, f .known, e));
+            };
+        short-work = λ fine short. still 9 (omega arith) (omega arith);
+        short-tree = λ fine enough short. still 10 (omega arith) (omega arith);
+        declined = λ fine room none.
+            record {
+              listed = omega arith;
+              faults = λ h g. absurd (omega arith);
+              others = λ o. (refl, refl);
+              unwritten = λ h g. absurd (omega arith);
+              eleven = λ e. (refl, refl);
+            };
+        derived = λ fine room x nodes given.
+            record {
+              listed = omega arith;
+              faults = λ h g. absurd (omega arith);
+              others = λ o. (refl, refl);
+              unwritten = λ h g. absurd (omega arith);
+              eleven = λ e. absurd (omega arith);
+            };
+      })
+    where
+      unlisted : (n : ℕ) → 1 ≤ n → n ≤ 8 → (n ≡ 0) ⊎ (9 ≤ n) → ⊥
+      unlisted n h g (inl e) = omega arith
+      unlisted n h g (inr e) = omega arith
+
+      still : (n : ℕ) → 9 ≤ n → n ≤ 10 → Answered book sheet work tree n 0 0 work tree
+      still n h g =
+          record {
+            listed = omega arith;
+            faults = λ u w. absurd (omega arith);
+            others = λ o. (refl, refl);
+            unwritten = λ u w. (refl, refl);
+            eleven = λ e. absurd (omega arith);
+          }
+
+  -- ── The theorem ──
+
+  pub record Called (r : ℕ) (work-left tree-left : List ℕ) : Type 0 where
+    pub answered : Answered book sheet work tree (r % 2 ^ 8) (r / 2 ^ 8 % 2 ^ 4) (r / 2 ^ 12 % 2 ^ 20) work-left tree-left
+    pub counted : r / 2 ^ 32 ≡ 0
+
+  pub dv-derive-called : {r : ℕ} {work-left tree-left : List ℕ} → LeavesPacked (derivation book sheet work tree) r work-left tree-left → Called r work-left tree-left
+  dv-derive-called left =
+      let d = derivation book sheet work tree in
+      let parts = apart (d .answer) 0 (derivation-packs book sheet work tree) in
+      rw (left .answers, left .leaves-work, left .leaves-tree)
+      (record { answered = rw (parts .number-is, parts .blamed-is, parts .listed-is) obeys; counted = parts .count-is })

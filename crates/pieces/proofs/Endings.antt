@@ -1,0 +1,86 @@
+-- The six ways in which a derivation ends: what holds of each holds of every derivation. A derived sheet has a tree, so that 14 is none of them.
+use Prim.Native.Nat.{ℕ, _≤_, _<_}
+use mathlib.Core.Path.{_≡_}
+use mathlib.Core.List.{List, _++_}
+use borrow.Author.Tests.{eqb-true, eqb-false, ltb-true, ltb-false}
+use lib.Dec.{eqb, ltb}
+use lib.ListN.{length, drop}
+use Rattle.names.proofs.Picking.{pick-ind}
+use Rattle.books.specs.Contents.{Contents}
+use Rattle.books.specs.Picture.{Picture}
+use Rattle.books.specs.Grid.{picture}
+use Rattle.books.specs.ContentsIn.{contentsIn, gridIn}
+use Rattle.books.specs.Derives.{Member}
+use Rattle.books.specs.Decide.{derives?}
+use Rattle.books.specs.Book.{bookOf}
+use Rattle.books.specs.Sheet.{sheetOf}
+use Rattle.books.specs.Answer.{answer, plain}
+use Rattle.books.proofs.Deciding.{decided, refused}
+use Rattle.pieces.specs.Given.{Given}
+use Rattle.pieces.specs.Derivation.{Derivation, leaving, entriesNeeded, numbersNeeded, filled, judged, roomed, derivation, outcome}
+use Rattle.pieces.proofs.TheTree.{tree-given}
+
+-- what a lent book says, and what a lent sheet shows
+abbrev pub contents : List ℕ → Contents
+contents book = contentsIn book (bookOf book .family)
+
+abbrev pub shown : List ℕ → Picture
+shown sheet = picture (gridIn sheet (sheetOf sheet .sheet))
+
+-- both inputs are accepted
+pub record Accepted (book sheet : List ℕ) : Type 0 where
+  pub book-fine : bookOf book .fault .number ≡ 0
+  pub sheet-fine : sheetOf sheet .fault .number ≡ 0
+
+-- and both slices are long enough
+pub record Roomy (p : Picture) (entries numbers : List ℕ) : Type 0 where
+  pub work-long : entriesNeeded p ≤ length entries
+  pub tree-long : numbersNeeded p ≤ length numbers
+
+module _ (book sheet entries numbers : List ℕ) where
+  abbrev b : Contents
+  b = contents book
+
+  abbrev p : Picture
+  p = shown sheet
+
+  pub record Cases (P : Derivation → Type 0) : Type 0 where
+    pub in-book : (bookOf book .fault .number ≡ 0 → ⊥) → P (leaving (answer (bookOf book .fault .number) 1 (bookOf book .fault .place)) entries numbers)
+    pub in-sheet : bookOf book .fault .number ≡ 0 → (sheetOf sheet .fault .number ≡ 0 → ⊥)
+        → P (leaving (answer (sheetOf sheet .fault .number) 2 (sheetOf sheet .fault .place)) entries numbers)
+    pub short-work : Accepted book sheet → length entries < entriesNeeded p → P (leaving (plain 9) entries numbers)
+    pub short-tree : Accepted book sheet → entriesNeeded p ≤ length entries → length numbers < numbersNeeded p → P (leaving (plain 10) entries numbers)
+    pub declined : Accepted book sheet → Roomy p entries numbers → (Member b p → ⊥) → P (leaving (plain 11) (filled b p entries) numbers)
+    pub derived : Accepted book sheet → Roomy p entries numbers → Member b p → (nodes : List ℕ) → Given b (b .start) p nodes
+        → P (record { answer = plain 0; entries = filled b p entries; numbers = nodes ++ drop (length nodes) numbers })
+
+  module _ (P : Derivation → Type 0) (cases : Cases P) where
+    by-judging : Accepted book sheet → Roomy p entries numbers → P (judged b p (filled b p entries) numbers)
+    unfolding judged outcome
+    by-judging fine room =
+        pick-ind P (derives? b (b .start) p) _ _
+        (λ e.
+        let x = decided b (b .start) p .0 e in
+        let (nodes, is, given) = tree-given b p x in
+        rw is (cases .derived fine room x nodes given))
+        (λ e. cases .declined fine room (refused b (b .start) p .0 e))
+
+    by-room : Accepted book sheet → P (roomed b p entries numbers)
+    unfolding roomed
+    by-room fine =
+        pick-ind P (ltb (length entries) (entriesNeeded p)) _ _
+        (λ e. cases .short-work fine (ltb-true _ _ e))
+        (λ e. let work = ltb-false (length entries) (entriesNeeded p) e in
+        pick-ind P (ltb (length numbers) (numbersNeeded p)) _ _
+        (λ f. cases .short-tree fine work (ltb-true _ _ f))
+        (λ f. by-judging fine (record { work-long = work; tree-long = ltb-false (length numbers) (numbersNeeded p) f })))
+
+    pub derivation-ends : P (derivation book sheet entries numbers)
+    unfolding derivation
+    derivation-ends =
+        pick-ind P (eqb (bookOf book .fault .number) 0) _ _
+        (λ e. let z = eqb-true (bookOf book .fault .number) 0 e in
+        pick-ind P (eqb (sheetOf sheet .fault .number) 0) _ _
+        (λ f. by-room (record { book-fine = z; sheet-fine = eqb-true (sheetOf sheet .fault .number) 0 f }))
+        (λ f. rw f (cases .in-sheet z (eqb-false (sheetOf sheet .fault .number) 0 f))))
+        (λ e. rw e (cases .in-book (eqb-false (bookOf book .fault .number) 0 e)))
