@@ -26,7 +26,6 @@ use Rattle.books.proofs.ReadingBooks.{book-accepted}
 use Rattle.pieces.specs.declared.piece.Piece.{Piece}
 use Rattle.pieces.specs.Pieces.{Inside, slotOf}
 use Rattle.pieces.specs.Table.{bit, cut, table}
-use Rattle.pieces.specs.Tree.{tree}
 use Rattle.pieces.specs.Given.{Given}
 use Rattle.pieces.specs.Derivation.{Derivation, entriesNeeded, numbersNeeded, filled, judged, roomed, derivation, outcome, Left, Leaves, LeavesPacked}
 use Rattle.pieces.proofs.Entries.{entry-derives, derives-entry}

@@ -28,12 +28,12 @@ use Rattle.books.specs.declared.family.Family.{Family}
 use Rattle.books.specs.declared.sheet.Sheet.{Sheet}
 use Rattle.books.proofs.Deciding.{decided, refused}
 use Rattle.pieces.specs.declared.piece.Piece.{Piece}
-use Rattle.pieces.specs.Pieces.{piece, pieces, Inside, slotOf, total}
+use Rattle.pieces.specs.Pieces.{pieces, Inside, slotOf, total}
 use Rattle.pieces.specs.Area.{whole, treeSize}
 use Rattle.pieces.specs.Table.{bit, cut, entry, table}
 use Rattle.pieces.specs.inner.Seen.{hasBit, seen}
 use Rattle.pieces.proofs.ExactViews.{Exact}
-use Rattle.pieces.specs.Tree.{tree, treeOf}
+use Rattle.pieces.specs.Tree.{treeOf}
 use Rattle.pieces.specs.inner.Settled.{TableMade}
 use Rattle.pieces.specs.inner.Verdict.{Verdict, verdict, lacking}
 use Rattle.pieces.specs.Derivation.{Derivation, leaving, entriesNeeded, numbersNeeded, filled, treeAnswer, judged, roomed, outcome}

@@ -34,3 +34,4 @@ pub mod DerivationAnswers
 pub mod Orders
 pub mod Demand1
 pub mod Demand2
+pub mod Demand2Numbers

@@ -2,7 +2,6 @@
 -- picture is derived. Any two exact views give the same tree, so that the code's table gives this one, and at no node of it a rule is missing.
 use Prim.Native.Nat.{ℕ, _-_, _*_, _≤_}
 use mathlib.Core.Path.{_≡_, sym, _∙_, ap}
-use mathlib.Core.Bool.{true}
 use mathlib.Core.List.{List}
 use mathlib.Core.Logic.{_↔_}
 use mathlib.Core.Option.{some}

@@ -1,6 +1,6 @@
 -- The tree of a piece is its node and the trees of its two parts, since a part's area is smaller. What holds of a leaf, and of a node where it
 -- holds of its parts, holds of the tree: so it has 2mn - 1 nodes of two numbers each, and its numbers are small.
-use Prim.Native.Nat.{ℕ, zero, suc, _+_, _-_, _≤_, _<_}
+use Prim.Native.Nat.{ℕ, zero, suc, _+_, _≤_, _<_}
 use mathlib.Core.Path.{_≡_, refl, _∙_, ap₂}
 use mathlib.Core.List.{List, [], _∷_, _++_}
 use mathlib.Core.Option.{Option, some, none}

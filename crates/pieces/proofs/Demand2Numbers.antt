@@ -1,0 +1,117 @@
+-- Demand 2, on what is answered: which number is given exactly when, of `derive` and of `dv_derive` as the host reads it. Of the ways in which a derivation ends each has its
+-- number, and no two can be at once.
+use Prim.Native.Nat.{ℕ, _%_, _^_, _≤_, _<_}
+use mathlib.Core.Path.{_≡_, refl, sym, ap, _∙_}
+use mathlib.Core.List.{List}
+use mathlib.Core.Logic.{_↔_}
+use native.Mathlib.Omega.{arith}
+use lib.ListN.{length}
+use Rattle.books.specs.Contents.{Contents}
+use Rattle.books.specs.Picture.{Picture}
+use Rattle.books.specs.Derives.{Member}
+use Rattle.books.specs.Answer.{packed}
+use Rattle.books.specs.declared.answer.Answer.{Answer}
+use Rattle.books.proofs.Packing.{apart}
+use Rattle.books.proofs.ReadingBooks.{book-refused}
+use Rattle.books.proofs.ReadingSheets.{sheet-refused}
+use Rattle.pieces.specs.Derivation.{Derivation, entriesNeeded, numbersNeeded, derivation, Leaves, LeavesPacked}
+use Rattle.pieces.proofs.DerivationAnswers.{derivation-packs}
+use Rattle.pieces.proofs.Endings.{contents, shown, Accepted, Roomy, derivation-ends}
+use Rattle.pieces.proofs.Demand1.{dv-derive-called}
+
+neither : {A B : Type 0} → (A → ⊥) → (B → ⊥) → A ↔ B
+neither f g = (λ a. absurd (f a), λ b. absurd (g b))
+
+together : {A B : Type 0} → A → B → A ↔ B
+together a b = (λ _. b, λ _. a)
+
+module _ (book sheet entries numbers : List ℕ) where
+  abbrev b : Contents
+  b = contents book
+
+  abbrev p : Picture
+  p = shown sheet
+
+  pub record Numbers (n : ℕ) : Type 0 where
+    pub faulty : ((1 ≤ n) × (n ≤ 8)) ↔ (Accepted book sheet → ⊥)
+    pub nine : (n ≡ 9) ↔ (Accepted book sheet × (length entries < entriesNeeded p))
+    pub ten : (n ≡ 10) ↔ (Accepted book sheet × (entriesNeeded p ≤ length entries) × (length numbers < numbersNeeded p))
+    pub eleven : (n ≡ 11) ↔ (Accepted book sheet × Roomy p entries numbers × (Member b p → ⊥))
+    pub zero : (n ≡ 0) ↔ (Accepted book sheet × Roomy p entries numbers × Member b p)
+
+  abbrev Numbered : Derivation → Type 0
+  Numbered d = Numbers (d .answer .number)
+
+  in-input : (n : ℕ) → 1 ≤ n → n ≤ 8 → (Accepted book sheet → ⊥) → Numbers n
+  in-input n h g bad =
+      record {
+        faulty = together (h, g) bad;
+        nine = neither (λ e. omega arith) (λ x. bad (x .0));
+        ten = neither (λ e. omega arith) (λ x. bad (x .0));
+        eleven = neither (λ e. omega arith) (λ x. bad (x .0));
+        zero = neither (λ e. omega arith) (λ x. bad (x .0));
+      }
+
+  numbered : Numbered (derivation book sheet entries numbers)
+  numbered =
+      derivation-ends book sheet entries numbers Numbered
+      (record {
+        in-book = λ n. let f = book-refused book n .blamed in in-input _ (f .some) (f .known) (λ fine. n (fine .book-fine));
+        in-sheet = λ z n. let f = sheet-refused sheet n .blamed in in-input _ (f .some) (f .known) (λ fine. n (fine .sheet-fine));
+        short-work = λ fine short.
+            record {
+              faulty = neither (λ e. omega (arith, e .1)) (λ bad. bad fine);
+              nine = together refl (fine, short);
+              ten = neither (λ e. omega arith) (λ x. omega (arith, x .1));
+              eleven = neither (λ e. omega arith) (λ x. omega (arith, x .1 .work-long));
+              zero = neither (λ e. omega arith) (λ x. omega (arith, x .1 .work-long));
+            };
+        short-tree = λ fine enough short.
+            record {
+              faulty = neither (λ e. omega (arith, e .1)) (λ bad. bad fine);
+              nine = neither (λ e. omega arith) (λ x. omega (arith, x .1));
+              ten = together refl (fine, enough, short);
+              eleven = neither (λ e. omega arith) (λ x. omega (arith, x .1 .tree-long));
+              zero = neither (λ e. omega arith) (λ x. omega (arith, x .1 .tree-long));
+            };
+        declined = λ fine room none.
+            record {
+              faulty = neither (λ e. omega (arith, e .1)) (λ bad. bad fine);
+              nine = neither (λ e. omega arith) (λ x. omega (arith, x .1, room .work-long));
+              ten = neither (λ e. omega arith) (λ x. omega (arith, x .2, room .tree-long));
+              eleven = together refl (fine, room, none);
+              zero = neither (λ e. omega arith) (λ x. none (x .2));
+            };
+        derived = λ fine room x nodes given.
+            record {
+              faulty = neither (λ e. omega (arith, e .0)) (λ bad. bad fine);
+              nine = neither (λ e. omega arith) (λ y. omega (arith, y .1, room .work-long));
+              ten = neither (λ e. omega arith) (λ y. omega (arith, y .2, room .tree-long));
+              eleven = neither (λ e. omega arith) (λ y. y .2 x);
+              zero = together refl (fine, room, x);
+            };
+      })
+
+  -- ── The theorems ──
+
+  -- 1 to 8 exactly where an input is refused, 9 exactly where both are accepted and the work slice is too short, 10 where only the tree slice is, 11 exactly where both are
+  -- long enough and the family has not the sheet, and 0 exactly where it has it
+  pub derive-numbers : {r : Answer} {w t : List ℕ} → Leaves (derivation book sheet entries numbers) r w t → Numbers (r .number)
+  derive-numbers left = rw (left .answers) numbered
+
+  pub dv-derive-numbers : {r : ℕ} {w t : List ℕ} → LeavesPacked (derivation book sheet entries numbers) r w t → Numbers (r % 2 ^ 8)
+  dv-derive-numbers left =
+      rw (left .answers, apart (derivation book sheet entries numbers .answer) 0 (derivation-packs book sheet entries numbers) .number-is) numbered
+
+  -- 14 is a guard that no book and no sheet meet
+  pub never-14 : {r : ℕ} {w t : List ℕ} → LeavesPacked (derivation book sheet entries numbers) r w t → r % 2 ^ 8 ≡ 14 → ⊥
+  never-14 left e = omega (arith, dv-derive-called book sheet entries numbers left .answered .listed, e)
+
+  -- the two calls do the same
+  pub alike : {a : Answer} {r : ℕ} {w v t u : List ℕ} → let d = derivation book sheet entries numbers in
+      Leaves d a w t → LeavesPacked d r v u → (r ≡ packed a 0) × (v ≡ w) × (u ≡ t)
+  alike x y = (
+    y .answers ∙ ap (λ (a : Answer). packed a 0) (sym (x .answers)),
+    y .leaves-work ∙ sym (x .leaves-work),
+    y .leaves-tree ∙ sym (x .leaves-tree),
+  )
