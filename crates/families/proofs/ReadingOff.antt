@@ -23,7 +23,7 @@ read-off : (o : Outcome) (left : List ℕ) (r : ℕ) → Packs (o .answer) (o .c
 read-off o left r packs leaves =
     let parts = apart (o .answer) (o .count) packs in
     record {
-      answer-is = ap answerOf (leaves .answers) ∙ (λ i. answer (parts .number-is i) (parts .blamed-is i) (parts .listed-is i));
+      answer-is = ap answerOf (leaves .answers) ∙ (λ i. answer (parts .number-is i) (parts .blamed-is i) (parts .place-is i));
       count-is = ap countOf (leaves .answers) ∙ parts .count-is;
       left-is = leaves .leaves;
     }

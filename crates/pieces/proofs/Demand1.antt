@@ -108,4 +108,4 @@ module _ (book sheet work tree : List ℕ) where
       let d = derivation book sheet work tree in
       let parts = apart (d .answer) 0 (derivation-packs book sheet work tree) in
       rw (left .answers, left .leaves-work, left .leaves-tree)
-      (record { answered = rw (parts .number-is, parts .blamed-is, parts .listed-is) obeys; counted = parts .count-is })
+      (record { answered = rw (parts .number-is, parts .blamed-is, parts .place-is) obeys; counted = parts .count-is })
