@@ -1,22 +1,27 @@
 -- What fits a piece and what is taken there, one case at a time.
 use Prim.Native.Nat.{ℕ, _≤_, _<_}
-use mathlib.Core.Path.{_≡_, sym, subst, _∙_}
+use mathlib.Core.Path.{_≡_, refl, sym, subst, _∙_}
 use mathlib.Core.Bool.{Bool, true, false}
 use mathlib.Core.List.{List}
 use mathlib.Core.Logic.{⊎-elim}
+use lib.Dec.{eqb, ltb}
 use lib.ListN.{length, getD}
 use borrow.Author.Tests.{eq-eqb, ne-eqb, lt-ltb, le-ltb}
+use Rattle.names.specs.Pick.{pick}
 use Rattle.names.proofs.Tests.{true-or-false, not-true-false}
 use Rattle.books.specs.declared.rule.Rule.{Rule}
 use Rattle.books.specs.declared.rule.Body.{Body}
 use Rattle.books.specs.declared.rule.Body.the-variants.{Colour, Across, Down}
 use Rattle.pieces.specs.declared.piece.Piece.{Piece}
+use Rattle.pieces.specs.declared.part.Direction.{Direction}
+use Rattle.pieces.specs.declared.part.Direction.the-variants.{Across as AcrossOf, Down as DownOf}
 use Rattle.pieces.specs.declared.choice.Choice.{Choice}
 use Rattle.pieces.specs.declared.choice.Choice.the-variants.{NoRule, Leaf, Join}
+use Rattle.pieces.specs.Direction.{reach}
 use Rattle.pieces.specs.View.{View}
-use Rattle.books.specs.Rules.{noRule}
-use Rattle.pieces.specs.Choice.{covers, fits, takes, lowest, chosen, choose}
-use Rattle.pieces.specs.inner.Offered.{offered}
+use Rattle.books.specs.Rules.{joinBody, noRule}
+use Rattle.pieces.specs.Choice.{cutOf, covers, fits, takes, lowest, chosen, choose}
+use Rattle.pieces.specs.inner.Offered.{directionOf, offered}
 use Rattle.pieces.proofs.Least.{and-on, and-off}
 
 -- A piece is one cell of a colour where it has one row and one column and the cell has the colour.
@@ -53,6 +58,23 @@ module _ (v : View) (q : Piece) (i : ℕ) (x : Body) (o : Choice) (made : o ≡ 
   pub offered-none : o ≡ NoRule → fits v q x ≡ false
   unfolding offered
   offered-none h = not-true-false (fits v q x) (λ e. subst IsRule (rw e at (sym made ∙ h)) (chosen-rule (v .has) q i x))
+
+-- A join offers its rule exactly where its smallest cut lies in the piece, whichever its direction.
+module _ (v : View) (q : Piece) (i kind x y : ℕ) where
+  join-offered : (t : Bool) → let d = pick t AcrossOf DownOf in
+      offered v q i (pick t (Across x y) (Down x y)) ≡ pick (ltb (cutOf (v .has) d x y q) (reach d q)) (Join i d (cutOf (v .has) d x y q) x y) NoRule
+  unfolding offered fits chosen reach
+  join-offered true = refl
+  join-offered false = refl
+
+  module _ {d : Direction} {k : ℕ} (e : d ≡ directionOf kind) (f : k ≡ cutOf (v .has) d x y q) where
+    pub join-fits : k < reach d q → Join i d k x y ≡ offered v q i (joinBody kind x y)
+    unfolding directionOf
+    join-fits h = rw (join-offered (eqb kind 1), ← e, ← f, lt-ltb _ _ h)
+
+    pub no-join-fits : reach d q ≤ k → NoRule ≡ offered v q i (joinBody kind x y)
+    unfolding directionOf
+    no-join-fits h = rw (join-offered (eqb kind 1), ← e, ← f, le-ltb _ _ h)
 
 -- A rule is held to its head first, and then to its body.
 module _ (v : View) (q : Piece) (a : ℕ) (r : Rule) where

@@ -31,7 +31,7 @@ use Rattle.pieces.specs.declared.piece.Piece.{Piece}
 use Rattle.pieces.specs.Pieces.{pieces, Inside, slotOf, total}
 use Rattle.pieces.specs.Area.{whole, treeSize}
 use Rattle.pieces.specs.Table.{bit, cut, entry, table}
-use Rattle.pieces.specs.inner.Seen.{hasBit, seen}
+use Rattle.pieces.specs.inner.Seen.{sized, hasBit, seen}
 use Rattle.pieces.proofs.ExactViews.{Exact}
 use Rattle.pieces.specs.Tree.{treeOf}
 use Rattle.pieces.specs.inner.Settled.{TableMade}
@@ -99,28 +99,28 @@ module _ {book : List ℕ} {f : Family} {bytes : List ℕ} {g : Sheet} (given : 
   p = picture (gridIn bytes g)
 
   module _ (numbers : List ℕ) (numbered : Numbered book f bytes g numbers) where
-    exact : Exact b p (seen (g .rows) (g .cols) work numbers)
+    exact : Exact b p (seen (sized (g .rows) (g .cols)) work numbers)
     exact =
         seen-exact b p (given .book-keeps .sound) (given .book-keeps .colours-ok .distinct) work numbers (held-entry b p work holds)
         (λ i j hi hj. numbered (i * g .cols + j) (cell-before (g .rows) (g .cols) i j hi hj)
         ∙ (find-listed book (f .colours) _ (book-colours given) ∙ ap (listed (namesIn book (f .colours))) (sym (cell-name given i j hi hj))))
 
-    starts : hasBit (g .rows) (g .cols) work (f .start) (whole (g .rows) (g .cols)) ≡ true → Derives b (f .start) p
+    starts : hasBit (sized (g .rows) (g .cols)) work (f .start) (whole (g .rows) (g .cols)) ≡ true → Derives b (f .start) p
     starts e =
         let k = given .sheet-keeps in
         subst (Derives b (f .start)) (cut-whole p) (exact .has-exact (f .start) (whole (g .rows) (g .cols)) (whole-inside (g .rows) (g .cols) (k .rows-some) (k .cols-some)) .0 e)
 
     -- where the start has its bit, the tree that is found is the derivation given
-    judged-by-tree : (entries tree-slice : List ℕ) → hasBit (g .rows) (g .cols) work (f .start) (whole (g .rows) (g .cols)) ≡ true
-        → let t = treeOf (seen (g .rows) (g .cols) work numbers) (take (f .count) (f .rules)) (f .start) (whole (g .rows) (g .cols)) in
+    judged-by-tree : (entries tree-slice : List ℕ) → hasBit (sized (g .rows) (g .cols)) work (f .start) (whole (g .rows) (g .cols)) ≡ true
+        → let t = treeOf (seen (sized (g .rows) (g .cols)) work numbers) (take (f .count) (f .rules)) (f .start) (whole (g .rows) (g .cols)) in
         judged b p entries tree-slice ≡ record { answer = treeAnswer t; entries = entries; numbers = outcome (numbersNeeded p) tree-slice t }
     unfolding judged
     judged-by-tree entries tree-slice e =
         let x = starts e in
-        simp (decided b (f .start) p .1 x, exact-tree b p (seen (g .rows) (g .cols) work numbers) exact x)
+        simp (decided b (f .start) p .1 x, exact-tree b p (seen (sized (g .rows) (g .cols)) work numbers) exact x)
 
   -- where it has not, the sheet is not derived
-  not-derived : hasBit (g .rows) (g .cols) work (f .start) (whole (g .rows) (g .cols)) ≡ false → Derives b (f .start) p → ⊥
+  not-derived : hasBit (sized (g .rows) (g .cols)) work (f .start) (whole (g .rows) (g .cols)) ≡ false → Derives b (f .start) p → ⊥
   unfolding hasBit
   not-derived e x =
       let k = given .sheet-keeps in
@@ -129,14 +129,14 @@ module _ {book : List ℕ} {f : Family} {bytes : List ℕ} {g : Sheet} (given : 
       let set = derives-entry b (cut p sheet) (f .start) (given .book-keeps .sound .start-fits) (subst (Derives b (f .start)) (sym (cut-whole p)) x) in
       eqb-false (bit (getD work (slotOf (g .rows) (g .cols) sheet) 0) (f .start)) 1 e (ap (λ (n : ℕ). bit n (f .start)) entered ∙ set)
 
-  judged-none : (entries tree-slice : List ℕ) → hasBit (g .rows) (g .cols) work (f .start) (whole (g .rows) (g .cols)) ≡ false
+  judged-none : (entries tree-slice : List ℕ) → hasBit (sized (g .rows) (g .cols)) work (f .start) (whole (g .rows) (g .cols)) ≡ false
       → judged b p entries tree-slice ≡ leaving (plain 11) entries tree-slice
   unfolding judged
   judged-none entries tree-slice e = simp (refused b (f .start) p .1 (not-derived e))
 
   -- what the table tells is what the motifs derive
   abbrev told : List ℕ → List ℕ → Verdict
-  told numbers tree-slice = verdict (seen (g .rows) (g .cols) work numbers) (take (f .count) (f .rules)) (f .start) (whole (g .rows) (g .cols)) tree-slice
+  told numbers tree-slice = verdict (seen (sized (g .rows) (g .cols)) work numbers) (take (f .count) (f .rules)) (f .start) (whole (g .rows) (g .cols)) tree-slice
 
   judged-told : (numbers : List ℕ) → Numbered book f bytes g numbers → (entries tree-slice : List ℕ)
       → judged b p entries tree-slice
@@ -145,8 +145,8 @@ module _ {book : List ℕ} {f : Family} {bytes : List ℕ} {g : Sheet} (given : 
   judged-told numbers numbered entries tree-slice =
       pick-ind
       (λ (v : Verdict). judged b p entries tree-slice ≡ record { answer = plain (v .number); entries = entries; numbers = v .numbers })
-      (hasBit (g .rows) (g .cols) work (f .start) (whole (g .rows) (g .cols))) _ _
-      (λ e. let t = treeOf (seen (g .rows) (g .cols) work numbers) (take (f .count) (f .rules)) (f .start) (whole (g .rows) (g .cols)) in
+      (hasBit (sized (g .rows) (g .cols)) work (f .start) (whole (g .rows) (g .cols))) _ _
+      (λ e. let t = treeOf (seen (sized (g .rows) (g .cols)) work numbers) (take (f .count) (f .rules)) (f .start) (whole (g .rows) (g .cols)) in
       judged-by-tree numbers numbered entries tree-slice e
       ∙ ap (λ (a : Answer). record { answer = a; entries = entries; numbers = outcome (numbersNeeded p) tree-slice t }) (plain-number t))
       (λ e. judged-none entries tree-slice e)
@@ -166,9 +166,9 @@ module _ {book : List ℕ} {f : Family} {bytes : List ℕ} {g : Sheet} (given : 
 
   pub judged-made : judged contents sheet-picture (filled contents sheet-picture before) tree-slice
       ≡ record {
-        answer = plain (verdict (seen (g .rows) (g .cols) after cells) (take (f .count) (f .rules)) (f .start) (whole (g .rows) (g .cols)) tree-slice .number);
+        answer = plain (verdict (seen (sized (g .rows) (g .cols)) after cells) (take (f .count) (f .rules)) (f .start) (whole (g .rows) (g .cols)) tree-slice .number);
         entries = after;
-        numbers = verdict (seen (g .rows) (g .cols) after cells) (take (f .count) (f .rules)) (f .start) (whole (g .rows) (g .cols)) tree-slice .numbers;
+        numbers = verdict (seen (sized (g .rows) (g .cols)) after cells) (take (f .count) (f .rules)) (f .start) (whole (g .rows) (g .cols)) tree-slice .numbers;
       }
   judged-made =
       ap (λ (w : List ℕ). judged contents sheet-picture w tree-slice) (sym is-filled)

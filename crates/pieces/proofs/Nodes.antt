@@ -7,13 +7,15 @@ use native.Mathlib.Omega.{arith}
 use lib.ListN.{length}
 use Rattle.books.specs.declared.rule.Rule.{Rule}
 use Rattle.pieces.specs.declared.piece.Piece.{Piece}
+use Rattle.pieces.specs.declared.piece.Size.{Size}
 use Rattle.pieces.specs.declared.part.Direction.{Direction}
 use Rattle.pieces.specs.declared.choice.Choice.{Choice}
 use Rattle.pieces.specs.declared.choice.Choice.the-variants.{Leaf, Join}
 use Rattle.pieces.specs.Pieces.{Inside}
 use Rattle.pieces.specs.Area.{treeSize}
 use Rattle.pieces.specs.Direction.{reach, front, back}
-use Rattle.pieces.specs.inner.Seen.{Ready, seen}
+use Rattle.pieces.specs.inner.Room.{most}
+use Rattle.pieces.specs.inner.Seen.{On, Ready, seen}
 use Rattle.pieces.specs.Choice.{choose}
 use Rattle.pieces.specs.Tree.{nodeTree, treeOf}
 use Rattle.pieces.proofs.Cutting.{reach-small, area-pos}
@@ -32,35 +34,35 @@ pub record JoinFits (m n : ℕ) (q : Piece) (i : ℕ) (d : Direction) (k : ℕ) 
   pub rooms : treeSize q ≡ 2 + (treeSize (front d k q) + treeSize (back d k q))
 
 -- A choice was made at a piece.
-pub record Chose (m n : ℕ) (work colours : List ℕ) (rules : List Rule) (a : ℕ) (q : Piece) (o : Choice) : Type 0 where
-  pub ready : Ready m n work colours
-  pub in-sheet : Inside m n q
+pub record Chose (s : Size) (work colours : List ℕ) (rules : List Rule) (a : ℕ) (q : Piece) (o : Choice) : Type 0 where
+  pub ready : Ready s work colours
+  pub in-sheet : On s q
   pub few : length rules ≤ mostRules
-  pub choice : o ≡ choose (seen m n work colours) rules a q
+  pub choice : o ≡ choose (seen s work colours) rules a q
 
-module _ {m n : ℕ} {work colours : List ℕ} {rules : List Rule} {a : ℕ} {q : Piece} {o : Choice} (c : Chose m n work colours rules a q o) where
-  right : (x : Choice) → o ≡ x → Right (seen m n work colours) rules a q x
-  right x f = rw (← f, c .choice) (choose-right (seen m n work colours) rules a q)
+module _ {s : Size} {work colours : List ℕ} {rules : List Rule} {a : ℕ} {q : Piece} {o : Choice} (c : Chose s work colours rules a q o) where
+  right : (x : Choice) → o ≡ x → Right (seen s work colours) rules a q x
+  right x f = rw (← f, c .choice) (choose-right (seen s work colours) rules a q)
 
   pub leaf-small : (i : ℕ) → o ≡ Leaf i → i < 65536
   leaf-small i f = omega (arith, c .few, right (Leaf i) f .1 .below)
 
-  pub join-fits : (i : ℕ) (d : Direction) (k l r : ℕ) → o ≡ Join i d k l r → JoinFits m n q i d k
+  pub join-fits : (i : ℕ) (d : Direction) (k l r : ℕ) → o ≡ Join i d k l r → JoinFits (s .rows) (s .cols) q i d k
   join-fits i d k l r f =
       let w = right (Join i d k l r) f in
       let sizes = c .ready .tabled .sizes in
-      let p : Parts m n d k q = parts m n q (c .in-sheet) d k (w .1 .from-one) (w .1 .inside) in
+      let p : Parts (s .rows) (s .cols) d k q = parts (s .rows) (s .cols) q (c .in-sheet) d k (w .1 .from-one) (w .1 .inside) in
       record {
         rule-small = omega (arith, c .few, w .0 .below);
-        cut-small = omega (arith, w .1 .inside, reach-small m n q (c .in-sheet) d 24 (sizes .rows-few) (sizes .cols-few));
+        cut-small = omega (arith, w .1 .inside, reach-small (s .rows) (s .cols) q (c .in-sheet) d most (sizes .rows-few) (sizes .cols-few));
         inside = w .1 .inside;
         of-parts = p;
-        rooms = parts-room m n d k q p;
+        rooms = parts-room (s .rows) (s .cols) d k q p;
       }
 
   -- the tree is the node that the choice makes
   pub tree-of : (x : Choice) → o ≡ x
-      → treeOf (seen m n work colours) rules a q ≡ nodeTree (λ y z. treeOf (seen m n work colours) rules y z) q x
+      → treeOf (seen s work colours) rules a q ≡ nodeTree (λ y z. treeOf (seen s work colours) rules y z) q x
   tree-of x f =
-      tree-step (seen m n work colours) rules m n a q (c .in-sheet)
-      ∙ ap (nodeTree (λ y z. treeOf (seen m n work colours) rules y z) q) (sym (c .choice) ∙ f)
+      tree-step (seen s work colours) rules (s .rows) (s .cols) a q (c .in-sheet)
+      ∙ ap (nodeTree (λ y z. treeOf (seen s work colours) rules y z) q) (sym (c .choice) ∙ f)

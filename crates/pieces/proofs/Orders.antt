@@ -31,7 +31,7 @@ use Rattle.pieces.specs.inner.Painted.{SmallRules}
 use Rattle.pieces.specs.inner.Room.{Room}
 use Rattle.pieces.specs.inner.Settled.{TableMade}
 use Rattle.pieces.specs.inner.Verdict.{Verdict, verdict, lacking}
-use Rattle.pieces.specs.inner.Seen.{seen}
+use Rattle.pieces.specs.inner.Seen.{sized, seen}
 use Rattle.pieces.proofs.DerivationAnswers.{book-first, sheet-second, then-room}
 use Rattle.pieces.proofs.Judging.{judged-made, nothing-lacks, roomed-short, roomed-enough}
 use Rattle.pieces.proofs.WholeTable.{AsRead, Numbered, room, small-rules, numbers-low}
@@ -46,7 +46,7 @@ pub record Ordered (o : Order) : Type 0 where
 
 -- what a table tells of an order
 abbrev pub tells : Order → List ℕ → List ℕ → Verdict
-tells o entries numbers = verdict (seen (o .rows) (o .cols) entries (o .cells)) (take (o .count) (o .rules)) (o .start) (whole (o .rows) (o .cols)) numbers
+tells o entries numbers = verdict (seen (sized (o .rows) (o .cols)) entries (o .cells)) (take (o .count) (o .rules)) (o .start) (whole (o .rows) (o .cols)) numbers
 
 -- ── A book and a sheet that are accepted ──
 

@@ -3,7 +3,6 @@ use Prim.Native.Nat.{ℕ}
 use Rattle.books.specs.Picture.{Dir, across, down}
 use Rattle.pieces.specs.declared.piece.Piece.{Piece}
 use Rattle.pieces.specs.declared.part.Direction.{Direction}
-use Rattle.pieces.specs.declared.part.Parts.{Parts}
 use Rattle.pieces.specs.declared.part.Direction.the-variants.{Across, Down}
 use Rattle.pieces.specs.Parts.{extent, firstPart, restPart}
 
@@ -19,6 +18,3 @@ front d k q = firstPart (dirOf d) k q
 
 unfoldable pub back : Direction → ℕ → Piece → Piece
 back d k q = restPart (dirOf d) k q
-
-abbrev pub partsOf : Direction → ℕ → Piece → Parts
-partsOf d k q = record { first = front d k q; rest = back d k q }

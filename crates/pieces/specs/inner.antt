@@ -2,6 +2,8 @@ pub mod Layout
 pub mod Room
 pub mod NextTo
 pub mod Seen
+pub mod PartsOf
+pub mod Lent
 pub mod Offered
 pub mod Course
 pub mod Firing

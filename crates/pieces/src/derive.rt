@@ -1,5 +1,6 @@
 // Whether a sheet belongs to a family, with the table of its pieces and the derivation given.
 use crate::piece;
+use crate::piece::Size;
 use crate::table;
 use crate::tree;
 use books::answer;
@@ -45,8 +46,10 @@ pub fn derive(book: &[u8], sheet: &[u8], work: &mut [u32], tree: &mut [u16]) -> 
         o.start,
         work,
         &colours,
-        o.rows,
-        o.cols,
+        Size {
+            rows: o.rows,
+            cols: o.cols,
+        },
         tree,
     ))
 }

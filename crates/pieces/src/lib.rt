@@ -4,6 +4,7 @@ mod choice;
 mod course;
 mod cut;
 pub mod derive;
+mod lent;
 mod masks;
 mod part;
 mod piece;

@@ -1,8 +1,10 @@
-// The two parts of a piece that is cut across or down: each is again a piece.
+// The two parts of a piece that is cut across or down: each is again a piece, with a motif of its own.
 use crate::piece::Piece;
 ghost use mathlib.Core.Path.{_≡_};
 ghost use Prim.Native.Nat.{_+_, _≤_};
-ghost use Rattle.pieces.specs.Direction.{reach, partsOf};
+ghost use Rattle.pieces.specs.Direction.{reach};
+ghost use Rattle.pieces.specs.inner.Room.{most};
+ghost use Rattle.pieces.specs.inner.PartsOf.{partsOf};
 
 // The two ways of joining.
 pub(crate) enum Direction {
@@ -10,45 +12,55 @@ pub(crate) enum Direction {
     Down,
 }
 
-// The first columns of a piece, or rows, and the rest of them.
-pub(crate) struct Parts {
-    pub(crate) first: Piece,
-    pub(crate) rest: Piece,
+// A piece and its motif.
+pub(crate) struct Part {
+    pub(crate) piece: Piece,
+    pub(crate) motif: u8,
 }
 
-// The two parts of a piece at a cut. The piece lies on a sheet of at most 24 rows and columns and the cut in the piece, so that nothing wraps.
-pub(crate) fn parts_of(p: Piece, d: Direction, k: usize) -> Parts
-    requires { ⌜ (k ≤ reach d p) × (p .top + p .height ≤ 24) × (p .left + p .width ≤ 24) ⌝ }
-    ensures { λ r. ⌜ r ≡ partsOf d k p ⌝ }
+// The first columns of a piece, or rows, and the rest of them.
+pub(crate) struct Parts {
+    pub(crate) first: Part,
+    pub(crate) rest: Part,
+}
+
+// How far a piece reaches in a direction: its columns, or its rows.
+pub(crate) fn reach(p: Piece, d: Direction) -> usize
+    ensures { λ r. ⌜ r ≡ reach d p ⌝ }
 {
     match d {
-        Direction::Across => Parts {
-            first: Piece {
-                height: p.height,
-                width: k,
-                top: p.top,
-                left: p.left,
-            },
-            rest: Piece {
-                height: p.height,
-                width: p.width - k,
-                top: p.top,
-                left: p.left + k,
-            },
+        Direction::Across => p.width,
+        Direction::Down => p.height,
+    }
+}
+
+// The two parts of a piece at a cut, for their motifs. The piece lies on a sheet that there is room for and the cut in the piece, so that nothing wraps.
+pub(crate) fn parts_of(p: Piece, d: Direction, k: usize, l: u8, r: u8) -> Parts
+    requires { ⌜ (k ≤ reach d p) × (p .top + p .height ≤ most) × (p .left + p .width ≤ most) ⌝ }
+    ensures { λ x. ⌜ x ≡ partsOf d k l r p ⌝ }
+{
+    let mut first = p;
+    let mut rest = p;
+    match d {
+        Direction::Across => {
+            first.width = k;
+            rest.left = p.left + k;
+            rest.width = p.width - k;
+        }
+        Direction::Down => {
+            first.height = k;
+            rest.top = p.top + k;
+            rest.height = p.height - k;
+        }
+    }
+    Parts {
+        first: Part {
+            piece: first,
+            motif: l,
         },
-        Direction::Down => Parts {
-            first: Piece {
-                height: k,
-                width: p.width,
-                top: p.top,
-                left: p.left,
-            },
-            rest: Piece {
-                height: p.height - k,
-                width: p.width,
-                top: p.top + k,
-                left: p.left,
-            },
+        rest: Part {
+            piece: rest,
+            motif: r,
         },
     }
 }

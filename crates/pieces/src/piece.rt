@@ -14,6 +14,12 @@ pub(crate) struct Piece {
     pub(crate) left: usize,
 }
 
+// The rows and the columns of a sheet.
+pub(crate) struct Size {
+    pub(crate) rows: usize,
+    pub(crate) cols: usize,
+}
+
 // A product of two small numbers.
 pub(crate) fn times(a: usize, b: usize) -> usize
     requires { ⌜ (a ≤ 600) × (b ≤ 600) ⌝ }

@@ -1,25 +1,27 @@
 // The derivation given: the tree of a sheet, written from the table of its pieces, whatever the table holds.
-// The first `count` rules stand, and the colours of the cells are as for the choice at a piece.
+// The rules and the colours of the cells are as for the choice at a piece.
 use crate::choice::Choice;
 use crate::choice::choose;
 use crate::cut::has;
+use crate::lent::lend;
 use crate::masks::MOST_RULES;
+use crate::part::Part;
 use crate::part::Parts;
 use crate::part::parts_of;
 use crate::piece::Piece;
+use crate::piece::Size;
 use crate::piece::numbers;
 use books::rule::Rule;
 ghost use mathlib.Core.Path.{_≡_};
 ghost use mathlib.Core.List.{[], _∷_, _++_};
 ghost use Prim.Native.Nat.{_+_, _≤_, _<_};
 ghost use lib.ListN.{length, take, drop, replicate};
-ghost use Rattle.pieces.specs.Pieces.{Inside};
-ghost use Rattle.pieces.specs.Area.{whole, treeSize};
+ghost use Rattle.pieces.specs.Area.{treeSize};
 ghost use Rattle.pieces.specs.inner.Layout.{mostRules};
-ghost use Rattle.pieces.specs.inner.Seen.{Ready, seen};
-ghost use Rattle.pieces.specs.Tree.{both, treeOf};
-ghost use Rattle.pieces.specs.inner.TreeWrote.{TreeWrote};
-ghost use Rattle.pieces.specs.inner.Verdict.{verdict};
+ghost use Rattle.pieces.specs.inner.Lent.{rulesFrom};
+ghost use Rattle.pieces.specs.inner.Seen.{On, wholeOf, Ready, seen};
+ghost use Rattle.pieces.specs.inner.TreeWrote.{partRoom, partsRoom, PartWrote, PartsWrote};
+ghost use Rattle.pieces.specs.inner.Verdict.{verdict, Judges};
 
 // Where the numbers of a tree end, or that at some node of it no rule fits.
 pub(crate) enum Written {
@@ -36,24 +38,21 @@ fn put_node(tree: &mut [u16], at: usize, rule: usize, cut: usize)
     tree[at + 1] = cut as u16;
 }
 
-// The tree of a motif at a piece, from a place on: its rule and cut, and then its parts.
-// There is room for it, and at most 200 rules keep its numbers small.
+// The tree of a part, from a place on: its rule and cut, and then its own parts. There is room for it, and few enough rules that its numbers are small.
 fn pick_node(
-    rules: [Rule; MOST_RULES],
-    count: usize,
+    rules: &[[u8; 4]],
     work: &[u32],
     colours: &[u8],
-    rows: usize,
-    cols: usize,
-    p: Piece,
-    motif: u8,
+    size: Size,
+    x: Part,
     tree: &mut [u16],
     at: usize,
 ) -> Written
-    requires { ⌜ Ready rows cols (now work) (now colours) × Inside rows cols p × (count ≤ mostRules) × (at + treeSize p ≤ length (now tree)) ⌝ }
-    ensures { λ r. ⌜ TreeWrote (now (tree .entry)) (now (tree .exit)) at (treeSize p) (treeOf (seen rows cols (now (work .entry)) (now (colours .entry))) (take count rules) motif p) r ⌝ }
+    requires { ⌜ Ready size (now work) (now colours) × (length (now rules) ≤ mostRules) ⌝ }
+    requires { ⌜ On size (x .piece) × (at + partRoom x ≤ length (now tree)) ⌝ }
+    ensures { λ r. ⌜ PartWrote (seen size (now (work .entry)) (now (colours .entry))) (rulesFrom (now (rules .entry))) x at (now (tree .entry)) (now (tree .exit)) r ⌝ }
 {
-    let choice = choose(rules, count, work, colours, rows, cols, p, motif);
+    let choice = choose(rules, work, colours, size, x);
     match choice {
         Choice::NoRule => Written::NoRule,
         Choice::Leaf(i) => {
@@ -64,14 +63,10 @@ fn pick_node(
             put_node(tree, at, i, k);
             write_parts(
                 rules,
-                count,
                 work,
                 colours,
-                rows,
-                cols,
-                parts_of(p, d, k),
-                l,
-                r,
+                size,
+                parts_of(x.piece, d, k, l, r),
                 tree,
                 at + 2,
             )
@@ -81,47 +76,22 @@ fn pick_node(
 
 // The trees of the two parts of a join, the second behind the first.
 fn write_parts(
-    rules: [Rule; MOST_RULES],
-    count: usize,
+    rules: &[[u8; 4]],
     work: &[u32],
     colours: &[u8],
-    rows: usize,
-    cols: usize,
+    size: Size,
     parts: Parts,
-    l: u8,
-    r: u8,
     tree: &mut [u16],
     at: usize,
 ) -> Written
-    requires { ⌜ Ready rows cols (now work) (now colours) × Inside rows cols (parts .first) × Inside rows cols (parts .rest) × (count ≤ mostRules) × (at + (treeSize (parts .first) + treeSize (parts .rest)) ≤ length (now tree)) ⌝ }
-    ensures { λ x. ⌜ TreeWrote (now (tree .entry)) (now (tree .exit)) at (treeSize (parts .first) + treeSize (parts .rest)) (both (treeOf (seen rows cols (now (work .entry)) (now (colours .entry))) (take count rules) l (parts .first)) (treeOf (seen rows cols (now (work .entry)) (now (colours .entry))) (take count rules) r (parts .rest))) x ⌝ }
+    requires { ⌜ Ready size (now work) (now colours) × (length (now rules) ≤ mostRules) ⌝ }
+    requires { ⌜ On size (parts .first .piece) × On size (parts .rest .piece) × (at + partsRoom parts ≤ length (now tree)) ⌝ }
+    ensures { λ r. ⌜ PartsWrote (seen size (now (work .entry)) (now (colours .entry))) (rulesFrom (now (rules .entry))) parts at (now (tree .entry)) (now (tree .exit)) r ⌝ }
 {
-    let done = pick_node(
-        rules,
-        count,
-        work,
-        colours,
-        rows,
-        cols,
-        parts.first,
-        l,
-        tree,
-        at,
-    );
+    let done = pick_node(rules, work, colours, size, parts.first, tree, at);
     match done {
         Written::NoRule => Written::NoRule,
-        Written::Upto(next) => pick_node(
-            rules,
-            count,
-            work,
-            colours,
-            rows,
-            cols,
-            parts.rest,
-            r,
-            tree,
-            next,
-        ),
+        Written::Upto(next) => pick_node(rules, work, colours, size, parts.rest, tree, next),
     }
 }
 
@@ -145,36 +115,28 @@ pub(crate) fn judge(
     start: u8,
     work: &[u32],
     colours: &[u8],
-    rows: usize,
-    cols: usize,
+    size: Size,
     tree: &mut [u16],
 ) -> u8
-    requires { ⌜ (count ≤ mostRules) × Ready rows cols (now work) (now colours) × (treeSize (whole rows cols) ≤ length (now tree)) ⌝ }
-    ensures { λ r. ⌜ r ≡ verdict (seen rows cols (now (work .entry)) (now (colours .entry))) (take count rules) start (whole rows cols) (now (tree .entry)) .number ⌝ ∗ ⌜ now (tree .exit) ≡ verdict (seen rows cols (now (work .entry)) (now (colours .entry))) (take count rules) start (whole rows cols) (now (tree .entry)) .numbers ⌝ }
+    requires { ⌜ (count ≤ mostRules) × Ready size (now work) (now colours) × (treeSize (wholeOf size) ≤ length (now tree)) ⌝ }
+    ensures { λ r. ⌜ Judges (verdict (seen size (now (work .entry)) (now (colours .entry))) (take count rules) start (wholeOf size) (now (tree .entry))) r (now (tree .exit)) ⌝ }
 {
-    let sheet = Piece {
-        height: rows,
-        width: cols,
-        top: 0,
-        left: 0,
+    let sheet = Part {
+        piece: Piece {
+            height: size.rows,
+            width: size.cols,
+            top: 0,
+            left: 0,
+        },
+        motif: start,
     };
-    if has(work, rows, cols, sheet, start) {
-        let done = pick_node(
-            rules,
-            count,
-            work,
-            colours,
-            rows,
-            cols,
-            sheet,
-            start,
-            tree,
-            0,
-        );
+    if has(work, size, sheet) {
+        let rows = lend(rules, count);
+        let done = pick_node(&rows[..count], work, colours, size, sheet, tree, 0);
         match done {
             Written::Upto(_) => 0,
             Written::NoRule => {
-                clear(tree, numbers(rows, cols));
+                clear(tree, numbers(size.rows, size.cols));
                 14
             }
         }

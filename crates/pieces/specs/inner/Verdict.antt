@@ -1,5 +1,6 @@
 -- What the bits and the colours of a view tell of a sheet, whether or not they are right, and what two slices lack for it.
 use Prim.Native.Nat.{ℕ}
+use mathlib.Core.Path.{_≡_}
 use mathlib.Core.List.{List}
 use lib.Dec.{ltb}
 use Rattle.names.specs.Pick.{pick}
@@ -26,3 +27,8 @@ verdict v rules start q numbers =
 -- the number of the slice that is too short for a sheet of m rows and n columns, or 0
 unfoldable pub lacking : ℕ → ℕ → ℕ → ℕ → ℕ
 lacking m n entries numbers = pick (ltb entries (total m n)) 9 (pick (ltb numbers (treeSize (whole m n))) 10 0)
+
+-- a number that is answered, and the tree slice as it is left, are those of a verdict
+pub record Judges (v : Verdict) (r : ℕ) (left : List ℕ) : Type 0 where
+  pub answers : r ≡ v .number
+  pub leaves : left ≡ v .numbers

@@ -8,14 +8,21 @@ use Rattle.pieces.proofs.Fitting.{covers-cell, covers-high, covers-wide
 use Rattle.pieces.proofs.choice.covers.Statement.{statement}
 use Rattle.pieces.proofs.choice.covers.Tie as tie
 
+-- Where the piece is one cell: where it began, and the first cell's place.
+abbrev began : tie.After-times → tie.Start
+began t = t .before .before .before .before .before .before
+
 shared-slice-read-result : tie.Need-shared-slice-read-result
 shared-slice-read-result c =
-    let s = c .before .before .before .before .before .before .before .before in
-    omega (arith, s .pre .2, c .before .before .times .ensures .0, cell-inside _ _ _ (s .pre .1))
+    let t = c .before .before in
+    let s = began t in
+    omega (arith, s .pre .2, t .times .ensures .0, cell-inside _ _ _ (s .pre .1))
 
 returns : tie.Need-returns
 unfolding hasColour
-returns c = rw (c .before .before .times .ensures .0) (sym (covers-cell _ _ _ (c .before .before .before .before .before .if1 .taken) (c .before .before .before .if2 .taken)))
+returns c =
+    let t = c .before .before in
+    rw (t .times .ensures .0) (sym (covers-cell _ _ _ (t .before .before .before .if1 .taken) (t .before .if2 .taken)))
 
 returns-2 : tie.Need-returns-2
 returns-2 c = sym (covers-wide _ _ _ (c .before .before .if1 .taken) (c .if2 .left))

@@ -1,47 +1,52 @@
 -- A colour is held to the one cell of the piece, and a join to its smallest cut.
-use mathlib.Core.Path.{refl, sym, _∙_}
-use Rattle.pieces.specs.Direction.{reach}
+use mathlib.Core.Path.{sym, _∙_}
+use borrow.Author.Tests.{eq-eqb, ne-eqb}
 use Rattle.pieces.specs.Choice.{fits, chosen}
-use Rattle.pieces.specs.inner.Offered.{joinOffered, offered}
+use Rattle.pieces.specs.inner.Lent.{ruleFrom}
+use Rattle.pieces.specs.inner.Offered.{offered}
+use Rattle.pieces.proofs.Fitting.{join-fits, no-join-fits}
 use borrow.Author.Needs.{needs}
 use Rattle.pieces.proofs.choice.offer.Statement.{statement}
 use Rattle.pieces.proofs.choice.offer.Tie as tie
 
 returns : tie.Need-returns
-unfolding offered fits chosen
-returns c = rw (c .before .before .before .body .given .1, sym (c .before .covers .ensures) ∙ c .if1 .taken)
-
-join-at-requires : tie.Need-join-at-requires
-unfolding reach
-join-at-requires c κs = let given = c .before .before .before .before .before .pre in (given .0 .tabled, given .1, refl)
-
-join-at-requires-2 : tie.Need-join-at-requires-2
-unfolding reach
-join-at-requires-2 c κs = let given = c .before .before .before .before .before .pre in (given .0 .tabled, given .1, refl)
+unfolding offered fits chosen ruleFrom
+returns c = rw (eq-eqb _ 0 (c .before .before .if1 .taken), sym (c .before .covers .ensures) ∙ c .if2 .taken)
 
 returns-2 : tie.Need-returns-2
-unfolding offered fits chosen
-returns-2 c = rw (c .before .before .before .body .given .1, sym (c .before .covers .ensures) ∙ c .if1 .left)
+unfolding offered fits chosen ruleFrom
+returns-2 c = rw (eq-eqb _ 0 (c .before .before .if1 .taken), sym (c .before .covers .ensures) ∙ c .if2 .left)
 
 returns-3 : tie.Need-returns-3
-unfolding offered fits chosen joinOffered reach
-returns-3 c = rw (c .before .before .body2 .given .1) (c .join-at .ensures)
+unfolding ruleFrom
+returns-3 c =
+    let k = c .before .before in
+    rw (ne-eqb _ 0 (k .before .before .if1 .left))
+    (join-fits _ _ _ _ _ _ (k .before .direction .ensures) (k .smallest-cut .ensures) (rw (c .before .reach .ensures) at (c .if3 .taken)))
 
 returns-4 : tie.Need-returns-4
-unfolding offered fits chosen joinOffered reach
-returns-4 c = rw (c .before .before .body3 .given .1) (c .join-at2 .ensures)
+unfolding ruleFrom
+returns-4 c =
+    let k = c .before .before in
+    rw (ne-eqb _ 0 (k .before .before .if1 .left))
+    (no-join-fits _ _ _ _ _ _ (k .before .direction .ensures) (k .smallest-cut .ensures) (rw (c .before .reach .ensures) at (c .if3 .left)))
 
 pub offer-spec : {M : Type 1} → statement M
 offer-spec =
     tie.close
     (tie.spec
     (λ c. search needs)
+    (λ c. search needs)
     (λ c κs. search needs)
     returns
-    (λ c. search needs)
-    join-at-requires
-    (λ c. search needs)
-    join-at-requires-2
     returns-2
+    (λ c. search needs)
+    (λ c κs. search needs)
+    (λ c. search needs)
+    (λ c. search needs)
+    (λ c κs. search needs)
+    (λ c κs. search needs)
+    (λ c. search needs)
+    (λ c. search needs)
     returns-3
     returns-4)

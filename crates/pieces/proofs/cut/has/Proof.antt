@@ -10,16 +10,17 @@ use Rattle.pieces.proofs.cut.has.Tie as tie
 
 returns : tie.Need-returns
 unfolding hasBit bit
-returns c = rw (c .before .before .slot .ensures .0)
+returns c = rw (c .before .before .before .before .slot .ensures .0)
 
 returns-2 : tie.Need-returns-2
 unfolding hasBit
 returns-2 c =
-    let a = c .before .before .before .args in
-    let w = getD (a .work .now) (slotOf (a .rows) (a .cols) (a .p)) 0 in
-    rw (bit-high w (a .motif) 32 (c .before .before .shared-slice-known .given _ .fits) (c .if1 .left))
+    let known = c .before .before .before in
+    let a = known .before .args in
+    let w = getD (a .work .now) (slotOf (a .size .rows) (a .size .cols) (a .x .piece)) 0 in
+    rw (bit-high w (a .x .motif) 32 (known .shared-slice-known .given _ .fits) (c .if1 .left))
 
 pub has-spec : {M : Type 1} → statement M
 has-spec =
     tie.close
-    (tie.spec (λ c κs. search needs) (λ c. search needs) (λ c. search needs) (λ c. search needs) returns returns-2)
+    (tie.spec (λ c κs. search needs) (λ c. search needs) (λ c. search needs) (λ c. search needs) (λ c. search needs) returns returns-2)

@@ -90,7 +90,7 @@ returns-3 c =
     let none = sym (l .lack .ensures) ∙ t .before .before .before .before .before .if2 .left in
     rw (told _ _ (k .read-order .ensures) (book-bytes k) (sheet-bytes k) (l .before .if1 .left) (now (a .work)) (now (a .tree)) none _ (t .fill-table .ensures)
     (sym (t .fill-table .kept .1 .1 .1 .1 .1 .0)))
-    (record { answers = c .unblamed2 .ensures ∙ ap plain (j .ensures .0); leaves-work = refl; leaves-tree = j .ensures .1 })
+    (record { answers = c .unblamed2 .ensures ∙ ap plain (j .ensures .answers); leaves-work = refl; leaves-tree = j .ensures .leaves })
 
 pub derive-spec : {M : Type 1} → statement M
 derive-spec =

@@ -6,27 +6,26 @@ use borrow.Author.Needs.{needs}
 use Rattle.pieces.proofs.part.parts_of.Statement.{statement}
 use Rattle.pieces.proofs.part.parts_of.Tie as tie
 
-sub-t6 : tie.Need-sub-t6
+-- In the arm of a direction: the cut lies in the piece.
+across-in : (t : tie.After-enum-told) → let a = t .before .before .args in a .k ≤ a .p .width
 unfolding reach
-sub-t6 c = rw (c .before .enum-told .given .1) at (c .before .before .before .pre .0)
+across-in t = rw (t .enum-told .given .1) at (t .before .before .pre .0)
 
-add-t7 : tie.Need-add-t7
+down-in : (t : tie.After-enum-told2) → let a = t .before .before .args in a .k ≤ a .p .height
 unfolding reach
-add-t7 c =
-    let a = c .before .before .before .before .args in
-    let h : a .k ≤ a .p .width = rw (c .before .before .enum-told .given .1) at (c .before .before .before .before .pre .0) in
-    omega arith
+down-in t = rw (t .enum-told2 .given .1) at (t .before .before .pre .0)
 
-sub-t10 : tie.Need-sub-t10
-unfolding reach
-sub-t10 c = rw (c .before .enum-told2 .given .1) at (c .before .before .before .pre .0)
+add-rest : tie.Need-add-rest
+add-rest c = omega (arith, across-in (c .before))
 
-add-t11 : tie.Need-add-t11
-unfolding reach
-add-t11 c =
-    let a = c .before .before .before .before .args in
-    let h : a .k ≤ a .p .height = rw (c .before .before .enum-told2 .given .1) at (c .before .before .before .before .pre .0) in
-    omega arith
+sub-rest : tie.Need-sub-rest
+sub-rest c = across-in (c .before .before)
+
+add-rest-2 : tie.Need-add-rest-2
+add-rest-2 c = omega (arith, down-in (c .before))
+
+sub-rest-2 : tie.Need-sub-rest-2
+sub-rest-2 c = down-in (c .before .before)
 
 returns : tie.Need-returns
 unfolding front back
@@ -38,4 +37,4 @@ returns-2 c = rw (c .before .before .enum-told2 .given .1)
 
 pub parts-of-spec : {M : Type 1} → statement M
 parts-of-spec =
-    tie.close (tie.spec (λ c. search needs) sub-t6 add-t7 (λ c. search needs) sub-t10 add-t11 returns returns-2)
+    tie.close (tie.spec (λ c. search needs) add-rest sub-rest (λ c. search needs) add-rest-2 sub-rest-2 returns returns-2)

@@ -3,14 +3,14 @@
 use Prim.Native.Nat.{ℕ, _+_, _-_, _*_, _≤_, _<_}
 use mathlib.Core.Path.{refl}
 use native.Mathlib.Omega.{arith}
-use lib.ListN.{length, take}
-use lib.Seq.{length-take-le}
+use lib.ListN.{length, length-map}
 use denote.Ref.{now}
 use borrow.Author.Needs.{needs}
 use borrow.Fn.Kinds.{In}
 use borrow.Fn.PlainCycle.{Measures, is, falls, and}
 use Rattle.pieces.specs.declared.choice.Choice.the-variants.{NoRule}
 use Rattle.pieces.specs.Area.{area}
+use Rattle.pieces.specs.inner.Lent.{ruleFrom, rulesFrom}
 use Rattle.pieces.specs.inner.TreeWrote.{TreeWrote}
 use Rattle.pieces.proofs.Cutting.{area-pos}
 use Rattle.pieces.proofs.TreeSteps.{tree-length}
@@ -28,26 +28,26 @@ use Rattle.pieces.proofs.choice.choose.Reads as choose-reads
 use Rattle.pieces.proofs.part.parts_of.Reads as parts-of-reads
 use Rattle.pieces.proofs.tree.put_node.Reads as put-node-reads
 
-abbrev μ-pick-node : Measures 3 pick-node-kinds.ps ℕ
-μ-pick-node κs a = 2 * area (a .1 .1 .1 .1 .1 .1 .0)
+abbrev μ-pick-node : Measures 4 pick-node-kinds.ps ℕ
+μ-pick-node κs a = 2 * area (a .1 .1 .1 .1 .0 .piece)
 
-abbrev μ-write-parts : Measures 3 write-parts-kinds.ps ℕ
-μ-write-parts κs a = let parts = a .1 .1 .1 .1 .1 .1 .0 in 2 * (area (parts .first) + area (parts .rest)) - 1
+abbrev μ-write-parts : Measures 4 write-parts-kinds.ps ℕ
+μ-write-parts κs a = let parts = a .1 .1 .1 .1 .0 in 2 * (area (parts .first .piece) + area (parts .rest .piece)) - 1
 
-abbrev pick-node-at : ℕ → In 3 pick-node-kinds.ps
-pick-node-at t = and 3 pick-node-kinds.ps (is 3 pick-node-kinds.ps μ-pick-node t) pick-node.Pre
+abbrev pick-node-at : ℕ → In 4 pick-node-kinds.ps
+pick-node-at t = and 4 pick-node-kinds.ps (is 4 pick-node-kinds.ps μ-pick-node t) pick-node.Pre
 
-abbrev pick-node-below : ℕ → In 3 pick-node-kinds.ps
+abbrev pick-node-below : ℕ → In 4 pick-node-kinds.ps
 pick-node-below t =
-    and 3 pick-node-kinds.ps (falls 3 pick-node-kinds.ps _<_ μ-pick-node t) pick-node.Pre
+    and 4 pick-node-kinds.ps (falls 4 pick-node-kinds.ps _<_ μ-pick-node t) pick-node.Pre
 
-abbrev write-parts-at : ℕ → In 3 write-parts-kinds.ps
+abbrev write-parts-at : ℕ → In 4 write-parts-kinds.ps
 write-parts-at t =
-    and 3 write-parts-kinds.ps (is 3 write-parts-kinds.ps μ-write-parts t) write-parts.Pre
+    and 4 write-parts-kinds.ps (is 4 write-parts-kinds.ps μ-write-parts t) write-parts.Pre
 
-abbrev write-parts-below : ℕ → In 3 write-parts-kinds.ps
+abbrev write-parts-below : ℕ → In 4 write-parts-kinds.ps
 write-parts-below t =
-    and 3 write-parts-kinds.ps (falls 3 write-parts-kinds.ps _<_ μ-write-parts t) write-parts.Pre
+    and 4 write-parts-kinds.ps (falls 4 write-parts-kinds.ps _<_ μ-write-parts t) write-parts.Pre
 
 -- what the members call: each other only below the measure t
 abbrev picks : ℕ → pick-node-lts.Claims
@@ -75,15 +75,15 @@ module _ (t : ℕ) where
 
   known : (k : Choosing) →
       let a = node k .args in
-      Chose (a .rows) (a .cols) (now (a .work)) (now (a .colours)) (take (a .count) (a .rules)) (a .motif) (a .p) (k .choose .result)
+      Chose (a .size) (now (a .work)) (now (a .colours)) (rulesFrom (now (a .rules))) (a .x .motif) (a .x .piece) (k .choose .result)
   known k =
       let g = node k .pre .1 in
       let a = node k .args in
-      let long = length-take-le (a .count) (a .rules) (omega (arith, g .2)) in
-      record { ready = g .0; in-sheet = g .1; few = omega (arith, long, g .2); choice = k .choose .ensures }
+      let long = length-map (now (a .rules)) ruleFrom in
+      record { ready = g .0 .0; in-sheet = g .1 .0; few = omega (arith, long, g .0 .1); choice = k .choose .ensures }
 
   room : (k : Choosing) → let a = node k .args in a .at + 2 ≤ length (now (a .tree))
-  room k = let g = node k .pre .1 in omega (arith, g .3, room-some _ _ _ (g .1))
+  room k = let g = node k .pre .1 .1 in omega (arith, g .1, room-some _ _ _ (g .0))
 
   -- where a join was chosen: what that means for its node
   abbrev Joining : Type 0
@@ -95,7 +95,7 @@ module _ (t : ℕ) where
   join : (k : Joining) →
       let a = node (choosing k) .args in
       let x = k .before .choice2 .given .0 in
-      JoinFits (a .rows) (a .cols) (a .p) (x .0) (x .1 .0) (x .1 .1 .0)
+      JoinFits (a .size .rows) (a .size .cols) (a .x .piece) (x .0) (x .1 .0) (x .1 .1 .0)
   join k = join-fits (known (choosing k)) _ _ _ _ _ (k .before .choice2 .given .1)
 
   pick-node-choose-requires : pick-node-lts.Need-choose-requires (picks t) (pick-node-at t) pick-node.Post
@@ -112,8 +112,8 @@ module _ (t : ℕ) where
       let k = c .before .before .before .before in
       (room k, omega (arith, leaf-small (known k) _ (c .before .before .choice .given .1)), search needs)
 
-  pick-node-add-t22 : pick-node-lts.Need-add-t22 (picks t) (pick-node-at t) pick-node.Post
-  pick-node-add-t22 c = search needs
+  pick-node-add-t19 : pick-node-lts.Need-add-t19 (picks t) (pick-node-at t) pick-node.Post
+  pick-node-add-t19 c = search needs
 
   pick-node-enum-known-choice-2 : pick-node-lts.Need-enum-known-choice-2 (picks t) (pick-node-at t) pick-node.Post
   pick-node-enum-known-choice-2 c = search needs
@@ -127,7 +127,7 @@ module _ (t : ℕ) where
   pick-node-parts-of-requires c κs =
       let k = c .before .before .before .before in
       let g = node (choosing k) .pre .1 in
-      (omega (arith, join k .inside), omega (arith, g .1, g .0 .tabled), omega (arith, g .1, g .0 .tabled))
+      (omega (arith, join k .inside), omega (arith, g .1 .0, g .0 .0 .tabled), omega (arith, g .1 .0, g .0 .0 .tabled))
 
   pick-node-add-write-parts : pick-node-lts.Need-add-write-parts (picks t) (pick-node-at t) pick-node.Post
   pick-node-add-write-parts c =
@@ -143,7 +143,7 @@ module _ (t : ℕ) where
       let p = j .of-parts in
       let long = c .before .before .before .before .put-node2 .kept .0 in
       rw (c .before .parts-of .ensures)
-      (omega (arith, s .pre .0, p), (g .0, p .front-in, p .back-in, g .2, omega (arith, g .3, j .rooms, long)))
+      (omega (arith, s .pre .0, p), (g .0, (p .front-in, p .back-in, omega (arith, g .1 .1, j .rooms, long))))
 
   pick-node-returns : pick-node-lts.Need-returns (picks t) (pick-node-at t) pick-node.Post
   unfolding TreeWrote
@@ -174,8 +174,8 @@ module _ (t : ℕ) where
   abbrev Began : Type 0
   Began = write-parts-lts.Start (parts t) (write-parts-at t) write-parts.Post
 
-  cells : (s : Began) → let a = s .args in (1 ≤ area (a .parts .first)) × (1 ≤ area (a .parts .rest))
-  cells s = let g = s .pre .1 in (area-pos _ _ _ (g .1), area-pos _ _ _ (g .2))
+  cells : (s : Began) → let a = s .args in (1 ≤ area (a .parts .first .piece)) × (1 ≤ area (a .parts .rest .piece))
+  cells s = let g = s .pre .1 .1 in (area-pos _ _ _ (g .0), area-pos _ _ _ (g .1))
 
   -- after the first part: where the parts began
   abbrev began : write-parts-lts.After-pick-node (parts t) (write-parts-at t) write-parts.Post → Began
@@ -185,7 +185,7 @@ module _ (t : ℕ) where
   write-parts-pick-node-requires c κs =
       let s = c .before .before .before .before in
       let g = s .pre .1 in
-      (omega (arith, s .pre .0, cells s), (g .0, g .1, g .3, omega (arith, g .4)))
+      (omega (arith, s .pre .0, cells s), (g .0, (g .1 .0, omega (arith, g .1 .2))))
 
   write-parts-enum-told : write-parts-lts.Need-enum-told (parts t) (write-parts-at t) write-parts.Post
   write-parts-enum-told c = search needs
@@ -199,9 +199,9 @@ module _ (t : ℕ) where
       let s = began k in
       let g = s .pre .1 in
       let f = k .pick-node in
-      let next = wrote-next _ _ _ _ _ _ (tree-length _ _ _ _ _ _ (g .1)) (rw (c .before .before .done .given .1) at (f .ensures)) in
-      let long = f .kept .1 .1 .1 .1 .1 .1 .1 .1 .0 in
-      (omega (arith, s .pre .0, cells s), (g .0, g .2, g .3, omega (arith, g .4, next, long)))
+      let next = wrote-next _ _ _ _ _ _ (tree-length _ _ _ _ _ _ (g .1 .0)) (rw (c .before .before .done .given .1) at (f .ensures)) in
+      let long = f .kept .1 .1 .1 .1 .1 .0 in
+      (omega (arith, s .pre .0, cells s), (g .0, (g .1 .1, omega (arith, g .1 .2, next, long))))
 
   write-parts-same-length : write-parts-lts.Need-same-length (parts t) (write-parts-at t) write-parts.Post
   write-parts-same-length c = search needs
@@ -220,7 +220,7 @@ module _ (t : ℕ) where
       let k = d .before .before .before .before in
       let g = began k .pre .1 in
       let first = rw (d .done .given .1) at (k .pick-node .ensures) in
-      wrote-both _ _ _ _ _ _ _ _ _ _ (tree-length _ _ _ _ _ _ (g .1)) (omega (arith, g .4)) first (c .before .before .pick-node2 .ensures)
+      wrote-both _ _ _ _ _ _ _ _ _ _ (tree-length _ _ _ _ _ _ (g .1 .0)) (omega (arith, g .1 .2)) first (c .before .before .pick-node2 .ensures)
 
 pub +pick-node+write-parts-spec : {M : Type 1} → statement M
 +pick-node+write-parts-spec =
@@ -232,7 +232,7 @@ pub +pick-node+write-parts-spec : {M : Type 1} → statement M
     (pick-node-enum-told t)
     (pick-node-enum-known-choice t)
     (pick-node-put-node-requires t)
-    (pick-node-add-t22 t)
+    (pick-node-add-t19 t)
     (pick-node-enum-known-choice-2 t)
     (pick-node-put-node-requires-2 t)
     (pick-node-parts-of-requires t)
