@@ -48,7 +48,7 @@ add-copies-requires c κs =
     let p = s .pre in
     let count = changed-count (rulesOf (s .args .g)) (p .other .sized .rows) (raisedBy (s .args .f .motifs) (s .args .numbers)) in
     simp (both (gathered known), rose known .before .before .rules-of .ensures)
-    (omega (arith, simp (c .enum-told .given .1) at (p .room)), p .own .rows, omega (arith, p .own .motifs-few, p .other .sized .motifs-few))
+    (omega (arith, simp (c .enum-told .given .1) at (p .room)), p .own .rows, omega (arith, p .own, p .other .sized))
 
 -- ... with the copies from the first start
 longer : (c : tie.After-add-copies) → let a = began (rose (c .before .before .before)) .args in
@@ -65,15 +65,13 @@ add-copies-requires-2 c κs =
     let count = changed-count (rulesOf (a .g)) (p .other .sized .rows) (raisedBy (a .f .motifs) (a .numbers)) in
     let own = copies-length (a .f .motifs + a .g .motifs) (a .f .start) (standing (rulesOf (a .f))) in
     let other = headed-raised (rulesOf (a .g)) (p .other .sized .rows) (a .f .motifs) (a .g .start) (a .numbers) in
-    simp (longer c, both (gathered known), risen (rose known))
-    (omega (arith, simp (c .before .enum-told .given .1) at (p .room)), changed-rows _ (p .other .sized .rows) _, omega (arith, p .own .motifs-few, p .other .sized .motifs-few))
+    simp (longer c, risen (rose known))
+    (omega (arith, simp (c .before .enum-told .given .1) at (p .room)), changed-rows _ (p .other .sized .rows) _, omega (arith, p .own, p .other .sized))
 
 join-rule-requires : tie.Need-join-rule-requires
 join-rule-requires c κs =
     let p = began (rose (c .before .before .before)) .pre in
-    let few = p .own .motifs-few in
-    let more = p .other .sized .motifs-few in
-    (omega arith, omega (arith, p .own .start-fits), omega (arith, p .other .sized .start-fits))
+    (omega (arith, p .own, p .other .sized), omega (arith, p .own), omega (arith, p .own, p .other .sized))
 
 add-rule-requires : tie.Need-add-rule-requires
 add-rule-requires c κs =
