@@ -63,7 +63,12 @@ pub record Cases : Type 0 where
   pub P12-rules : length (contentsOf eitherOfBook .rules) ≡ 12
 
 pub cases : Cases
-unfolding derivation roomed judged outcome both treeWithin treeOf choose chosen lowest taken takes fits covers cutOf works least reach front back table entry bits pieces each derives? derivesIn anyRule fitsBody called? anyCut orElse andThen lent made written within? few? put either-of joined repeated copies merged without sheetOf filledAt cellsOf sizeAt bookOf figuredAt figuresAt ruledAt rulesAt ruleAt bodyAt joinAt colourNumberAt coloursOf colourAt nameOf findName listed sameName numberIn numberBelow numberAt spellNumber
+unfolding numberAt numberIn numberBelow spellNumber nameOf sameName listed findName colourAt coloursOf put
+    colourNumberAt joinAt bodyAt ruleAt rulesAt figuresAt ruledAt figuredAt bookOf sizeAt cellsOf filledAt sheetOf
+    andThen orElse called? anyCut fitsBody anyRule derivesIn derives?
+    each pieces bits entry table reach front back least works cutOf covers fits takes taken lowest chosen choose both treeWithin treeOf
+    outcome judged roomed derivation
+    without merged copies joined repeated either-of few? within? written made lent
 cases =
     record {
       contents = refl;
