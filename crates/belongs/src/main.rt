@@ -2,11 +2,12 @@
 // number, blamed input and place on one line, then on 0 one line for each node of the derivation, rule and cut.
 use books::answer::Answer;
 use libc::STDOUT_FILENO;
+ghost use mathlib.Core.Path.{_≡_};
 ghost use Prim.Native.Nat.{_*_, _≤_};
 ghost use lib.ListN.{length};
+ghost use Rattle.belongs.specs.Nodes.{nodesOf};
 
-// A file's bytes; one that cannot be opened counts as empty. No accepted book or sheet is as long as the buffers of main, and a reader stops at the
-// first fault, so that what lies beyond a full buffer cannot change the answer.
+// A file's bytes; one that cannot be opened counts as empty. What lies beyond the buffers of main cannot change the answer (proofs/Buffers).
 fn load(path: &[u8], bytes: &mut [u8]) -> usize
     ensures { λ r. ⌜ r ≤ length (now (bytes .entry)) ⌝ }
 {
@@ -32,7 +33,7 @@ fn print_answer(a: Answer) {
 
 // How many nodes the derivation of a sheet has: one for each cell, and one for each join of two parts.
 fn nodes(sheet: &[u8]) -> usize
-    ensures { λ r. ⌜ r ≤ 287 ⌝ }
+    ensures { λ r. ⌜ r ≡ nodesOf (now (sheet .entry)) ⌝ }
 {
     let r = books::sheet::read_sheet(sheet);
     let g = r.sheet;

@@ -1,0 +1,2 @@
+pub mod NodesGiven
+pub mod Buffers
