@@ -123,6 +123,12 @@ static void read_sheet(const struct engine *timed, const struct task *task)
     timed->read_sheet(task->second.at, task->second.length);
 }
 
+// The last rule: a look-up reads the book whole whichever it is.
+static void look_up(const struct engine *timed, const struct task *task)
+{
+    timed->rule(task->first.at, task->first.length, DV_MOST_RULES - 1);
+}
+
 static void make(const struct engine *timed, const struct task *task)
 {
     static uint8_t out[DV_LONGEST_BOOK];
@@ -208,6 +214,8 @@ static void measure_longest_book(void)
     struct task task = {.call = read_book, .unit = "a call", .units = 1};
     heavy_book(&task.first, false, DV_MOST_RULES);
     print_figures("reading the longest book", &task, measure(&task));
+    task.call = look_up;
+    print_figures("looking up a rule of it", &task, measure(&task));
 }
 
 // Names of 40 bytes with the first 38 in common: ink makers number their shades.

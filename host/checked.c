@@ -17,9 +17,9 @@
 static const uint8_t house[] = {SLATES, 3, 0, 4, 0, 1, 0, 0, 0, 2, 1, 2, 1, 0, 0, 2, 0, 1};
 static const uint8_t sheet_a[] = {SLATES, 2, 3, 0, 0, 0, 1, 1, 1};
 
-enum { SLICES = 4, ROOM = 128 };
+enum { SLICES = 4, WRITTEN = 2, ROOM = 128, ENDS_EARLY = DV_ENDS_EARLY | 1 << 8 };
 
-// The slices of a call: the first ones are books and sheets, read only.
+// The slices of a call: books, then sheets, then those that it may write.
 struct slice {
     uint8_t *at;
     size_t length, size;
@@ -29,6 +29,8 @@ static struct slice slice[SLICES];
 static uint64_t read_book(void) { return dv_read_book(slice[0].at, slice[0].length); }
 static uint64_t read_sheet(void) { return dv_read_sheet(slice[0].at, slice[0].length); }
 static uint64_t colour(void) { return dv_colour(slice[0].at, slice[0].length, 1); }
+static uint64_t rule(void) { return dv_rule(slice[0].at, slice[0].length, 1); }
+static uint64_t sheet_size(void) { return dv_sheet_size(slice[0].at, slice[0].length); }
 static uint64_t derive(void)
 {
     return dv_derive(slice[0].at, slice[0].length, slice[1].at, slice[1].length, (uint32_t *)(void *)slice[2].at,
@@ -50,18 +52,46 @@ OF_ONE(mirrored)
 OF_ONE(flipped)
 OF_ONE(transposed)
 
+// How many books and sheets a call takes, the bytes of an entry of each slice that it may write, and what it answers
+// where all of them are empty.
 struct call {
     const char *name;
     uint64_t (*make)(void);
-    int slices, read;
+    int books, sheets;
+    size_t written[WRITTEN];
+    uint64_t of_nothing;
 };
 
 static const struct call calls[] = {
-    {"dv_read_book", read_book, 1, 1}, {"dv_read_sheet", read_sheet, 1, 1}, {"dv_colour", colour, 1, 1},
-    {"dv_derive", derive, 4, 2},       {"dv_either_of", either_of, 3, 2},   {"dv_beside", beside, 3, 2},
-    {"dv_above", above, 3, 2},         {"dv_run", run, 2, 1},               {"dv_stack", stack, 2, 1},
-    {"dv_mirrored", mirrored, 2, 1},   {"dv_flipped", flipped, 2, 1},       {"dv_transposed", transposed, 2, 1},
+    {"dv_read_book", read_book, 1, 0, {0}, ENDS_EARLY},
+    {"dv_read_sheet", read_sheet, 0, 1, {0}, ENDS_EARLY},
+    {"dv_colour", colour, 1, 0, {0}, 0},
+    {"dv_rule", rule, 1, 0, {0}, 0},
+    {"dv_sheet_size", sheet_size, 0, 1, {0}, 0},
+    {"dv_derive", derive, 1, 1, {sizeof(uint32_t), sizeof(uint16_t)}, ENDS_EARLY},
+    {"dv_either_of", either_of, 2, 0, {1}, ENDS_EARLY},
+    {"dv_beside", beside, 2, 0, {1}, ENDS_EARLY},
+    {"dv_above", above, 2, 0, {1}, ENDS_EARLY},
+    {"dv_run", run, 1, 0, {1}, ENDS_EARLY},
+    {"dv_stack", stack, 1, 0, {1}, ENDS_EARLY},
+    {"dv_mirrored", mirrored, 1, 0, {1}, ENDS_EARLY},
+    {"dv_flipped", flipped, 1, 0, {1}, ENDS_EARLY},
+    {"dv_transposed", transposed, 1, 0, {1}, ENDS_EARLY},
 };
+
+// The slices before the first that is written, and all of them.
+static int read_by(const struct call *call)
+{
+    return call->books + call->sheets;
+}
+
+static int slices_of(const struct call *call)
+{
+    int written = 0;
+    while (written < WRITTEN && call->written[written] > 0)
+        written++;
+    return read_by(call) + written;
+}
 
 static void wrong(const struct call *call, const char *what, int i)
 {
@@ -73,19 +103,19 @@ static void wrong(const struct call *call, const char *what, int i)
 static void lend(const struct call *call)
 {
     static uint32_t room[SLICES * ROOM];
-    bool derives = call->make == derive, sheet = call->make == read_sheet;
-    uint8_t *at = (uint8_t *)room;
-    // The last sheet or book goes from the end on down, so that what is written after it is aligned.
-    for (int i = call->read; i-- > 0;) {
-        const uint8_t *bytes = sheet || (derives && i == 1) ? sheet_a : house;
-        size_t length = bytes == house ? sizeof house : sizeof sheet_a;
-        uint8_t *end = i + 1 < call->read ? slice[i + 1].at : at + ROOM;
-        slice[i] = (struct slice){end - length, length, 1};
-        memcpy(slice[i].at, bytes, length);
+    int read = read_by(call);
+    uint8_t *at = (uint8_t *)room + ROOM;
+    // What is read goes from here on down, so that what is written after it is aligned.
+    uint8_t *begin = at;
+    for (int i = read; i-- > 0;) {
+        bool book = i < call->books;
+        size_t length = book ? sizeof house : sizeof sheet_a;
+        begin -= length;
+        slice[i] = (struct slice){begin, length, 1};
+        memcpy(begin, book ? house : sheet_a, length);
     }
-    at += ROOM;
-    for (int i = call->read; i < call->slices; i++) {
-        size_t size = !derives ? 1 : i == 2 ? sizeof(uint32_t) : sizeof(uint16_t);
+    for (int i = read; i < slices_of(call); i++) {
+        size_t size = call->written[i - read];
         slice[i] = (struct slice){at, ROOM / size, size};
         at += ROOM;
     }
@@ -120,7 +150,7 @@ static void expect_abort(const struct call *call, const char *misuse, int i)
 
 static void try_null(const struct call *call)
 {
-    for (int i = 0; i < call->slices; i++) {
+    for (int i = 0; i < slices_of(call); i++) {
         lend(call);
         slice[i].at = NULL;
         expect_abort(call, "null with a length is not noticed", i);
@@ -134,15 +164,15 @@ static void try_null(const struct call *call)
         if (call->make() != answer)
             wrong(call, "null with length 0 is not answered as another empty slice", i);
     }
-    for (int i = 0; i < call->slices; i++)
+    for (int i = 0; i < slices_of(call); i++)
         slice[i] = (struct slice){NULL, 0, 1};
-    if (call->make() != (call->make == colour ? 0 : (DV_ENDS_EARLY | 1 << 8)))
+    if (call->make() != call->of_nothing)
         wrong(call, "all slices null with length 0 are not answered as empty ones", 0);
 }
 
 static void try_alignment(const struct call *call)
 {
-    for (int i = 0; i < call->slices; i++) {
+    for (int i = 0; i < slices_of(call); i++) {
         lend(call);
         slice[i].at += slice[i].size / 2;
         slice[i].length--;
@@ -159,8 +189,8 @@ static uint8_t *aligned(uint8_t *at, size_t size)
 // A slice that is written begins where another begins, or has one entry in common with its end or its beginning.
 static void try_overlap(const struct call *call)
 {
-    for (int i = call->read; i < call->slices; i++)
-        for (int j = 0; j < call->slices; j++)
+    for (int i = read_by(call); i < slices_of(call); i++)
+        for (int j = 0; j < slices_of(call); j++)
             for (int way = 0; way < 3 && j != i; way++) {
                 lend(call);
                 uint8_t *begin = slice[j].at, *end = begin + slice[j].length * slice[j].size;
@@ -193,6 +223,10 @@ int main(void)
     if (dv_work_entries(DV_MOST_ROWS, DV_MOST_COLUMNS) != DV_MOST_WORK ||
         dv_tree_entries(DV_MOST_ROWS, DV_MOST_COLUMNS) != DV_MOST_TREE) {
         fprintf(stderr, "checked: the most entries are not those of the largest sheet\n");
+        return 1;
+    }
+    if (dv_version() != DV_VERSION) {
+        fprintf(stderr, "checked: the archive is of another version than the header\n");
         return 1;
     }
     for (size_t i = 0; i < sizeof calls / sizeof *calls; i++) {

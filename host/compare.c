@@ -16,6 +16,7 @@ int main(int argc, char **argv)
         {"damaged", compare_damaged},
         {"rooms", compare_rooms},
         {"grown", compare_grown},
+        {"lookups", compare_lookups},
         {"combinations", compare_combinations},
         {"members", compare_members},
     };

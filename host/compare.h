@@ -25,6 +25,8 @@ void wrong(const char *what);
 uint64_t compare_read_book(const struct bytes *book);
 uint64_t compare_read_sheet(const struct bytes *sheet);
 uint64_t compare_colour(const struct bytes *book, size_t number);
+uint64_t compare_rule(const struct bytes *book, size_t number);
+uint64_t compare_sheet_size(const struct bytes *sheet);
 uint64_t compare_derive(const struct bytes *book, const struct bytes *sheet, size_t work_len, size_t tree_len);
 // The new book is put into made, where that is not null and the answer is 0.
 uint64_t compare_combination(enum combination combination, const struct bytes *first, const struct bytes *second,
@@ -41,6 +43,7 @@ void compare_limits(void);
 void compare_damaged(void);
 void compare_rooms(void);
 void compare_grown(void);
+void compare_lookups(void);
 void compare_combinations(void);
 void compare_members(void);
 

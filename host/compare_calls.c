@@ -14,7 +14,7 @@ enum { ENGINES = 2, SLICES = 2, ENOUGH = 50 };
 
 static const struct engine *const engine[ENGINES] = {&library, &independent};
 
-// What is asked of both engines. The number is a colour's or a combination's.
+// What is asked of both engines. The number is a colour's, a rule's or a combination's.
 struct call {
     const char *name;
     uint64_t (*ask)(const struct lent *out);
@@ -111,10 +111,10 @@ static void compare_answers(uint64_t ours, uint64_t theirs)
         return;
     char line[300];
     snprintf(line, sizeof line,
-             "the library answers %u blaming %u at %zu, count %zu, "
-             "the independent engine %u blaming %u at %zu, count %zu",
-             dv_number(ours), dv_blamed(ours), dv_place(ours), dv_count(ours), dv_number(theirs), dv_blamed(theirs),
-             dv_place(theirs), dv_count(theirs));
+             "the library answers 0x%llx, or %u blaming %u at %zu, count %zu, "
+             "the independent engine 0x%llx, or %u blaming %u at %zu, count %zu",
+             (unsigned long long)ours, dv_number(ours), dv_blamed(ours), dv_place(ours), dv_count(ours),
+             (unsigned long long)theirs, dv_number(theirs), dv_blamed(theirs), dv_place(theirs), dv_count(theirs));
     wrong(line);
 }
 
@@ -202,6 +202,30 @@ static uint64_t ask_colour(const struct lent *lent)
 uint64_t compare_colour(const struct bytes *book, size_t number)
 {
     call = (struct call){.name = "dv_colour", .ask = ask_colour, .input = {book}, .number = number};
+    return compare();
+}
+
+static uint64_t ask_rule(const struct lent *lent)
+{
+    (void)lent;
+    return asked->rule(in[0].slice, call.input[0]->length, call.number);
+}
+
+uint64_t compare_rule(const struct bytes *book, size_t number)
+{
+    call = (struct call){.name = "dv_rule", .ask = ask_rule, .input = {book}, .number = number};
+    return compare();
+}
+
+static uint64_t ask_sheet_size(const struct lent *lent)
+{
+    (void)lent;
+    return asked->sheet_size(in[0].slice, call.input[0]->length);
+}
+
+uint64_t compare_sheet_size(const struct bytes *sheet)
+{
+    call = (struct call){.name = "dv_sheet_size", .ask = ask_sheet_size, .input = {sheet}};
     return compare();
 }
 

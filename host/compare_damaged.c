@@ -8,6 +8,7 @@ static void compare_as_book(const struct bytes *book, const struct bytes *sheet,
 {
     compare_read_book(book);
     compare_colour(book, chance_below(4));
+    compare_rule(book, chance_below(8));
     compare_derive(book, sheet, one_in(4) ? 0 : ROOMY_WORK, one_in(4) ? 0 : ROOMY_TREE);
     enum combination combination = (enum combination)chance_below(COMBINATIONS);
     if (one_in(2))
@@ -19,6 +20,7 @@ static void compare_as_book(const struct bytes *book, const struct bytes *sheet,
 static void compare_as_sheet(const struct bytes *book, const struct bytes *sheet)
 {
     compare_read_sheet(sheet);
+    compare_sheet_size(sheet);
     compare_derive(book, sheet, one_in(4) ? 0 : ROOMY_WORK, one_in(4) ? 0 : ROOMY_TREE);
 }
 
@@ -95,7 +97,7 @@ static void compare_wild(void)
     for (size_t i = 0; i < bytes.length; i++)
         bytes.at[i] = one_in(8) ? (uint8_t)chance_bits() : (uint8_t)chance_below(4);
     compare_as_book(&bytes, &bytes, &good_book);
-    compare_read_sheet(&bytes);
+    compare_as_sheet(&good_book, &bytes);
     struct family family;
     grow_family(&family, chance_from(2, 20), 2, 3);
     unsigned count = family.palette.count;

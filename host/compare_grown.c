@@ -36,10 +36,6 @@ static void compare_family(const struct family *family)
     spell_book(family, &book);
     if (compare_read_book(&book) != 0)
         wrong("a book that keeps the rules is refused");
-    compare_colour(&book, chance_below(family->palette.count));
-    compare_colour(&book, family->palette.count + chance_below(3));
-    compare_colour(&book, (size_t)chance_bits());
-    compare_colour(&book, (size_t)chance_below(family->palette.count) + ((size_t)1 << 32));
     unsigned most = one_in(8) ? DV_MOST_ROWS : 6;
     for (unsigned i = 0; i < 3; i++) {
         bool derived = grow_grid(family, &grid, chance_from(1, most), chance_from(1, most));

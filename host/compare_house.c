@@ -84,7 +84,16 @@ static void expect_books(void)
     expect(house_beside.length == 52 && makes(BESIDE, &house_beside), "P10, the book");
     expect(makes(RUN, &house_run), "P11");
     expect(makes(EITHER_OF, &house_either), "P12");
+}
+
+static void expect_lookups(void)
+{
+    static const uint64_t rules[] = {UINT64_C(0x100000100), UINT64_C(0x102010200), UINT64_C(0x100000001),
+                                     UINT64_C(0x100010002), 0};
     expect(judged->colour(house.at, house.length, 1) == (10 | UINT64_C(7) << 32), "the name Slate U");
+    for (size_t i = 0; i < sizeof rules / sizeof *rules; i++)
+        expect(judged->rule(house.at, house.length, i) == rules[i], "the four rules");
+    expect(judged->sheet_size(sheet_a.at, sheet_a.length) == (2 | UINT64_C(3) << 32), "two rows and three columns");
 }
 
 void compare_house(void)
@@ -94,6 +103,7 @@ void compare_house(void)
         judged = engines[i];
         expect_sheets();
         expect_books();
+        expect_lookups();
     }
     if (compare_read_book(&book_and_sheet) != 0 || compare_read_sheet(&book_and_sheet) != 0)
         wrong("bytes that are a book and a sheet alike are refused");

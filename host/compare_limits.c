@@ -41,6 +41,9 @@ static void compare_book(const struct family *family)
     compare_read_sheet(&sheet);
     compare_colour(&book, family->palette.count);
     compare_colour(&book, family->palette.count - 1);
+    compare_rule(&book, family->rules);
+    compare_rule(&book, family->rules - 1);
+    compare_sheet_size(&sheet);
     compare_derive(&book, &sheet, dv_work_entries(2, 2), dv_tree_entries(2, 2));
     compare_combination(RUN, &book, NULL, ROOMY_OUT, NULL);
     compare_combination(TRANSPOSED, &book, NULL, book.length, NULL);
@@ -99,6 +102,7 @@ static void compare_sheets_at_limits(void)
                         grid.cell[grid.rows * grid.columns - 1] = grid.palette.count - 1 + more % 2 + more / 2 * 64;
                     spell_sheet(&grid, &sheet);
                     compare_read_sheet(&sheet);
+                    compare_sheet_size(&sheet);
                     compare_derive(&book, &sheet, ROOMY_WORK, ROOMY_TREE);
                     compare_derive(&book, &sheet, DV_MOST_WORK - 1, DV_MOST_TREE - 1);
                 }

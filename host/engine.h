@@ -13,6 +13,8 @@ struct engine {
     uint64_t (*read_book)(const uint8_t *book, size_t book_len);
     uint64_t (*read_sheet)(const uint8_t *sheet, size_t sheet_len);
     uint64_t (*colour)(const uint8_t *book, size_t book_len, size_t number);
+    uint64_t (*rule)(const uint8_t *book, size_t book_len, size_t number);
+    uint64_t (*sheet_size)(const uint8_t *sheet, size_t sheet_len);
     uint64_t (*derive)(const uint8_t *book, size_t book_len, const uint8_t *sheet, size_t sheet_len, uint32_t *work,
                        size_t work_len, uint16_t *tree, size_t tree_len);
     uint64_t (*of_two[RUN])(const uint8_t *first, size_t first_len, const uint8_t *second, size_t second_len,

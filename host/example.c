@@ -16,12 +16,10 @@ static const char *const words[] = {
 
 // One byte more than the longest that can be accepted is enough to have a longer file refused.
 static uint8_t book[DV_LONGEST_BOOK + 1], second[DV_LONGEST_BOOK + 1], sheet[DV_LONGEST_SHEET + 1];
+static size_t book_len, second_len, sheet_len;
 static uint8_t joined[DV_LONGEST_BOOK];
 static uint32_t work[DV_MOST_WORK];
 static uint16_t tree[DV_MOST_TREE];
-
-static size_t book_len;
-static unsigned kind[DV_MOST_RULES], colour[DV_MOST_RULES];
 
 static size_t load(const char *path, uint8_t *bytes, size_t most)
 {
@@ -43,51 +41,42 @@ static void say(const char *what, uint64_t answer)
     printf("\n");
 }
 
-// A number of accepted bytes, which need no more tests.
-static unsigned number(const uint8_t **at)
+// Prints the panel of a node and the panels that it is cut into, and gives the node after them. The node names its rule
+// by number; the rule says which way the piece is cut, or its colour.
+static const uint16_t *print_panel(const uint16_t *node, size_t rows, size_t columns, size_t top, size_t left)
 {
-    unsigned low = *(*at)++;
-    return low < 128 ? low : low - 128 + 128u * *(*at)++;
-}
-
-static const uint8_t *past_colours(const uint8_t *at)
-{
-    for (unsigned count = number(&at); count > 0; count--)
-        for (unsigned length = number(&at); length > 0; length--)
-            at++;
-    return at;
-}
-
-// The tree names a rule by its number; its kind says which way the piece is cut.
-static void note_rules(void)
-{
-    const uint8_t *at = past_colours(book) + 2; // past the count of motifs and the start, a byte each
-    unsigned rules = number(&at);
-    for (unsigned i = 0; i < rules; i++) {
-        number(&at); // head
-        kind[i] = number(&at);
-        colour[i] = number(&at);
-        if (kind[i] != DV_KIND_COLOUR)
-            number(&at);
-    }
-}
-
-// Prints the panel of a node and the panels that it is cut into, and gives the node after them.
-static const uint16_t *print_panel(const uint16_t *node, unsigned rows, unsigned columns, unsigned top, unsigned left)
-{
-    unsigned rule = node[0], k = node[1];
-    printf("rule %u: %u by %u at row %u, column %u", rule, rows, columns, top, left);
-    if (kind[rule] == DV_KIND_COLOUR) {
-        uint64_t shown = dv_colour(book, book_len, colour[rule]);
+    uint64_t rule = dv_rule(book, book_len, node[0]);
+    size_t k = node[1];
+    printf("rule %u: %zu by %zu at row %zu, column %zu", node[0], rows, columns, top, left);
+    if (dv_rule_kind(rule) == DV_KIND_COLOUR) {
+        uint64_t shown = dv_colour(book, book_len, dv_rule_first(rule));
         printf(", %.*s\n", (int)dv_shown_length(shown), (const char *)book + dv_shown_place(shown));
         return node + 2;
     }
-    if (kind[rule] == DV_KIND_ACROSS) {
-        printf(", %u and %u columns side by side\n", k, columns - k);
+    if (dv_rule_kind(rule) == DV_KIND_ACROSS) {
+        printf(", %zu and %zu columns side by side\n", k, columns - k);
         return print_panel(print_panel(node + 2, rows, k, top, left), rows, columns - k, top, left + k);
     }
-    printf(", %u and %u rows one above the other\n", k, rows - k);
+    printf(", %zu and %zu rows one above the other\n", k, rows - k);
     return print_panel(print_panel(node + 2, k, columns, top, left), rows - k, columns, top + k, left);
+}
+
+static void derive(void)
+{
+    uint64_t answer = dv_derive(book, book_len, sheet, sheet_len, work, DV_MOST_WORK, tree, DV_MOST_TREE);
+    say("the sheet", answer);
+    if (dv_number(answer) == DV_ACCEPTED) {
+        uint64_t size = dv_sheet_size(sheet, sheet_len);
+        print_panel(tree, dv_size_rows(size), dv_size_columns(size), 0, 0);
+    }
+}
+
+static void join(void)
+{
+    uint64_t answer = dv_beside(book, book_len, second, second_len, joined, sizeof joined);
+    say("the two families side by side", answer);
+    if (dv_number(answer) == DV_ACCEPTED)
+        printf("a book of %zu bytes\n", dv_count(answer));
 }
 
 int main(int argc, char **argv)
@@ -96,22 +85,14 @@ int main(int argc, char **argv)
         fprintf(stderr, "usage: example BOOK SHEET [SECOND-BOOK]\n");
         return 2;
     }
-    book_len = load(argv[1], book, sizeof book);
-    size_t sheet_len = load(argv[2], sheet, sizeof sheet);
-    size_t second_len = load(argv[argc == 4 ? 3 : 1], second, sizeof second);
-
-    uint64_t answer = dv_derive(book, book_len, sheet, sheet_len, work, DV_MOST_WORK, tree, DV_MOST_TREE);
-    say("the sheet", answer);
-    if (dv_number(answer) == DV_ACCEPTED) {
-        const uint8_t *at = past_colours(sheet);
-        unsigned rows = number(&at), columns = number(&at);
-        note_rules();
-        print_panel(tree, rows, columns, 0, 0);
+    if (dv_version() != DV_VERSION) {
+        fprintf(stderr, "example: the archive has version %d, the header version %d\n", (int)dv_version(), DV_VERSION);
+        return 2;
     }
-
-    answer = dv_beside(book, book_len, second, second_len, joined, sizeof joined);
-    say("the two families side by side", answer);
-    if (dv_number(answer) == DV_ACCEPTED)
-        printf("a book of %zu bytes\n", dv_count(answer));
+    book_len = load(argv[1], book, sizeof book);
+    sheet_len = load(argv[2], sheet, sizeof sheet);
+    second_len = load(argv[argc == 4 ? 3 : 1], second, sizeof second);
+    derive();
+    join();
     return 0;
 }

@@ -1,5 +1,5 @@
 // A second engine, written from docs/RULES.md alone. It shares no code with the library and takes every call of
-// include/druvelstek.h under its own name; what is said there of each call holds here.
+// include/druvelstek.h but dv_version under its own name; what is said there of each call holds here.
 #ifndef INDEPENDENT_H
 #define INDEPENDENT_H
 
@@ -9,6 +9,8 @@
 uint64_t independent_read_book(const uint8_t *book, size_t book_len);
 uint64_t independent_read_sheet(const uint8_t *sheet, size_t sheet_len);
 uint64_t independent_colour(const uint8_t *book, size_t book_len, size_t number);
+uint64_t independent_rule(const uint8_t *book, size_t book_len, size_t number);
+uint64_t independent_sheet_size(const uint8_t *sheet, size_t sheet_len);
 
 uint64_t independent_derive(const uint8_t *book, size_t book_len, const uint8_t *sheet, size_t sheet_len,
                             uint32_t *work, size_t work_len, uint16_t *tree, size_t tree_len);

@@ -39,6 +39,16 @@ static void colour(void)
     answer = dv_colour(book.at, book.length, 0);
 }
 
+static void rule(void)
+{
+    answer = dv_rule(book.at, book.length, 0);
+}
+
+static void sheet_size(void)
+{
+    answer = dv_sheet_size(sheet.at, sheet.length);
+}
+
 static void derive(void)
 {
     answer = dv_derive(book.at, book.length, sheet.at, sheet.length, work, DV_MOST_WORK, tree, DV_MOST_TREE);
@@ -78,6 +88,8 @@ static struct kind kinds[] = {
     {"dv_read_book", read_book, 0},
     {"dv_read_sheet", read_sheet, 0},
     {"dv_colour", colour, 0},
+    {"dv_rule", rule, 0},
+    {"dv_sheet_size", sheet_size, 0},
     {"dv_derive", derive, 0},
 };
 static size_t most_of[COMBINATIONS];

@@ -1,8 +1,8 @@
 // Druvelstek: the C face of the verified library. C99 or later, or C++11 or later.
 //
 // A book is one family of layouts and a sheet is a grid of colours, both spelt byte by byte as docs/RULES.md says. The
-// library tells whether the family derives the sheet, gives the table of pieces and one derivation, shows a colour's
-// name, and makes new books from lent ones. Each call is proved to keep what its comment says, on every input.
+// library tells whether the family derives the sheet, gives the table of pieces and one derivation, looks up names,
+// rules and sizes, and makes new books of lent ones. Each call is proved to keep what its comment says, on every input.
 //
 // Nothing in the bytes tells a book from a sheet, and some are both: 2, 1 "a", 1 "b", 4, 1, 1, 0, 0, 0 is a book of
 // four motifs with one rule, and a sheet of four rows and one column. A caller keeps apart which file is which.
@@ -32,6 +32,11 @@
 #ifdef __cplusplus
 extern "C" {
 #endif
+
+// The version of rules and calls that this header describes, and the call that tells the archive's. A host compares the
+// two before any other call, so that a header and an archive of two versions are noticed.
+#define DV_VERSION 0
+uint64_t dv_version(void);
 
 // The greatest sizes.
 #define DV_MOST_COLOURS 64
@@ -97,13 +102,33 @@ uint64_t dv_read_book(const uint8_t *book, size_t book_len);
 // Reads a sheet, and answers like dv_read_book.
 uint64_t dv_read_sheet(const uint8_t *sheet, size_t sheet_len);
 
+// The look-ups, so that a host never reads the bytes of a book or a sheet itself. They have no answer number: 0 says
+// that there is nothing to show. Each reads its input whole each time.
+
 // Shows the name of a colour, numbered from 0, as the part of the lent book that holds it: place + 2^32 * length, which
 // dv_shown_place and dv_shown_length take apart. A refused book, or a number not below the count of colours, shows an
-// empty part, 0. No name is empty. This call alone has no answer number. It reads the whole book each time.
+// empty part, 0. No name is empty.
 uint64_t dv_colour(const uint8_t *book, size_t book_len, size_t number);
 
 static inline size_t dv_shown_place(uint64_t shown) { return (size_t)(shown & 0xffffffff); }
 static inline size_t dv_shown_length(uint64_t shown) { return (size_t)(shown >> 32); }
+
+// Shows a rule, numbered from 0 as in a tree: head + 2^8 * kind + 2^16 * first + 2^24 * second + 2^32, taken apart
+// below. Of a colour rule first is the colour's number, and second is 0; of a join they are the left and right, or the
+// upper and lower, motif. A refused book, or a number not below the count of rules, shows 0.
+uint64_t dv_rule(const uint8_t *book, size_t book_len, size_t number);
+
+static inline int dv_rule_found(uint64_t rule) { return rule != 0; }
+static inline unsigned dv_rule_head(uint64_t rule) { return (unsigned)(rule & 0xff); }
+static inline unsigned dv_rule_kind(uint64_t rule) { return (unsigned)(rule >> 8 & 0xff); }
+static inline unsigned dv_rule_first(uint64_t rule) { return (unsigned)(rule >> 16 & 0xff); }
+static inline unsigned dv_rule_second(uint64_t rule) { return (unsigned)(rule >> 24 & 0xff); }
+
+// Shows the size of a sheet: rows + 2^32 * columns, taken apart below. A refused sheet shows 0.
+uint64_t dv_sheet_size(const uint8_t *sheet, size_t sheet_len);
+
+static inline size_t dv_size_rows(uint64_t size) { return (size_t)(size & 0xffffffff); }
+static inline size_t dv_size_columns(uint64_t size) { return (size_t)(size >> 32); }
 
 // Decides whether the family derives the sheet of m rows and n columns. Answers, in this order: 1 to 8 blaming 1, the
 // book; 1 to 8 blaming 2, the sheet; 9; 10; 11; 14; 0. 14 is a guard and is proved never to come.
@@ -187,6 +212,18 @@ static inline uint64_t dv_checked_colour(const uint8_t *book, size_t book_len, s
     return dv_colour(book, book_len, number);
 }
 
+static inline uint64_t dv_checked_rule(const uint8_t *book, size_t book_len, size_t number)
+{
+    assert(dv_is_lent(book, book_len, 1));
+    return dv_rule(book, book_len, number);
+}
+
+static inline uint64_t dv_checked_sheet_size(const uint8_t *sheet, size_t sheet_len)
+{
+    assert(dv_is_lent(sheet, sheet_len, 1));
+    return dv_sheet_size(sheet, sheet_len);
+}
+
 static inline uint64_t dv_checked_derive(const uint8_t *book, size_t book_len, const uint8_t *sheet, size_t sheet_len,
                                          uint32_t *work, size_t work_len, uint16_t *tree, size_t tree_len)
 {
@@ -230,6 +267,8 @@ DV_CHECKED_OF_ONE(transposed)
 #define dv_read_book dv_checked_read_book
 #define dv_read_sheet dv_checked_read_sheet
 #define dv_colour dv_checked_colour
+#define dv_rule dv_checked_rule
+#define dv_sheet_size dv_checked_sheet_size
 #define dv_derive dv_checked_derive
 #define dv_either_of dv_checked_either_of
 #define dv_beside dv_checked_beside
