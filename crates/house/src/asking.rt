@@ -1,24 +1,24 @@
 // A book asked for a sheet, and the house book asked for the sheets of docs/RULES.md.
+use crate::lent;
 use crate::printing;
-use crate::slices;
 
 // Asks the book for the sheet with slices lent, and prints the answer and how much of each slice was written.
-pub fn ask(asked: &[u8], book: &[u8], sheet: &[u8], work: &mut [u32], tree: &mut [u16]) {
+pub(crate) fn ask(asked: &[u8], book: &[u8], sheet: &[u8], work: &mut [u32], tree: &mut [u16]) {
     printing::answer(asked, pieces::derive::dv_derive(book, sheet, work, tree));
-    printing::figure(b"; ", slices::entries_written(work) as u64);
-    printing::figure(b" ", slices::numbers_written(tree) as u64);
+    printing::figure(b"; ", lent::entries_written(work) as u64);
+    printing::figure(b" ", lent::numbers_written(tree) as u64);
     printing::text(b"\n");
 }
 
 // The same with slices that are long enough for every sheet here.
-pub fn ask_with_room(asked: &[u8], book: &[u8], sheet: &[u8]) {
+pub(crate) fn ask_with_room(asked: &[u8], book: &[u8], sheet: &[u8]) {
     let mut work = [4294967295u32; 78];
     let mut tree = [65535u16; 46];
     ask(asked, book, sheet, &mut work, &mut tree);
 }
 
 // The house book asked for a sheet.
-pub fn house(asked: &[u8], sheet: &[u8]) {
+pub(crate) fn house(asked: &[u8], sheet: &[u8]) {
     ask_with_room(
         asked,
         b"\x02\x07Slate C\x07Slate U\x03\x00\x04\x00\x01\x00\x00\x00\x02\x01\x02\x01\x00\x00\x02\x00\x01",
@@ -26,7 +26,7 @@ pub fn house(asked: &[u8], sheet: &[u8]) {
     );
 }
 
-pub fn house_sheets() {
+pub(crate) fn house_sheets() {
     house(
         b"sheet A",
         b"\x02\x07Slate C\x07Slate U\x02\x03\x00\x00\x00\x01\x01\x01",
@@ -62,7 +62,7 @@ fn house_colour(asked: &[u8], number: usize) {
     printing::line(b"\"");
 }
 
-pub fn house_colours() {
+pub(crate) fn house_colours() {
     house_colour(b"colour 0 of the house book: \"", 0);
     house_colour(b"colour 1 of the house book: \"", 1);
     house_colour(b"colour 2 of the house book: \"", 2);

@@ -1,20 +1,20 @@
 // The combinations of the house book, the sheets that the new books hold, and the refusals of a combination.
 use crate::asking;
+use crate::lent;
 use crate::printing;
-use crate::slices;
 
 // What a call answered, the bytes of the new book, and how many bytes of the output slice were written.
 fn outcome(asked: &[u8], packed: u64, out: &[u8]) {
     printing::answer(asked, packed);
     printing::figure(b"; ", packed / 4294967296);
-    printing::figure(b" ", slices::bytes_written(out) as u64);
+    printing::figure(b" ", lent::bytes_written(out) as u64);
     printing::text(b"\n");
 }
 
 // The motif count and the rule count of a book with the colours of the house.
 fn figures(book: &[u8]) {
-    printing::figure(b"its motifs and rules: ", slices::byte_at(book, 17) as u64);
-    printing::figure(b" ", slices::byte_at(book, 19) as u64);
+    printing::figure(b"its motifs and rules: ", lent::byte_at(book, 17) as u64);
+    printing::figure(b" ", lent::byte_at(book, 19) as u64);
     printing::text(b"\n");
 }
 
@@ -72,7 +72,7 @@ fn refused(asked: &[u8], first: &[u8], second: &[u8]) {
     outcome(asked, packed, &out);
 }
 
-pub fn house_combined() {
+pub(crate) fn house_combined() {
     let house =
         b"\x02\x07Slate C\x07Slate U\x03\x00\x04\x00\x01\x00\x00\x00\x02\x01\x02\x01\x00\x00\x02\x00\x01";
     transposed(house);
@@ -89,7 +89,7 @@ pub fn house_combined() {
 }
 
 // Books of 15 and 16 motifs, each with one rule, beside each other.
-pub fn limits() {
+pub(crate) fn limits() {
     let of_15 = b"\x02\x07Slate C\x07Slate U\x0f\x00\x01\x00\x00\x00";
     let of_16 = b"\x02\x07Slate C\x07Slate U\x10\x00\x01\x00\x00\x00";
     let mut out = [255u8; 32];

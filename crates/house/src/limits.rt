@@ -1,12 +1,12 @@
 // Books and sheets at the limits of docs/RULES.md, and one beyond.
 use crate::asking;
+use crate::lent;
 use crate::printing;
-use crate::slices;
 
 // The start, and zeros after it. A rule of zeros gives motif 0 the first colour, and a cell of zero has the first colour.
 fn begin(bytes: &mut [u8], start: &[u8]) {
     for i in 0..bytes.len() {
-        bytes[i] = slices::byte_at(start, i);
+        bytes[i] = lent::byte_at(start, i);
     }
 }
 
@@ -19,7 +19,7 @@ fn plain_sheet(asked: &[u8], sheet: &[u8]) {
     );
 }
 
-pub fn of_sheets() {
+pub(crate) fn of_sheets() {
     let mut rows_12 = [0u8; 31];
     begin(&mut rows_12, b"\x02\x07Slate C\x07Slate U\x0c\x01");
     plain_sheet(b"12 rows", &rows_12);
@@ -42,7 +42,7 @@ fn book(asked: &[u8], bytes: &[u8]) {
     printing::text(b"\n");
 }
 
-pub fn of_books() {
+pub(crate) fn of_books() {
     let mut rules_200 = [0u8; 621];
     begin(
         &mut rules_200,

@@ -2,6 +2,7 @@
 // it, so that it can be held against docs/RULES.md; the file stdout has all of them.
 mod asking;
 mod combining;
+mod lent;
 mod limits;
 mod palindromes;
 mod printing;

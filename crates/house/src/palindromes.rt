@@ -9,7 +9,7 @@ fn columns(asked: &[u8], sheet: &[u8]) {
     );
 }
 
-pub fn run() {
+pub(crate) fn run() {
     columns(b"columns a", b"\x02\x01a\x01b\x01\x01\x00");
     columns(b"columns a, b, a", b"\x02\x01a\x01b\x01\x03\x00\x01\x00");
     columns(b"columns aa, bb", b"\x02\x01a\x01b\x02\x02\x00\x01\x00\x01");

@@ -1,23 +1,23 @@
 // Text and numbers on the standard output.
 use libc::STDOUT_FILENO;
 
-pub fn text(bytes: &[u8]) {
+pub(crate) fn text(bytes: &[u8]) {
     io::write_all(STDOUT_FILENO, bytes);
 }
 
-pub fn line(bytes: &[u8]) {
+pub(crate) fn line(bytes: &[u8]) {
     text(bytes);
     text(b"\n");
 }
 
 // A number with some text before it.
-pub fn figure(before: &[u8], n: u64) {
+pub(crate) fn figure(before: &[u8], n: u64) {
     text(before);
     io::print_decimal(STDOUT_FILENO, n);
 }
 
 // What was asked, and a call's answer to it: number, blamed input and place.
-pub fn answer(asked: &[u8], packed: u64) {
+pub(crate) fn answer(asked: &[u8], packed: u64) {
     text(asked);
     figure(b": ", packed % 256);
     figure(b" ", packed / 256 % 16);
@@ -33,7 +33,7 @@ fn tree_number(n: u16) {
 }
 
 // The entries of a table, in order.
-pub fn entries(before: &[u8], work: &[u32]) {
+pub(crate) fn entries(before: &[u8], work: &[u32]) {
     text(before);
     for i in 0..work.len() {
         entry(work[i]);
@@ -42,7 +42,7 @@ pub fn entries(before: &[u8], work: &[u32]) {
 }
 
 // The numbers of a tree, in order.
-pub fn numbers(before: &[u8], tree: &[u16]) {
+pub(crate) fn numbers(before: &[u8], tree: &[u16]) {
     text(before);
     for i in 0..tree.len() {
         tree_number(tree[i]);

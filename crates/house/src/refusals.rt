@@ -10,7 +10,7 @@ fn book(asked: &[u8], bytes: &[u8]) {
     );
 }
 
-pub fn in_the_colours_of_a_book() {
+pub(crate) fn in_the_colours_of_a_book() {
     book(b"empty book", b"");
     book(b"book of no colours", b"\x00\x03\x00\x04");
     book(
@@ -31,7 +31,7 @@ pub fn in_the_colours_of_a_book() {
     );
 }
 
-pub fn in_the_figures_of_a_book() {
+pub(crate) fn in_the_figures_of_a_book() {
     book(
         b"book of 128 0 motifs",
         b"\x02\x07Slate C\x07Slate U\x80\x00\x00\x04",
@@ -54,7 +54,7 @@ pub fn in_the_figures_of_a_book() {
     );
 }
 
-pub fn in_the_rules_of_a_book() {
+pub(crate) fn in_the_rules_of_a_book() {
     book(
         b"book, head 3 of 3",
         b"\x02\x07Slate C\x07Slate U\x03\x00\x01\x03\x00\x00",
@@ -81,7 +81,7 @@ pub fn in_the_rules_of_a_book() {
     );
 }
 
-pub fn in_a_sheet() {
+pub(crate) fn in_a_sheet() {
     asking::house(b"empty sheet", b"");
     asking::house(
         b"sheet without its last byte",

@@ -1,45 +1,6 @@
-// Slices as they are lent, filled with a value that no call writes here, so that what a call wrote can be counted.
+// Sheet A asked for with slices that are just long enough, longer, and too short.
 use crate::asking;
 use crate::printing;
-ghost use Prim.Native.Nat.{_≤_};
-
-// A byte of a slice, or 0 beyond its end.
-pub fn byte_at(bytes: &[u8], i: usize) -> u8 {
-    if i < bytes.len() { bytes[i] } else { 0 }
-}
-
-fn one_if(test: bool) -> usize
-    ensures { λ r. ⌜ r ≤ 1 ⌝ }
-{
-    if test { 1 } else { 0 }
-}
-
-// How many entries of a work slice were written.
-pub fn entries_written(work: &[u32]) -> usize {
-    let mut count = 0;
-    for i in 0..work.len() {
-        count += one_if(work[i] != 4294967295);
-    }
-    count
-}
-
-// How many numbers of a tree slice were written.
-pub fn numbers_written(tree: &[u16]) -> usize {
-    let mut count = 0;
-    for i in 0..tree.len() {
-        count += one_if(tree[i] != 65535);
-    }
-    count
-}
-
-// How many bytes of an output slice were written.
-pub fn bytes_written(out: &[u8]) -> usize {
-    let mut count = 0;
-    for i in 0..out.len() {
-        count += one_if(out[i] != 255);
-    }
-    count
-}
 
 // The house book asked for sheet A, with slices lent.
 fn sheet_a(asked: &[u8], work: &mut [u32], tree: &mut [u16]) {
@@ -53,7 +14,7 @@ fn sheet_a(asked: &[u8], work: &mut [u32], tree: &mut [u16]) {
 }
 
 // Sheet A needs 18 entries and 22 numbers: slices that are just long enough, longer, and one too short.
-pub fn run() {
+pub(crate) fn run() {
     let mut work = [4294967295u32; 18];
     let mut tree = [65535u16; 22];
     sheet_a(
