@@ -1,42 +1,65 @@
--- Two outcomes that a contract allows are equal: each contract is an equation with one definition of the lent bytes.
+-- Two outcomes that a contract allows are equal. Each line has the name of a public function and cites the very definition that the function's contract does.
 use Prim.Native.Nat.{ℕ}
-use mathlib.Core.Path.{_≡_, sym, _∙_}
+use mathlib.Core.Path.{_≡_}
 use mathlib.Core.List.{List}
+use denote.Ref.{RefT, now}
+use Rattle.names.specs.Part.{Part}
 use Rattle.names.specs.Put.{put}
-use Rattle.books.specs.Book.{bookOf}
+use Rattle.names.specs.declared.number.Fault.{Fault}
+use Rattle.names.proofs.Settled.{Settles, settles, SettlesPart, part-settles}
+pub use Rattle.names.proofs.Settled.{settled}
+use Rattle.books.specs.Book.{noFamily, bookOf}
 use Rattle.books.specs.Sheet.{sheetOf}
-use Rattle.books.specs.Answer.{packed}
-use Rattle.books.specs.Calls.{bookAnswer, sheetAnswer, shown, shownPlace}
+use Rattle.books.specs.Order.{orderOf}
+use Rattle.books.specs.Answer.{plain, blaming, packed}
+use Rattle.books.specs.Calls.{bookAnswer, sheetAnswer, shown, shownStart, shownPlace}
 use Rattle.books.specs.SpellBook.{spellBook}
 use Rattle.books.specs.inner.Draft.{draftIn, writtenBook}
-use Rattle.books.specs.declared.book.BookRead.{BookRead}
-use Rattle.books.specs.declared.sheet.SheetRead.{SheetRead}
+use Rattle.books.specs.declared.answer.Answer.{Answer}
 use Rattle.books.specs.declared.draft.Draft.{Draft}
 use Rattle.books.specs.declared.writing.Written.{Written}
 
--- what is equal to one thing is equal
-pub settled : {A : Type 0} {x y z : A} → x ≡ z → y ≡ z → x ≡ y
-settled p q = p ∙ sym q
+-- ── Answers ──
 
-pub read-book-settled : (s : List ℕ) (r q : BookRead) → r ≡ bookOf s → q ≡ bookOf s → r ≡ q
-read-book-settled s r q = settled
+pub unblamed-settled : (number : ℕ) → Settles (plain number)
+unblamed-settled number = settles _
 
-pub read-sheet-settled : (s : List ℕ) (r q : SheetRead) → r ≡ sheetOf s → q ≡ sheetOf s → r ≡ q
-read-sheet-settled s r q = settled
+pub blame-settled : (input : ℕ) (f : Fault) → Settles (blaming input f)
+blame-settled input f = settles _
 
-pub dv-read-book-settled : (s : List ℕ) (r q : ℕ) → r ≡ packed (bookAnswer s) 0 → q ≡ packed (bookAnswer s) 0 → r ≡ q
-dv-read-book-settled s r q = settled
+pub pack-settled : (a : Answer) (count : ℕ) → Settles (packed a count)
+pack-settled a count = settles _
 
-pub dv-read-sheet-settled : (s : List ℕ) (r q : ℕ) → r ≡ packed (sheetAnswer s) 0 → q ≡ packed (sheetAnswer s) 0 → r ≡ q
-dv-read-sheet-settled s r q = settled
+-- ── Readers ──
 
-pub colour-settled : (s : List ℕ) (k : ℕ) (r q : List ℕ) → r ≡ shown s k → q ≡ shown s k → r ≡ q
-colour-settled s k r q = settled
+pub no-family-settled : Settles noFamily
+no-family-settled = settles _
 
-pub dv-colour-settled : (s : List ℕ) (k r q : ℕ) → r ≡ shownPlace s k → q ≡ shownPlace s k → r ≡ q
-dv-colour-settled s k r q = settled
+pub read-book-settled : (s : List ℕ) → Settles (bookOf s)
+read-book-settled s = settles _
 
--- the writer settles its answer and the slice
+pub read-sheet-settled : (s : List ℕ) → Settles (sheetOf s)
+read-sheet-settled s = settles _
+
+pub read-order-settled : (book sheet : List ℕ) → Settles (orderOf book sheet)
+read-order-settled book sheet = settles _
+
+-- ── Calls ──
+
+pub dv-read-book-settled : (s : List ℕ) → Settles (packed (bookAnswer s) 0)
+dv-read-book-settled s = settles _
+
+pub dv-read-sheet-settled : (s : List ℕ) → Settles (packed (sheetAnswer s) 0)
+dv-read-sheet-settled s = settles _
+
+pub colour-settled : (book : RefT (List ℕ)) (k : ℕ) → SettlesPart (Part book (shownStart (now book) k) (shown (now book) k))
+colour-settled book k = part-settles book _ _
+
+pub dv-colour-settled : (s : List ℕ) (k : ℕ) → Settles (shownPlace s k)
+dv-colour-settled s k = settles _
+
+-- ── The writer: its answer and the slice ──
+
 pub write-book-settled : (first second out o p : List ℕ) (d : Draft) (r q : Written)
     → (r ≡ writtenBook (draftIn first second d) out) × (o ≡ put out 0 (spellBook (draftIn first second d)))
     → (q ≡ writtenBook (draftIn first second d) out) × (p ≡ put out 0 (spellBook (draftIn first second d)))

@@ -18,3 +18,4 @@ pub mod LongestColours
 pub mod Exactly
 pub mod ListExactly
 pub mod FarBytes
+pub mod Settled
