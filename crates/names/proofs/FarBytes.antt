@@ -7,7 +7,7 @@ use mathlib.Core.List.{List, _∷_, _++_}
 use native.Mathlib.Omega.{arith}
 use borrow.Author.Tests.{lt-leb, eqb-true}
 use lib.Dec.{eqb}
-use lib.ListN.{length, getD, take, drop, length-append, length-drop, List·getD-append}
+use lib.ListN.{length, take, drop, length-append, length-drop, List·getD-append}
 use lib.Seq.{take-append-le, drop-append-le}
 use Rattle.names.specs.Pick.{pick}
 use Rattle.names.specs.Onward.{onward, faultless}
@@ -106,7 +106,7 @@ module _ (t u : List ℕ) where
       rw (name-far start len (omega arith)) (named-far start len (nameOf (drop start t) len) near refl))
 
   -- the name of a colour that was read from t
-  pub name-in-far : (c : Colours) (i : ℕ) → Places t c → i < c .count → nameIn (t ++ u) c i ≡ nameIn t c i
+  name-in-far : (c : Colours) (i : ℕ) → Places t c → i < c .count → nameIn (t ++ u) c i ≡ nameIn t c i
   name-in-far c i g h = part-far _ _ (g .inside i h)
 
   names-far : (c : Colours) → Places t c → (k i : ℕ) → i + k ≤ c .count → namesFrom (t ++ u) c i k ≡ namesFrom t c i k
@@ -118,7 +118,7 @@ module _ (t u : List ℕ) where
   names-in-far c g = names-far c g (c .count) 0 (omega arith)
 
   -- the number that a name has among them
-  pub find-name-far : (c : Colours) (n : Name) → Places t c → findName (t ++ u) c n ≡ findName t c n
+  find-name-far : (c : Colours) (n : Name) → Places t c → findName (t ++ u) c n ≡ findName t c n
   unfolding findName
   find-name-far c n g = rw (names-in-far c g)
 

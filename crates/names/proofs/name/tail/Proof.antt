@@ -1,8 +1,8 @@
 -- The part from a place to the end is what is left when so many are dropped, and past the end nothing is.
 use Rattle.names.proofs.Count.{part-rest}
+use Prim.Native.Nat.{_≤_}
 use denote.Ref.{now}
-use native.Mathlib.Nat.{le-of-lt}
-use lib.ListN.{drop-of-length-le}
+use lib.ListN.{length, drop-of-length-le}
 use mathlib.Core.Path.{refl, sym}
 use native.Mathlib.Omega.{arith}
 use borrow.Author.Needs.{needs}
@@ -12,18 +12,23 @@ use Rattle.names.proofs.name.tail.Tie as tie
 
 returns : tie.Need-returns
 returns c =
+    let a = c .before .before .args in
+    let s = now (a .s) in
     record {
       memory = refl;
-      offset = simp (le-leb _ _ (c .before .if1 .taken)) (omega arith);
-      holds = part-rest (now (c .before .before .args .s)) (c .before .before .args .at);
+      offset = simp (le-leb (a .at) (length s) (omega (arith, c .before .if1 .taken))) (omega arith);
+      holds = part-rest s (a .at);
     }
 
 returns-2 : tie.Need-returns-2
 returns-2 c =
+    let a = c .before .before .args in
+    let s = now (a .s) in
+    let over : length s ≤ a .at = omega (arith, c .before .if1 .left) in
     record {
       memory = refl;
-      offset = simp (lt-leb _ _ (c .before .if1 .left)) (omega arith);
-      holds = sym (drop-of-length-le _ (le-of-lt (c .before .if1 .left)));
+      offset = simp (lt-leb (a .at) (length s) (omega (arith, c .before .if1 .left))) (omega arith);
+      holds = sym (drop-of-length-le s over);
     }
 
 pub tail-spec : {M : Type 1} → statement M
