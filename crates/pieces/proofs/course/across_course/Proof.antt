@@ -8,18 +8,36 @@ use borrow.Author.Needs.{needs}
 use Rattle.pieces.proofs.course.across_course.Statement.{statement}
 use Rattle.pieces.proofs.course.across_course.Tie as tie
 
+-- From a call back to the one before it: the second step, the first step, the first slot, and where the function began.
+abbrev stepped : tie.After-times2 → tie.After-times
+stepped t = t .before .before .before
+
+abbrev slotted : tie.After-times → tie.After-slot
+slotted t = t .before .before
+
+abbrev began : tie.After-slot → tie.Start
+began t = t .before .before
+
 sub-t10 : tie.Need-sub-t10
-sub-t10 c = let s = c .before .before .before .before .before in omega (arith, c .before .times .ensures .0, rise-begins across (s .pre .1) (s .pre .1 .wide))
+sub-t10 c =
+    let t = c .before in
+    let s = began (slotted t) in
+    omega (arith, t .times .ensures .0, rise-begins across (s .pre .1) (s .pre .1 .wide))
 
 sub-t15 : tie.Need-sub-t15
-sub-t15 c = let s = c .before .before .before .before .before .before .before .before in omega (arith, c .before .times2 .ensures .0, fall-begins across (s .pre .1))
+sub-t15 c =
+    let t = c .before in
+    omega (arith, t .times2 .ensures .0, fall-begins across (began (slotted (stepped t)) .pre .1))
 
 returns : tie.Need-returns
 returns c =
-    let s = c .before .before .before .before .before .before .before .before in
+    let u = c .before in
+    let t = stepped u in
+    let first = slotted t in
+    let s = began first in
     let top = s .args .p .top in
-    course-made across _ _ _ (c .before .before .before .before .before .before .slot .ensures .0) (ap (λ (x : ℕ). x - top) (c .before .before .before .before .times .ensures .0)) (s .pre .2)
-    (ap (λ (x : ℕ). x - (top + 1)) (c .before .times2 .ensures .0)) refl
+    course-made across _ _ _ (first .slot .ensures .0) (ap (λ (x : ℕ). x - top) (t .times .ensures .0)) (s .pre .2)
+    (ap (λ (x : ℕ). x - (top + 1)) (u .times2 .ensures .0)) refl
 
 pub across-course-spec : {M : Type 1} → statement M
 across-course-spec =

@@ -8,26 +8,37 @@ use borrow.Author.Needs.{needs}
 use Rattle.pieces.proofs.course.down_course.Statement.{statement}
 use Rattle.pieces.proofs.course.down_course.Tie as tie
 
+-- From a call back to an earlier one: what the second step asks, what the first does, and all stretches of a row, with which the function began.
+abbrev stepped : tie.After-stretches-of3 → tie.After-stretches-of2
+stepped c = c .before .before .before
+
+abbrev measured : tie.After-stretches-of2 → tie.After-stretches-of
+measured c = c .before .before .before .before .before
+
 sub-t12 : tie.Need-sub-t12
 sub-t12 c =
-    let t = c .before .before .before .before .before in
-    let s = t .before in
-    omega (arith, c .before .before .times .ensures .0, ap (λ (x : ℕ). s .args .m * x) (t .stretches-of .ensures .0), c .stretches-of2 .ensures .0, rise-begins down (s .pre .1) (s .pre .1 .tall))
+    let all = measured c in
+    let s = all .before in
+    let rows = ap (λ (x : ℕ). s .args .m * x) (all .stretches-of .ensures .0) in
+    omega (arith, c .before .before .times .ensures .0, rows, c .stretches-of2 .ensures .0, rise-begins down (s .pre .1) (s .pre .1 .tall))
 
 sub-t17 : tie.Need-sub-t17
 sub-t17 c =
-    let t = c .before .before .before .before .before .before .before .before in
-    let s = t .before in
-    omega (arith, c .before .times2 .ensures .0, ap (λ (x : ℕ). (s .args .m + 2 - s .args .p .height) * x) (t .stretches-of .ensures .0), c .stretches-of3 .ensures .0, fall-begins down (s .pre .1))
+    let all = measured (stepped c) in
+    let s = all .before in
+    let rows = ap (λ (x : ℕ). (s .args .m + 2 - s .args .p .height) * x) (all .stretches-of .ensures .0) in
+    omega (arith, c .before .times2 .ensures .0, rows, c .stretches-of3 .ensures .0, fall-begins down (s .pre .1))
 
 returns : tie.Need-returns
 returns c =
-    let t = c .before .before .before .before .before .before .before .before in
-    let s = t .before in
-    let all = t .stretches-of .ensures .0 in
-    course-made down _ _ _ (c .before .before .before .before .before .before .before .slot .ensures .0)
-    (ap₂ (λ (x y : ℕ). x - y) (c .before .before .before .before .before .times .ensures .0 ∙ ap (λ (x : ℕ). s .args .m * x) all) (c .before .before .before .stretches-of2 .ensures .0)) (s .pre .2)
-    (ap₂ (λ (x y : ℕ). x - y) (c .before .times2 .ensures .0 ∙ ap (λ (x : ℕ). (s .args .m + 2 - s .args .p .height) * x) all) (c .stretches-of3 .ensures .0)) all
+    let u = stepped c in
+    let s = measured u .before in
+    let all = measured u .stretches-of .ensures .0 in
+    let first = u .before .before .before .before .slot .ensures .0 in
+    let rise = u .before .before .times .ensures .0 ∙ ap (λ (x : ℕ). s .args .m * x) all in
+    let fall = c .before .times2 .ensures .0 ∙ ap (λ (x : ℕ). (s .args .m + 2 - s .args .p .height) * x) all in
+    course-made down _ _ _ first (ap₂ (λ (x y : ℕ). x - y) rise (u .stretches-of2 .ensures .0)) (s .pre .2)
+    (ap₂ (λ (x y : ℕ). x - y) fall (c .stretches-of3 .ensures .0)) all
 
 pub down-course-spec : {M : Type 1} → statement M
 down-course-spec =

@@ -31,9 +31,15 @@ sheet-bytes k i = k .before .before .before .shared-slice-known2 .given i .fits
 kept : (l : tie.After-lack) → Ordered (order-read l .read-order .result)
 kept l = let k = order-read l in ordered _ _ (k .read-order .ensures) (book-bytes k) (sheet-bytes k) (l .before .if1 .left)
 
--- After the table was filled: where the slices' lengths were tested, and that they suffice.
+-- After the table was filled: where the slices' lengths were tested, and that they suffice. After it was judged: where it was filled.
 abbrev tested : tie.After-fill-table → tie.After-lack
 tested t = t .before .before .before .before .before .before
+
+abbrev judged : tie.After-judge → tie.After-fill-table
+judged j = j .before .before .before .before .before .before
+
+nothing : (t : tie.After-fill-table) → tested t .lack .result ≡ 0
+nothing t = t .before .before .before .before .before .if2 .left
 
 enough : (l : tie.After-lack) → l .lack .result ≡ 0 →
     let o = order-read l .read-order .result in
@@ -76,21 +82,21 @@ judge-requires c κs =
     let t = c .before .before .before .before .before in
     let l = tested t in
     let o = kept l in
-    let room = enough l (t .before .before .before .before .before .if2 .left) in
+    let room = enough l (nothing t) in
     let long = le-trans (room .0) (le-of-eq (sym (t .fill-table .kept .1 .1 .1 .1 .1 .0))) in
     (o .rules-small .few, record { tabled = record { sizes = o .sizes; entries = long }; cells = o .cells-all }, room .1)
 
 returns-3 : tie.Need-returns-3
 returns-3 c =
-    let j = c .before .before .before .judge in
-    let t = c .before .before .before .before .before .before .before .before .before in
+    let j = c .before .before .before in
+    let t = judged j in
     let l = tested t in
     let k = order-read l in
     let a = began k .args in
-    let none = sym (l .lack .ensures) ∙ t .before .before .before .before .before .if2 .left in
+    let none = sym (l .lack .ensures) ∙ nothing t in
     rw (told _ _ (k .read-order .ensures) (book-bytes k) (sheet-bytes k) (l .before .if1 .left) (now (a .work)) (now (a .tree)) none _ (t .fill-table .ensures)
     (sym (t .fill-table .kept .1 .1 .1 .1 .1 .0)))
-    (record { answers = c .unblamed2 .ensures ∙ ap plain (j .ensures .answers); leaves-work = refl; leaves-tree = j .ensures .leaves })
+    (record { answers = c .unblamed2 .ensures ∙ ap plain (j .judge .ensures .answers); leaves-work = refl; leaves-tree = j .judge .ensures .leaves })
 
 pub derive-spec : {M : Type 1} → statement M
 derive-spec =

@@ -6,38 +6,56 @@ use borrow.Author.Needs.{needs}
 use Rattle.pieces.proofs.masks.put_rule.Statement.{statement}
 use Rattle.pieces.proofs.masks.put_rule.Tie as tie
 
+-- In each arm: where the function began, and that what the body holds is small.
+abbrev coloured : tie.After-b → tie.Start
+coloured t = t .before .before .before
+
+abbrev across : tie.After-b2 → tie.Start
+across t = t .before .before .before
+
+abbrev down : tie.After-b3 → tie.Start
+down t = t .before .before .before
+
 slice-read-rules : tie.Need-slice-read-rules
 slice-read-rules c =
-    let s = c .before .before .before .before .before in
-    let low = subst BodySmall (c .before .before .b .given .1) (s .pre .3 .body) in
-    omega (arith, s .pre .0, low)
+    let t = c .before .before in
+    let g = coloured t .pre in
+    omega (arith, g .0, subst BodySmall (t .b .given .1) (g .3 .body))
 
 slice-write-rules : tie.Need-slice-write-rules
 slice-write-rules c =
-    let s = c .before .before .before .before .before .before in
-    let low = subst BodySmall (c .before .before .before .b .given .1) (s .pre .3 .body) in
-    omega (arith, s .pre .0, low)
+    let t = c .before .before .before in
+    let g = coloured t .pre in
+    omega (arith, g .0, subst BodySmall (t .b .given .1) (g .3 .body))
 
 put-requires : tie.Need-put-requires
 put-requires c κs =
-    let s = c .before .before .before .before .before in
-    let fit = subst BodySmall (c .before .before .b2 .given .1) (s .pre .3 .body) in
-    (omega (arith, s .pre .0, s .pre .1), s .pre .3 .head, fit .0, fit .1)
+    let t = c .before .before in
+    let g = across t .pre in
+    let fit = subst BodySmall (t .b2 .given .1) (g .3 .body) in
+    (omega (arith, g .0, g .1), g .3 .head, fit .0, fit .1)
 
 put-requires-2 : tie.Need-put-requires-2
 put-requires-2 c κs =
-    let s = c .before .before .before .before .before .before in
-    let fit = subst BodySmall (c .before .before .before .b3 .given .1) (s .pre .3 .body) in
-    (omega (arith, s .pre .0, s .pre .2), s .pre .3 .head, fit .0, fit .1)
+    let t = c .before .before .before in
+    let g = down t .pre in
+    let fit = subst BodySmall (t .b3 .given .1) (g .3 .body) in
+    (omega (arith, g .0, g .2), g .3 .head, fit .0, fit .1)
 
 returns : tie.Need-returns
 returns c = rw (c .before .before .before .b .given .1, c .mask .ensures) (refl, refl)
 
 returns-2 : tie.Need-returns-2
-returns-2 c = let t = c .before .before .before in rw (t .before .before .before .b2 .given .1) (refl, t .put .ensures)
+returns-2 c =
+    let t = c .before .before .before in
+    let arm = t .before .before .before .b2 in
+    rw (arm .given .1) (refl, t .put .ensures)
 
 returns-3 : tie.Need-returns-3
-returns-3 c = let t = c .before .before .before in rw (t .before .before .before .before .b3 .given .1) (refl, t .put2 .ensures)
+returns-3 c =
+    let t = c .before .before .before in
+    let arm = t .before .before .before .before .b3 in
+    rw (arm .given .1) (refl, t .put2 .ensures)
 
 pub put-rule-spec : {M : Type 1} → statement M
 put-rule-spec =

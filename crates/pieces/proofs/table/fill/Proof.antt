@@ -1,8 +1,9 @@
 -- The table is settled slot by slot, from the last cell on.
 use mathlib.Core.Path.{sym}
-use Prim.Native.Nat.{_-_}
+use Prim.Native.Nat.{_-_, _<_}
 use native.Mathlib.Nat.{lt-of-lt-of-le, le-of-eq}
 use native.Mathlib.Omega.{arith}
+use Rattle.pieces.specs.Pieces.{total}
 use Rattle.pieces.specs.inner.Settled.{plan}
 use Rattle.pieces.proofs.CellsFirst.{last-cell-inside}
 use Rattle.pieces.proofs.Settling.{Filling, filling-start, filling-step, filling-end}
@@ -16,6 +17,13 @@ Inv-loop work₀ rules joins m n end p₀ k₀ work p k = Filling (plan m n rule
 abbrev μ-loop : tie.MeasureT-loop
 μ-loop work₀ rules joins m n end p₀ k₀ work p k = end - k
 
+-- At the loop: where the function began. In the loop: the slot that is due is one of the table.
+abbrev began : tie.At-loop Inv-loop μ-loop → tie.Start Inv-loop μ-loop
+began t = t .before .before .before .before .before .before
+
+due : (c : tie.In-loop Inv-loop μ-loop) → let a = began (c .before) .args in c .before .loop .k < total (a .m) (a .n)
+due c = lt-of-lt-of-le (c .loop-test .taken) (le-of-eq (c .before .before .before .before .count .ensures .0))
+
 next-requires : tie.Need-next-requires Inv-loop μ-loop
 next-requires c κs = let s = c .before .before .before in (s .pre .0 .0, last-cell-inside _ _ (s .pre .0 .0 .rows-some) (s .pre .0 .0 .cols-some))
 
@@ -27,35 +35,30 @@ loop-holds c =
 entry-of-requires : tie.Need-entry-of-requires Inv-loop μ-loop
 entry-of-requires c κs =
     let t = c .before .before in
-    let s = t .before .before .before .before .before .before in
+    let s = began t in
     let f = t .loop .inv in
-    let less = lt-of-lt-of-le (c .before .loop-test .taken) (le-of-eq (t .before .before .before .count .ensures .0)) in
-    ((s .pre .0 .0, f .inside less, sym (f .here), rw (f .sized) (s .pre .0 .1)), s .pre .1)
+    ((s .pre .0 .0, f .inside (due (c .before)), sym (f .here), rw (f .sized) (s .pre .0 .1)), s .pre .1)
 
 mul-work : tie.Need-mul-work Inv-loop μ-loop
 mul-work c =
     let t = c .before .before .before in
-    omega (arith, t .before .before .before .count .ensures, c .before .before .loop-test .taken)
+    omega (arith, t .before .before .before .count .ensures, due (c .before .before))
 
 slice-write-work : tie.Need-slice-write-work Inv-loop μ-loop
 slice-write-work c =
     let t = c .before .before .before in
-    let s = t .before .before .before .before .before .before in
-    omega (arith, t .loop .inv .sized, s .pre .0, t .before .before .before .count .ensures, c .before .before .loop-test .taken)
+    omega (arith, t .loop .inv .sized, began t .pre .0, due (c .before .before))
 
 next-requires-2 : tie.Need-next-requires-2 Inv-loop μ-loop
 next-requires-2 c κs =
     let t = c .before .before .before in
-    let s = t .before .before .before .before .before .before in
-    let less = lt-of-lt-of-le (c .before .before .loop-test .taken) (le-of-eq (t .before .before .before .count .ensures .0)) in
-    (s .pre .0 .0, t .loop .inv .inside less)
+    (began t .pre .0 .0, t .loop .inv .inside (due (c .before .before)))
 
 loop-again : tie.Need-loop-again Inv-loop μ-loop
 loop-again c =
-    let t = c .before .before .before .before in
-    let s = t .before .before .before .before .before .before in
-    let less = lt-of-lt-of-le (c .before .before .before .loop-test .taken) (le-of-eq (t .before .before .before .count .ensures .0)) in
-    filling-step _ _ _ _ _ _ _ (t .loop .inv) less (s .pre .0 .1) (c .before .entry-of .ensures) (c .next2 .ensures)
+    let l = c .before .before .before in
+    let t = l .before in
+    filling-step _ _ _ _ _ _ _ (t .loop .inv) (due l) (began t .pre .0 .1) (c .before .entry-of .ensures) (c .next2 .ensures)
 
 same-length : tie.Need-same-length Inv-loop μ-loop
 same-length c = c .before .loop .inv .sized
