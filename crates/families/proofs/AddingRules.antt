@@ -9,19 +9,19 @@ use borrow.Author.Tests.{eq-eqb, ne-eqb}
 use lib.ListN.{length, getD, take, drop, set, length-append, length-map, drop-of-length-le}
 use lib.Seq.{sets, sets-eq, length-sets, length-take-le, take-at, drop-cons, getD-take}
 use Rattle.names.proofs.Listing.{getD-mem}
+use Rattle.books.specs.declared.family.Family.{Family}
 use Rattle.books.specs.declared.rule.Rule.{Rule}
 use Rattle.books.specs.declared.rule.Body.the-variants.{Colour}
-use Rattle.families.specs.declared.gathering.Rules.{Rules}
 use Rattle.families.specs.Combine.{copies}
 use Rattle.families.specs.inner.Counts.{headed}
-use Rattle.families.proofs.Copying.{copies-taken, copies-left, copies-raised}
-use Rattle.families.proofs.Counting.{copies-length, headed-few}
 use Rattle.families.specs.inner.Gathered.{standing, followed, raisedBy, changed, Rows}
 use Rattle.families.specs.inner.Lent.{rulesOf, Sized}
 use Rattle.families.specs.inner.Combined.{addedBy}
 use Rattle.families.specs.declared.asked.Pairing.{Pairing}
 use Rattle.families.specs.declared.asked.Pairing.the-variants.{EitherOf, Joined}
-use Rattle.books.specs.declared.family.Family.{Family}
+use Rattle.families.specs.declared.gathering.Rules.{Rules}
+use Rattle.families.proofs.Copying.{copies-taken, copies-left, copies-raised}
+use Rattle.families.proofs.Counting.{copies-length, headed-few}
 
 -- the rule at a place, and what a place past the last one has
 abbrev noRule : Rule

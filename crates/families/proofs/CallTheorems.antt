@@ -29,7 +29,7 @@ use Rattle.families.specs.Answers.{answerOf, countOf}
 use Rattle.families.proofs.Keeping.{KeptTwo, KeptOne, joined-keeps, either-of-keeps, repeated-keeps, transposed-keeps, swapping-keeps, keeps-within}
 use Rattle.families.proofs.Outcomes.{made-wrote, lent-went, front-put, beyond-put}
 use Rattle.families.proofs.ReadingOff.{ReadOff, one-read, two-read}
-use Rattle.families.proofs.Refusing.{read-numbered, one-numbered}
+use Rattle.families.proofs.Refusing.{read-verdict, one-verdict}
 use Rattle.families.proofs.Lengths.{swapping-as-long, transposed-as-long}
 use Rattle.families.proofs.Theorems.{either-of-holds, beside-holds, above-holds, run-holds, stack-holds, mirrored-holds, flipped-holds, transposed-holds, mirrored-again, flipped-again, transposed-again}
 
@@ -86,9 +86,9 @@ made-spelled : (c : Contents) (out : List ℕ) (o : Outcome) (left : List ℕ) (
     → o ≡ made c out → ReadOff o left r → answerOf r .number ≡ 0 → Spelled c out left (countOf r)
 made-spelled c out o left r keeps e read z =
     let l : List ℕ = spellBook c in
-    let numbered = read-numbered c out o left r e read in
-    let (small, room) = numbered .zero .0 z in
-    let count : countOf r ≡ length l = numbered .counted z in
+    let verdict = read-verdict c out o left r e read in
+    let (small, room) = verdict .zero .0 z in
+    let count : countOf r ≡ length l = verdict .counted z in
     let wrote = made-wrote c out (sym (ap (λ (p : Outcome). p .answer .number) e) ∙ zero-is o left r read z) in
     let there : left ≡ put out 0 l = read .left-is ∙ (ap (λ (p : Outcome). p .out) e ∙ wrote) in
     record {
@@ -145,7 +145,7 @@ module _ (op : Contents → Contents) (keeps : (f : Contents) → Keeps f → Ke
   -- a slice as long as the book has room
   one-zero : (book out left : List ℕ) (r : ℕ) → Bytes book → Accepted book → length book ≤ length out → Leaves (onOne op book out) r left → answerOf r .number ≡ 0
   one-zero book out left r bytes accepted room leaves =
-      one-numbered op kept book out left r bytes accepted leaves .zero .1
+      one-verdict op kept book out left r bytes accepted leaves .zero .1
       (keeps-within _ (keeps _ (spelled book bytes accepted .keeps)), rw (changed-length book bytes accepted) room)
 
   given-back : GivesBack op

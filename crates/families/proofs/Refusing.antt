@@ -21,7 +21,7 @@ use Rattle.families.specs.Limits.{WithinLimits}
 use Rattle.families.specs.Within.{within?}
 use Rattle.families.specs.Outcome.{Outcome, refused, written, made, lent, onOne, onSecond, onTwo, Leaves}
 use Rattle.families.specs.NewBook.{Accepted, bookIn}
-use Rattle.families.specs.Answers.{answerOf, countOf, Numbered}
+use Rattle.families.specs.Answers.{answerOf, countOf, Verdict}
 use Rattle.families.specs.EachCall.{EachCall}
 use Rattle.families.proofs.Testing.{within-limits}
 use Rattle.families.proofs.Keeping.{KeptTwo, KeptOne, each-call}
@@ -30,11 +30,11 @@ use Rattle.families.proofs.ReadingOff.{ReadOff, one-read, two-read}
 
 -- The number and the count of an outcome.
 abbrev Gets : Contents → List ℕ → Outcome → Type 0
-Gets c out o = Numbered c out (o .answer .number) (o .count)
+Gets c out o = Verdict c out (o .answer .number) (o .count)
 
-made-numbered : (c : Contents) (out : List ℕ) → Gets c out (made c out)
+made-verdict : (c : Contents) (out : List ℕ) → Gets c out (made c out)
 unfolding made written
-made-numbered c out =
+made-verdict c out =
     let size : ℕ = length (spellBook c) in
     pick-ind (Gets c out) (within? c) _ (refused (plain 12) out)
     (λ w.
@@ -66,38 +66,38 @@ made-numbered c out =
       counted = λ z. absurd (omega arith);
     })
 
--- A call whose outcome is that of contents gets their number.
-pub read-numbered : (c : Contents) (out : List ℕ) (o : Outcome) (left : List ℕ) (r : ℕ) → o ≡ made c out → ReadOff o left r
-    → Numbered c out (answerOf r .number) (countOf r)
-read-numbered c out o left r e read =
-    subst (λ (n : ℕ). Numbered c out n (countOf r)) (sym (ap (λ (a : Answer). a .number) (read .answer-is)))
-    (subst (Numbered c out (o .answer .number)) (sym (read .count-is))
-    (subst (Gets c out) (sym e) (made-numbered c out)))
+-- A call whose outcome is that of contents gets their number and count.
+pub read-verdict : (c : Contents) (out : List ℕ) (o : Outcome) (left : List ℕ) (r : ℕ) → o ≡ made c out → ReadOff o left r
+    → Verdict c out (answerOf r .number) (countOf r)
+read-verdict c out o left r e read =
+    subst (λ (n : ℕ). Verdict c out n (countOf r)) (sym (ap (λ (a : Answer). a .number) (read .answer-is)))
+    (subst (Verdict c out (o .answer .number)) (sym (read .count-is))
+    (subst (Gets c out) (sym e) (made-verdict c out)))
 
 -- An accepted book goes on.
 accepted-goes : (input : ℕ) (s out : List ℕ) (go : Contents → Outcome) → Accepted s → lent input s out go ≡ go (bookIn s)
 accepted-goes input s out go a = read-accepted s (bookOf s) refl input out go (ap (λ (f : Fault). f .number) a)
 
 -- Two accepted books, and one.
-abbrev pub NumbersTwo : (Contents → Contents → Contents) → Type 0
-NumbersTwo op = (first second out left : List ℕ) (r : ℕ) → Bytes first → Bytes second → Accepted first → Accepted second
-    → Leaves (onTwo op first second out) r left → Numbered (op (bookIn first) (bookIn second)) out (answerOf r .number) (countOf r)
+abbrev pub VerdictTwo : (Contents → Contents → Contents) → Type 0
+VerdictTwo op = (first second out left : List ℕ) (r : ℕ) → Bytes first → Bytes second → Accepted first → Accepted second
+    → Leaves (onTwo op first second out) r left → Verdict (op (bookIn first) (bookIn second)) out (answerOf r .number) (countOf r)
 
-abbrev pub NumbersOne : (Contents → Contents) → Type 0
-NumbersOne op = (book out left : List ℕ) (r : ℕ) → Bytes book → Accepted book
-    → Leaves (onOne op book out) r left → Numbered (op (bookIn book)) out (answerOf r .number) (countOf r)
+abbrev pub VerdictOne : (Contents → Contents) → Type 0
+VerdictOne op = (book out left : List ℕ) (r : ℕ) → Bytes book → Accepted book
+    → Leaves (onOne op book out) r left → Verdict (op (bookIn book)) out (answerOf r .number) (countOf r)
 
-two-numbered : (op : Contents → Contents → Contents) → KeptTwo op → NumbersTwo op
-two-numbered op keeps first second out left r bf bs af ag leaves =
-    read-numbered (op (bookIn first) (bookIn second)) out (onTwo op first second out) left r
+two-verdict : (op : Contents → Contents → Contents) → KeptTwo op → VerdictTwo op
+two-verdict op keeps first second out left r bf bs af ag leaves =
+    read-verdict (op (bookIn first) (bookIn second)) out (onTwo op first second out) left r
     (accepted-goes 1 first out (λ f. onSecond (op f) second out) af ∙ accepted-goes 2 second out (λ g. made (op (bookIn first) g) out) ag)
     (two-read op keeps first second out left r bf bs leaves)
 
-pub one-numbered : (op : Contents → Contents) → KeptOne op → NumbersOne op
-one-numbered op keeps book out left r bytes accepted leaves =
-    read-numbered (op (bookIn book)) out (onOne op book out) left r
+pub one-verdict : (op : Contents → Contents) → KeptOne op → VerdictOne op
+one-verdict op keeps book out left r bytes accepted leaves =
+    read-verdict (op (bookIn book)) out (onOne op book out) left r
     (accepted-goes 1 book out (λ f. made (op f) out) accepted)
     (one-read op keeps book out left r bytes leaves)
 
-pub numbered : EachCall NumbersTwo NumbersOne
-numbered = each-call NumbersTwo NumbersOne two-numbered one-numbered
+pub verdicts : EachCall VerdictTwo VerdictOne
+verdicts = each-call VerdictTwo VerdictOne two-verdict one-verdict

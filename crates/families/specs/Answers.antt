@@ -32,7 +32,7 @@ pub record Answers (Faulty : Answer → Type 0) (out left : List ℕ) (a : Answe
 
 -- Demand 3, of accepted books: 12 exactly where the combination c exceeds the limits, 13 exactly where it does not and the slice is shorter than
 -- its spelling, and else 0 with the length of that spelling
-pub record Numbered (c : Contents) (out : List ℕ) (number count : ℕ) : Type 0 where
+pub record Verdict (c : Contents) (out : List ℕ) (number count : ℕ) : Type 0 where
   pub twelve : (number ≡ 12) ↔ (WithinLimits c → ⊥)
   pub thirteen : (number ≡ 13) ↔ (WithinLimits c × (length out < length (spellBook c)))
   pub zero : (number ≡ 0) ↔ (WithinLimits c × (length (spellBook c) ≤ length out))
