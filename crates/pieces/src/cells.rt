@@ -8,7 +8,8 @@ ghost use Rattle.pieces.specs.inner.Painted.{Begun};
 
 // The entries of the first so many cells, by the masks of their colours.
 pub(crate) fn paint_cells(rules: &[u32], colours: &[u8], count: usize, work: &mut [u32])
-    requires { ⌜ (length (now rules) ≡ allMasks) × (count ≤ length (now colours)) × (count ≤ length (now work)) × ((i : ℕ) → i < count → getD (now colours) i 0 < colourMasks) ⌝ }
+    requires { ⌜ (length (now rules) ≡ allMasks) × (count ≤ length (now work)) ⌝ }
+    requires { ⌜ (count ≤ length (now colours)) × ((i : ℕ) → i < count → getD (now colours) i 0 < colourMasks) ⌝ }
     ensures { λ _. ⌜ Begun (now (rules .entry)) (now (colours .entry)) count (now (work .entry)) (now (work .exit)) ⌝ }
 {
     let mut i = 0;

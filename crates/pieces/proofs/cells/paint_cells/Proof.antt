@@ -21,28 +21,28 @@ loop-holds c = (omega arith, begun-start _ _ _, refl)
 cast-at : tie.Need-cast-at Inv-loop μ-loop
 cast-at c =
     let t = c .before .before in
-    omega (arith, t .before .pre .3 (t .loop .i) (c .before .loop-test .taken))
+    omega (arith, t .before .pre .1 .1 (t .loop .i) (c .before .loop-test .taken))
 
 add-at : tie.Need-add-at Inv-loop μ-loop
 add-at c =
     let t = c .before .before in
-    omega (arith, t .before .pre .3 (t .loop .i) (c .before .loop-test .taken))
+    omega (arith, t .before .pre .1 .1 (t .loop .i) (c .before .loop-test .taken))
 
 mul-work : tie.Need-mul-work Inv-loop μ-loop
 mul-work c =
     let t = c .before .before in
-    omega (arith, t .before .pre .3 (t .loop .i) (c .before .loop-test .taken))
+    omega (arith, t .before .pre .1 .1 (t .loop .i) (c .before .loop-test .taken))
 
 shared-slice-read-work : tie.Need-shared-slice-read-work Inv-loop μ-loop
 shared-slice-read-work c =
     let t = c .before .before .before in
     let s = t .before in
-    omega (arith, s .pre .0, s .pre .3 (t .loop .i) (c .before .before .loop-test .taken))
+    omega (arith, s .pre .0 .0, s .pre .1 .1 (t .loop .i) (c .before .before .loop-test .taken))
 
 loop-again : tie.Need-loop-again Inv-loop μ-loop
 loop-again c =
     let t = c .before .before .before in
-    (omega arith, begun-step _ _ _ _ _ (omega (arith, t .loop .inv .2, t .before .pre .2)) (t .loop .inv .1), simp length-set (t .loop .inv .2))
+    (omega arith, begun-step _ _ _ _ _ (omega (arith, t .loop .inv .2, t .before .pre .0 .1)) (t .loop .inv .1), simp length-set (t .loop .inv .2))
 
 same-length : tie.Need-same-length Inv-loop μ-loop
 same-length c = c .before .loop .inv .2

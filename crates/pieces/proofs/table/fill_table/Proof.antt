@@ -22,7 +22,7 @@ paint-cells-requires c κs =
     let g = began v .pre in
     let e = c .before .times .ensures .0 in
     let few = cells-few _ _ (g .0 .1 .rows-some) (g .0 .1 .cols-some) in
-    (v .split .kept .1 .1 .0, rw e (g .1 .0), omega (arith, e, few, g .0 .2), rw e (g .1 .1))
+    ((v .split .kept .1 .1 .0, omega (arith, e, few, g .0 .2)), (rw e (g .1 .0), rw e (g .1 .1)))
 
 fill-requires : tie.Need-fill-requires
 fill-requires c κs =
