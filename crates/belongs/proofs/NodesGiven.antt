@@ -1,20 +1,31 @@
--- The nodes that are printed are those of the derivation given: 2mn - 1 for m rows and n columns, each of two numbers, and never more than the slice was lent for.
+-- The nodes that are printed are those of the derivation given: 2mn - 1 for m rows and n columns, each of two numbers, and never more than the slice was lent for. On 0 the
+-- tree slice begins with them, since 0 is answered only where the derivation was written.
 use Prim.Native.Nat.{ℕ, _*_, _-_, _≤_}
 use mathlib.Core.Path.{_≡_}
+use mathlib.Core.Bool.{false}
 use mathlib.Core.Logic.{⊎-elim}
 use mathlib.Core.List.{List}
 use native.Mathlib.Omega.{arith}
 use borrow.Author.Tests.{eqb-true, eqb-false}
-use lib.Dec.{eqb}
-use lib.ListN.{length}
+use lib.Dec.{eqb, ltb}
+use lib.ListN.{length, take, drop}
+use lib.Seq.{take-at}
+use Rattle.names.specs.declared.number.Fault.{Fault}
+use Rattle.names.proofs.Picking.{pick-ind}
 use Rattle.names.proofs.Tests.{true-or-false}
 use Rattle.books.specs.Contents.{Contents}
-use Rattle.books.specs.ContentsIn.{gridIn}
+use Rattle.books.specs.ContentsIn.{contentsIn, gridIn}
+use Rattle.books.specs.Picture.{Picture}
 use Rattle.books.specs.Grid.{picture}
+use Rattle.books.specs.Answer.{blaming}
+use Rattle.books.specs.Book.{bookOf}
+use Rattle.books.specs.Decide.{derives?}
 use Rattle.books.specs.Sheet.{sheetOf}
+use Rattle.books.proofs.Deciding.{decided}
 use Rattle.books.proofs.ReadingSheets.{sheet-lies, sheet-refused}
 use Rattle.pieces.specs.Given.{Given}
-use Rattle.pieces.proofs.TheTree.{given-length}
+use Rattle.pieces.specs.Derivation.{Derivation, leaving, entriesNeeded, numbersNeeded, filled, judged, roomed, derivation, outcome}
+use Rattle.pieces.proofs.TheTree.{tree-given, given-length}
 use Rattle.belongs.specs.Nodes.{nodesOf}
 
 -- a sheet that was read has few cells, and a refused one has none
@@ -31,3 +42,43 @@ nodes-few s n e = omega (arith, cells-few s)
 -- whatever the family and the motif, the derivation given of the sheet has so many nodes
 pub nodes-given : (b : Contents) (a : ℕ) (s xs : List ℕ) → Given b a (picture (gridIn s (sheetOf s .sheet))) xs → length xs ≡ 2 * nodesOf s
 nodes-given b a s xs = given-length b a (picture (gridIn s (sheetOf s .sheet))) xs
+
+-- ── What is printed on 0 ──
+
+module _ (book sheet numbers : List ℕ) where
+  abbrev b : Contents
+  b = contentsIn book (bookOf book .family)
+
+  abbrev p : Picture
+  p = picture (gridIn sheet (sheetOf sheet .sheet))
+
+  -- so many numbers of the tree slice are the derivation given
+  abbrev Prints : Derivation → Type 0
+  Prints d = d .answer .number ≡ 0 → Given b (b .start) p (take (2 * nodesOf sheet) (d .numbers))
+
+  judged-prints : (entries : List ℕ) → Prints (judged b p entries numbers)
+  unfolding judged outcome
+  judged-prints entries =
+      pick-ind Prints (derives? b (b .start) p) _ _
+      (λ e.
+      let (nodes, is, given) = tree-given b p (decided b (b .start) p .0 e) in
+      rw (is, take-at nodes (drop (length nodes) numbers) (2 * nodesOf sheet) (nodes-given b (b .start) sheet nodes given)) (λ _. given))
+      (λ _ z. absurd (omega arith))
+
+  roomed-prints : (entries : List ℕ) → Prints (roomed b p entries numbers)
+  unfolding roomed
+  roomed-prints entries =
+      pick-ind Prints (ltb (length entries) (entriesNeeded p)) _ _
+      (λ _ z. absurd (omega arith))
+      (λ _. pick-ind Prints (ltb (length numbers) (numbersNeeded p)) _ _ (λ _ z. absurd (omega arith)) (λ _. judged-prints (filled b p entries)))
+
+  -- a fault has a number
+  fault-prints : (input : ℕ) (f : Fault) (entries : List ℕ) → eqb (f .number) 0 ≡ false → Prints (leaving (blaming input f) entries numbers)
+  fault-prints input f entries t z = absurd (eqb-false (f .number) 0 t (rw t at z))
+
+  pub prints-given : (entries : List ℕ) → Prints (derivation book sheet entries numbers)
+  unfolding derivation
+  prints-given entries =
+      pick-ind Prints (eqb (bookOf book .fault .number) 0) _ _
+      (λ _. pick-ind Prints (eqb (sheetOf sheet .fault .number) 0) _ _ (λ _. roomed-prints entries) (fault-prints 2 (sheetOf sheet .fault) entries))
+      (fault-prints 1 (bookOf book .fault) entries)
