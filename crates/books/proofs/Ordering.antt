@@ -1,7 +1,7 @@
 -- What callers use of an order: the number of each cell, and that its answer is 0 exactly where neither input has a fault, and else blames the
 -- first that has one. A cell's number stands at the cell's place, since the numbers are those of the cells in order.
 use Prim.Native.Nat.{ℕ, zero, suc, _+_, _*_, _<_, _≤_}
-use mathlib.Core.Path.{_≡_, refl, sym, _∙_, ap, subst}
+use mathlib.Core.Path.{_≡_, refl, sym, _∙_, ap, ap₂, subst}
 use mathlib.Core.List.{List, [], _∷_, map, _++_, map-append, append-assoc}
 use mathlib.Core.Logic.{_⊎_, inl, inr, ⊎-elim}
 use native.Mathlib.Numerals.{add-one}
@@ -19,6 +19,7 @@ use Rattle.books.specs.Book.{bookOf}
 use Rattle.books.specs.Cells.{noCells}
 use Rattle.books.specs.Order.{numberOf, numbersOf, firstFault, orderOf}
 use Rattle.books.specs.Sheet.{sheetOf}
+use Rattle.books.specs.inner.Key.{CellsFit}
 use Rattle.books.specs.Size.{room}
 use Rattle.books.specs.declared.answer.Answer.{Answer}
 use Rattle.books.specs.declared.book.BookRead.{BookRead}
@@ -102,6 +103,16 @@ module _ (f : ℕ → ℕ) (cells base : List ℕ) where
       let size : i < length (map f (take n cells)) = omega (arith, first-size n g) in
       List·getD-append (map f (take n cells)) (drop n base) 0 i size ∙ mapped-at (take n cells) i size ∙ ap f (getD-take n cells i 0 h)
 
+-- two ways to number that agree on the cells
+pub begun-same : (f h : ℕ → ℕ) (cells base : List ℕ) (n : ℕ) → n ≤ length cells → n ≤ length base
+    → ((i : ℕ) → i < n → f (getD cells i 0) ≡ h (getD cells i 0)) → begun f cells base n ≡ begun h cells base n
+begun-same f h cells base zero l g e = refl
+begun-same f h cells base (suc n) l g e =
+    let others = begun-same f h cells base n (omega arith) (omega arith) (λ i p. e i (omega arith)) in
+    let one = one-numbered f cells base n (omega arith) (omega arith) in
+    let other = one-numbered h cells base n (omega arith) (omega arith) in
+    rw add-one at (sym one ∙ (ap₂ (λ (x : List ℕ) (v : ℕ). set x n v) others (e n (omega arith)) ∙ other))
+
 pub number-at : (book : List ℕ) (c : Colours) (sheet : List ℕ) (g : Sheet) (i : ℕ) → i < g .rows * g .cols → g .rows * g .cols ≤ length (g .cells)
     → getD (numbersOf book c sheet g) i 0 ≡ numberOf book c sheet (g .colours) (getD (g .cells) i 0)
 number-at book c sheet g i h few = begun-at (numberOf book c sheet (g .colours)) (g .cells) noCells (g .rows * g .cols) i h few
@@ -120,15 +131,13 @@ book-start s =
     (λ t. rw (book-refused s (eqb-false _ 0 t) .empty) (omega arith))
     (true-or-false (eqb (bookOf s .fault .number) 0))
 
--- the cells of a sheet fit their room, and their numbers those of a colour list
-abbrev pub CellsFit : Sheet → Type 0
-CellsFit g = (g .rows * g .cols ≤ room) × (length (g .cells) ≡ room) × ((i : ℕ) → i < g .rows * g .cols → getD (g .cells) i 0 < 64)
-
+-- the cells of a sheet fit their room, and their numbers its colours
 pub sheet-cells : (s : List ℕ) → CellsFit (sheetOf s .sheet)
 sheet-cells s =
     ⊎-elim
-    (λ t. let l = sheet-lies s (eqb-true _ 0 t) in (l .area-few, l .cells-all, λ i h. omega (arith, l .cells-fit i h, l .places .few)))
-    (λ t. subst CellsFit (sym (sheet-refused s (eqb-false _ 0 t) .none)) (omega arith, refl, λ i h. absurd (omega arith)))
+    (λ t. let l = sheet-lies s (eqb-true _ 0 t) in record { colours-few = l .places .few; area-few = l .area-few; cells-all = l .cells-all; cells-fit = l .cells-fit })
+    (λ t. subst CellsFit (sym (sheet-refused s (eqb-false _ 0 t) .none))
+    (record { colours-few = omega arith; area-few = omega arith; cells-all = refl; cells-fit = λ i h. absurd (omega arith) }))
     (true-or-false (eqb (sheetOf s .fault .number) 0))
 
 -- an order is made of a book and a sheet that were read, of the first fault and of the cells' numbers

@@ -4,7 +4,6 @@ use mathlib.Core.Path.{_≡_}
 use mathlib.Core.List.{List}
 use denote.Ref.{RefT, now}
 use Rattle.names.specs.Part.{Part}
-use Rattle.names.specs.Put.{put}
 use Rattle.names.specs.declared.number.Fault.{Fault}
 use Rattle.names.proofs.Settled.{Settles, settles, SettlesPart, part-settles}
 pub use Rattle.names.proofs.Settled.{settled}
@@ -13,8 +12,7 @@ use Rattle.books.specs.Sheet.{sheetOf}
 use Rattle.books.specs.Order.{orderOf}
 use Rattle.books.specs.Answer.{plain, blaming, packed}
 use Rattle.books.specs.Calls.{bookAnswer, sheetAnswer, shown, shownStart, shownPlace}
-use Rattle.books.specs.SpellBook.{spellBook}
-use Rattle.books.specs.inner.Draft.{draftIn, writtenBook}
+use Rattle.books.specs.inner.Draft.{WroteDraft}
 use Rattle.books.specs.declared.answer.Answer.{Answer}
 use Rattle.books.specs.declared.draft.Draft.{Draft}
 use Rattle.books.specs.declared.writing.Written.{Written}
@@ -61,7 +59,5 @@ dv-colour-settled s k = settles _
 -- ── The writer: its answer and the slice ──
 
 pub write-book-settled : (first second out o p : List ℕ) (d : Draft) (r q : Written)
-    → (r ≡ writtenBook (draftIn first second d) out) × (o ≡ put out 0 (spellBook (draftIn first second d)))
-    → (q ≡ writtenBook (draftIn first second d) out) × (p ≡ put out 0 (spellBook (draftIn first second d)))
-    → (r ≡ q) × (o ≡ p)
-write-book-settled first second out o p d r q x y = (settled (x .0) (y .0), settled (x .1) (y .1))
+    → WroteDraft first second d out r o → WroteDraft first second d out q p → (r ≡ q) × (o ≡ p)
+write-book-settled first second out o p d r q x y = (settled (x .answers) (y .answers), settled (x .leaves) (y .leaves))

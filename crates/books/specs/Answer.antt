@@ -1,5 +1,5 @@
 -- What a call answers, and the one number that a C host gets.
-use Prim.Native.Nat.{ℕ, _+_, _*_, _^_, _<_}
+use Prim.Native.Nat.{ℕ, _+_, _*_, _%_, _^_, _<_}
 use lib.Dec.{eqb}
 use Rattle.names.specs.Pick.{pick}
 use Rattle.names.specs.declared.number.Fault.{Fault}
@@ -16,11 +16,11 @@ plain n = answer n 0 0
 abbrev pub blaming : ℕ → Fault → Answer
 blaming input f = pick (eqb (f .number) 0) (plain 0) (answer (f .number) input (f .place))
 
--- number, blamed input, place and the call's own count, from the lowest bits up
+-- number, blamed input, place and the call's own count, from the lowest bits up, each cut to its bits
 abbrev pub packed : Answer → ℕ → ℕ
-packed a count = a .number + 2 ^ 8 * a .blamed + 2 ^ 12 * a .place + 2 ^ 32 * count
+packed a count = a .number + 2 ^ 8 * (a .blamed % 2 ^ 4) + 2 ^ 12 * (a .place % 2 ^ 20) + 2 ^ 32 * (count % 2 ^ 32)
 
--- what each part must keep, so that the number can be taken apart again
+-- what each part must keep, so that nothing is cut and the number can be taken apart again: every call's answer does
 pub record Packs (a : Answer) (count : ℕ) : Type 0 where
   pub number-fits : a .number < 2 ^ 8
   pub blamed-fits : a .blamed < 2 ^ 4

@@ -9,11 +9,15 @@ use Rattle.books.specs.declared.rule.Rule.{Rule}
 use Rattle.books.specs.declared.rule.Body.{Body}
 use Rattle.books.specs.declared.rule.Body.the-variants.{Colour, Across, Down}
 
+-- three numbers in a row
+abbrev pub spellThree : ℕ → ℕ → ℕ → List ℕ
+spellThree first second third = spellNumber first ++ (spellNumber second ++ spellNumber third)
+
 -- the kind, then the colour or the two motifs
 abbrev pub spellBody : Body → List ℕ
 spellBody (Colour c) = spellNumber 0 ++ spellNumber c
-spellBody (Across l r) = spellNumber 1 ++ (spellNumber l ++ spellNumber r)
-spellBody (Down u v) = spellNumber 2 ++ (spellNumber u ++ spellNumber v)
+spellBody (Across l r) = spellThree 1 l r
+spellBody (Down u v) = spellThree 2 u v
 
 -- the head, then the body
 abbrev pub spellRule : Rule → List ℕ
@@ -22,10 +26,6 @@ spellRule r = spellNumber (r .head) ++ spellBody (r .body)
 abbrev pub spellRules : List Rule → List ℕ
 spellRules [] = []
 spellRules (r ∷ rs) = spellRule r ++ spellRules rs
-
--- the motif count, the start motif, the rule count
-abbrev pub spellFigures : ℕ → ℕ → ℕ → List ℕ
-spellFigures motifs start count = spellNumber motifs ++ (spellNumber start ++ spellNumber count)
 
 -- a colour list; the motif count; the start motif; the rule count; the rules
 abbrev pub spellBook : Contents → List ℕ

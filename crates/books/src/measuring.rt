@@ -6,14 +6,13 @@ use names::colours::Colours;
 use names::name;
 use names::number;
 ghost use mathlib.Core.Path.{_≡_};
-ghost use mathlib.Core.List.{_++_};
 ghost use Prim.Native.Nat.{_+_, _≤_};
 ghost use lib.ListN.{length, take};
 ghost use Rattle.names.specs.Number.{spellNumber};
 ghost use Rattle.names.specs.Colours.{namesIn};
 ghost use Rattle.names.specs.Spelling.{spellNames, spellColours};
-ghost use Rattle.books.specs.SpellBook.{spellBody, spellRule, spellRules, spellFigures, spellBook};
-ghost use Rattle.books.specs.inner.Draft.{draftIn, DraftFits};
+ghost use Rattle.books.specs.SpellBook.{spellThree, spellBody, spellRule, spellRules, spellBook};
+ghost use Rattle.books.specs.inner.Draft.{bothNames, draftIn, DraftFits};
 
 // The names of a list, each with its length before it.
 fn names_len(s: &[u8], c: Colours) -> usize
@@ -34,25 +33,25 @@ fn names_len(s: &[u8], c: Colours) -> usize
     sum
 }
 
-// A kind and two motifs.
-fn join_len(first: u8, second: u8) -> usize
-    ensures { λ r. ⌜ (r ≡ 1 + (length (spellNumber first) + length (spellNumber second))) × (r ≤ 7) ⌝ }
+// Three numbers in a row: a kind and two motifs; or the motif count, the start and the rule count.
+fn three_len(first: usize, second: usize, third: usize) -> usize
+    ensures { λ r. ⌜ (r ≡ length (spellThree first second third)) × (r ≤ 9) ⌝ }
 {
-    1 + (number::spelled_len(first as usize) + number::spelled_len(second as usize))
+    number::spelled_len(first) + (number::spelled_len(second) + number::spelled_len(third))
 }
 
 fn body_len(b: Body) -> usize
-    ensures { λ r. ⌜ (r ≡ length (spellBody b)) × (r ≤ 7) ⌝ }
+    ensures { λ r. ⌜ (r ≡ length (spellBody b)) × (r ≤ 9) ⌝ }
 {
     match b {
         Body::Colour(c) => 1 + number::spelled_len(c as usize),
-        Body::Across(l, r) => join_len(l, r),
-        Body::Down(u, v) => join_len(u, v),
+        Body::Across(l, r) => three_len(1, l as usize, r as usize),
+        Body::Down(u, v) => three_len(2, u as usize, v as usize),
     }
 }
 
 fn rule_len(r: Rule) -> usize
-    ensures { λ k. ⌜ (k ≡ length (spellRule r)) × (k ≤ 10) ⌝ }
+    ensures { λ k. ⌜ (k ≡ length (spellRule r)) × (k ≤ 12) ⌝ }
 {
     let b = r.body;
     number::spelled_len(r.head as usize) + body_len(b)
@@ -61,7 +60,7 @@ fn rule_len(r: Rule) -> usize
 // The first so many rules.
 fn rules_len(rules: [Rule; 200], count: usize) -> usize
     requires { ⌜ count ≤ 200 ⌝ }
-    ensures { λ r. ⌜ (r ≡ length (spellRules (take count rules))) × (r ≤ 2000) ⌝ }
+    ensures { λ r. ⌜ (r ≡ length (spellRules (take count rules))) × (r ≤ 2400) ⌝ }
 {
     let mut sum = 0;
     let mut i = 0;
@@ -76,16 +75,9 @@ fn rules_len(rules: [Rule; 200], count: usize) -> usize
 // The colours of both lists, in one list after their count.
 fn colours_len(first: &[u8], c: Colours, second: &[u8], more: Colours) -> usize
     requires { ⌜ (c .count ≤ 64) × (more .count ≤ 64) ⌝ }
-    ensures { λ r. ⌜ (r ≡ length (spellColours (namesIn (now (first .entry)) c ++ namesIn (now (second .entry)) more))) × (r ≤ 33027) ⌝ }
+    ensures { λ r. ⌜ (r ≡ length (spellColours (bothNames (now (first .entry)) c (now (second .entry)) more))) × (r ≤ 33027) ⌝ }
 {
     number::spelled_len(c.count + more.count) + (names_len(first, c) + names_len(second, more))
-}
-
-// The motif count, the start and the rule count.
-fn figures_len(motifs: usize, start: usize, count: usize) -> usize
-    ensures { λ r. ⌜ (r ≡ length (spellFigures motifs start count)) × (r ≤ 9) ⌝ }
-{
-    number::spelled_len(motifs) + (number::spelled_len(start) + number::spelled_len(count))
 }
 
 pub(crate) fn book_len(first: &[u8], second: &[u8], d: Draft) -> usize
@@ -97,6 +89,6 @@ pub(crate) fn book_len(first: &[u8], second: &[u8], d: Draft) -> usize
     let more = d.more;
     let rules = f.rules;
     let colours = colours_len(first, c, second, more);
-    let figures = figures_len(f.motifs, f.start, f.count);
+    let figures = three_len(f.motifs, f.start, f.count);
     colours + (figures + rules_len(rules, f.count))
 }

@@ -7,13 +7,13 @@ use crate::sheet::Sheet;
 use crate::sheet::read_sheet;
 use crate::size::ROOM;
 use names::colours::Colours;
-use names::colours::find_in;
+use names::colours::find_name;
+use names::name::tail;
 use names::number::Fault;
 ghost use mathlib.Core.Path.{_≡_};
-ghost use Prim.Native.Nat.{ℕ, _*_, _≤_, _<_};
-ghost use lib.ListN.{length, getD};
-ghost use Rattle.books.specs.Size.{room};
+ghost use Prim.Native.Nat.{_≤_};
 ghost use Rattle.books.specs.Order.{numbersOf, firstFault, orderOf};
+ghost use Rattle.books.specs.inner.Key.{Key, CellsFit};
 
 // The answer is that of the fault, the book's before the sheet's, or 0. The first `count` rules stand, and the first rows times columns cells;
 // a cell whose colour the book lacks has the count of the book's colours.
@@ -37,18 +37,32 @@ fn first_fault(f: Fault, e: Fault) -> Answer
     blame(2, e)
 }
 
+// The number of each of the sheet's colours in the book: a colour is looked for once, and not at each of its cells.
+fn colour_key(book: &[u8], c: Colours, sheet: &[u8], d: Colours) -> [u8; 64]
+    requires { ⌜ (c .count ≤ 64) × (d .count ≤ 64) ⌝ }
+    ensures { λ r. ⌜ Key (now (book .entry)) c (now (sheet .entry)) d (d .count) r ⌝ }
+{
+    let count = d.count;
+    let mut key = [0u8; 64];
+    for i in 0..count {
+        let name = tail(sheet, d.starts[i] as usize);
+        key[i] = find_name(book, c.count, &c.starts, &c.lens, name, d.lens[i] as usize) as u8;
+    }
+    key
+}
+
 // The number of each cell's colour in the book.
 fn number_cells(book: &[u8], c: Colours, sheet: &[u8], g: Sheet) -> [u8; ROOM]
-    requires { ⌜ (c .count ≤ 64) × (g .rows * g .cols ≤ room) × (length (g .cells) ≡ room)
-        × ((i : ℕ) → i < g .rows * g .cols → getD (g .cells) i 0 < 64) ⌝ }
+    requires { ⌜ (c .count ≤ 64) × CellsFit g ⌝ }
     ensures { λ r. ⌜ r ≡ numbersOf (now (book .entry)) c (now (sheet .entry)) g ⌝ }
 {
     let count = g.rows * g.cols;
     let d = g.colours;
+    let key = colour_key(book, c, sheet, d);
     let mut numbers = [0u8; ROOM];
     for i in 0..count {
         let cell = g.cells[i] as usize;
-        numbers[i] = find_in(book, c, sheet, d, cell) as u8;
+        numbers[i] = key[cell];
     }
     numbers
 }

@@ -7,18 +7,15 @@ use names::colours::Colours;
 use names::name;
 use names::number;
 ghost use mathlib.Core.Path.{_≡_};
-ghost use mathlib.Core.List.{_++_};
 ghost use Prim.Native.Nat.{_+_, _≤_};
 ghost use lib.ListN.{length, take};
 ghost use Rattle.names.specs.Colours.{namesIn};
 ghost use Rattle.names.specs.Spelling.{spellNames, spellColours};
-ghost use Rattle.names.specs.Number.{spellNumber};
-ghost use Rattle.names.specs.Put.{put};
-ghost use Rattle.books.specs.SpellBook.{spellBody, spellRule, spellRules, spellFigures, spellBook};
+ghost use Rattle.books.specs.SpellBook.{spellThree, spellBody, spellRule, spellRules};
 ghost use Rattle.books.specs.inner.Wrote.{Wrote};
-ghost use Rattle.books.specs.inner.Draft.{draftIn, DraftFits, writtenBook};
+ghost use Rattle.books.specs.inner.Draft.{bothNames, draftIn, DraftFits, few?, WroteBook, WroteDraft};
 
-// Answer 0 with the bytes written, or 13 with 0.
+// Answer 0 with the bytes written, or 12 or 13 with 0.
 pub struct Written {
     pub number: u8,
     pub count: usize,
@@ -44,14 +41,14 @@ fn write_names(s: &[u8], c: Colours, out: &mut [u8], at: usize) -> usize
     next
 }
 
-// A kind and two motifs.
-fn write_join(kind: usize, first: u8, second: u8, out: &mut [u8], at: usize) -> usize
-    requires { ⌜ at + length (spellNumber kind ++ (spellNumber first ++ spellNumber second)) ≤ length (now out) ⌝ }
-    ensures { λ r. ⌜ Wrote (now (out .entry)) at (spellNumber kind ++ (spellNumber first ++ spellNumber second)) r (now (out .exit)) ⌝ }
+// Three numbers in a row: a kind and two motifs; or the motif count, the start and the rule count.
+fn write_three(first: usize, second: usize, third: usize, out: &mut [u8], at: usize) -> usize
+    requires { ⌜ at + length (spellThree first second third) ≤ length (now out) ⌝ }
+    ensures { λ r. ⌜ Wrote (now (out .entry)) at (spellThree first second third) r (now (out .exit)) ⌝ }
 {
-    let next = number::write_number(out, at, kind);
-    let then = number::write_number(out, next, first as usize);
-    number::write_number(out, then, second as usize)
+    let next = number::write_number(out, at, first);
+    let then = number::write_number(out, next, second);
+    number::write_number(out, then, third)
 }
 
 fn write_body(b: Body, out: &mut [u8], at: usize) -> usize
@@ -63,8 +60,8 @@ fn write_body(b: Body, out: &mut [u8], at: usize) -> usize
             let next = number::write_number(out, at, 0);
             number::write_number(out, next, c as usize)
         }
-        Body::Across(l, r) => write_join(1, l, r, out, at),
-        Body::Down(u, v) => write_join(2, u, v, out, at),
+        Body::Across(l, r) => write_three(1, l as usize, r as usize, out, at),
+        Body::Down(u, v) => write_three(2, u as usize, v as usize, out, at),
     }
 }
 
@@ -94,29 +91,18 @@ fn write_rules(rules: [Rule; 200], count: usize, out: &mut [u8], at: usize) -> u
 
 // The colours of both lists, in one list after their count, at the front of the slice.
 fn write_colours(first: &[u8], c: Colours, second: &[u8], more: Colours, out: &mut [u8]) -> usize
-    requires { ⌜ (c .count ≤ 64) × (more .count ≤ 64) × (0 + length (spellColours (namesIn (now first) c ++ namesIn (now second) more)) ≤ length (now out)) ⌝ }
-    ensures { λ r. ⌜ Wrote (now (out .entry)) 0 (spellColours (namesIn (now (first .entry)) c ++ namesIn (now (second .entry)) more)) r (now (out .exit)) ⌝ }
+    requires { ⌜ (c .count ≤ 64) × (more .count ≤ 64) × (length (spellColours (bothNames (now first) c (now second) more)) ≤ length (now out)) ⌝ }
+    ensures { λ r. ⌜ Wrote (now (out .entry)) 0 (spellColours (bothNames (now (first .entry)) c (now (second .entry)) more)) r (now (out .exit)) ⌝ }
 {
     let at = number::write_number(out, 0, c.count + more.count);
     let next = write_names(first, c, out, at);
     write_names(second, more, out, next)
 }
 
-// The motif count, the start and the rule count.
-fn write_figures(motifs: usize, start: usize, count: usize, out: &mut [u8], at: usize) -> usize
-    requires { ⌜ at + length (spellFigures motifs start count) ≤ length (now out) ⌝ }
-    ensures { λ r. ⌜ Wrote (now (out .entry)) at (spellFigures motifs start count) r (now (out .exit)) ⌝ }
-{
-    let next = number::write_number(out, at, motifs);
-    let then = number::write_number(out, next, start);
-    number::write_number(out, then, count)
-}
-
-// Writes the book, or nothing where the slice is too short for it. The crate above makes drafts only from books that were read, so that their counts
-// are within the arrays.
-pub fn write_book(first: &[u8], second: &[u8], d: Draft, out: &mut [u8]) -> Written
+// Writes the book, or nothing where the slice is too short for it.
+fn write_whole(first: &[u8], second: &[u8], d: Draft, out: &mut [u8]) -> Written
     requires { ⌜ DraftFits d ⌝ }
-    ensures { λ r. ⌜ r ≡ writtenBook (draftIn (now (first .entry)) (now (second .entry)) d) (now (out .entry)) ⌝ ∗ ⌜ now (out .exit) ≡ put (now (out .entry)) 0 (spellBook (draftIn (now (first .entry)) (now (second .entry)) d)) ⌝ }
+    ensures { λ r. ⌜ WroteBook (draftIn (now (first .entry)) (now (second .entry)) d) (now (out .entry)) r (now (out .exit)) ⌝ }
 {
     let size = measuring::book_len(first, second, d);
     if out.len() < size {
@@ -130,10 +116,41 @@ pub fn write_book(first: &[u8], second: &[u8], d: Draft, out: &mut [u8]) -> Writ
     let more = d.more;
     let rules = f.rules;
     let at = write_colours(first, c, second, more, out);
-    let next = write_figures(f.motifs, f.start, f.count, out, at);
+    let next = write_three(f.motifs, f.start, f.count, out, at);
     write_rules(rules, f.count, out, next);
     Written {
         number: 0,
         count: size,
+    }
+}
+
+// Whether so many colours, more colours and rules are within their arrays. An array that is handed over by itself is known to have its length.
+fn few(own: usize, more: usize, count: usize, rules: [Rule; 200]) -> bool
+    ensures { λ r. ⌜ (r ≡ few? own more count) × (length rules ≡ 200) ⌝ }
+{
+    if 64 < own {
+        return false;
+    }
+    if 64 < more {
+        return false;
+    }
+    count <= 200
+}
+
+// The same for every draft: one with a count past its array is answered 12, and nothing is written.
+pub fn write_book(first: &[u8], second: &[u8], d: Draft, out: &mut [u8]) -> Written
+    ensures { λ r. ⌜ WroteDraft (now (first .entry)) (now (second .entry)) d (now (out .entry)) r (now (out .exit)) ⌝ }
+{
+    let f = d.family;
+    let c = f.colours;
+    let more = d.more;
+    let rules = f.rules;
+    if few(c.count, more.count, f.count, rules) {
+        write_whole(first, second, d, out)
+    } else {
+        Written {
+            number: 12,
+            count: 0,
+        }
     }
 }

@@ -4,16 +4,35 @@ use mathlib.Core.Path.{_≡_}
 use mathlib.Core.Bool.{true, false}
 use mathlib.Core.List.{List}
 use native.Mathlib.Omega.{arith}
-use borrow.Author.Tests.{le-ltb}
+use borrow.Author.Tests.{le-ltb, lt-leb}
 use Rattle.names.specs.Name.{Name, sameName, listed}
-use Rattle.names.specs.Colours.{nameIn, namesFrom, namesIn, findName}
+use Rattle.names.specs.Colours.{nameIn, namesFrom, namesIn, findName, findIn}
 use Rattle.names.specs.declared.colours.Colours.{Colours}
+use lib.Dec.{ltb}
 use Rattle.names.proofs.Count.{left-all, left-suc, left-none}
+use Rattle.names.proofs.Picking.{pick-ind}
+use Rattle.names.proofs.Listing.{listed-le}
+use Rattle.names.proofs.ReadingColours.{names-count}
 
 -- in a list that can be, the name's number is found
 pub find-listed : (s : List ℕ) (c : Colours) (n : Name) → c .count ≤ 64 → findName s c n ≡ listed (namesIn s c) n
 unfolding findName
 find-listed s c n h = simp (le-ltb _ _ h)
+
+-- and never past the count
+pub find-few : (s : List ℕ) (c : Colours) (n : Name) → findName s c n ≤ c .count
+unfolding findName
+find-few s c n =
+    pick-ind (λ k. k ≤ c .count) (ltb 64 (c .count)) (c .count) (listed (namesIn s c) n)
+    (λ _. omega arith)
+    (λ _. omega (arith, listed-le (namesIn s c) n, names-count s c))
+
+-- a colour of another list is found by its name
+pub find-in-listed : (s : List ℕ) (c : Colours) (t : List ℕ) (d : Colours) (i : ℕ) → i < d .count → d .count ≤ 64 → findIn s c t d i ≡ findName s c (nameIn t d i)
+unfolding findIn
+find-in-listed s c t d i h few =
+    let low : i < 64 = omega arith in
+    simp (lt-leb _ _ h, lt-leb _ _ low)
 
 -- what is found from the i-th colour on, where it is looked for among the first so many
 abbrev pub found-from : List ℕ → Colours → Name → ℕ → ℕ → ℕ

@@ -9,7 +9,7 @@ use Rattle.names.specs.Number.{numberAt, numberIn, numberBelow, spellNum
 use Rattle.names.specs.Name.{nameOf, sameName}
 use Rattle.names.specs.Put.{Puts}
 use Rattle.names.specs.Part.{Part, tailStart}
-use Rattle.names.specs.Colours.{nameIn, findName, noColours, coloursOf}
+use Rattle.names.specs.Colours.{findName, findIn, noColours, coloursOf}
 use Rattle.names.specs.declared.colours.Colours.{Colours}
 
 -- what is equal to one thing is equal
@@ -79,7 +79,7 @@ no-colours-settled = settles _
 pub find-name-settled : (s : List ℕ) (c : Colours) (name : List ℕ) (len : ℕ) → Settles (findName s c (take len name))
 find-name-settled s c name len = settles _
 
-pub find-in-settled : (s : List ℕ) (c : Colours) (t : List ℕ) (d : Colours) (i : ℕ) → Settles (findName s c (nameIn t d i))
+pub find-in-settled : (s : List ℕ) (c : Colours) (t : List ℕ) (d : Colours) (i : ℕ) → Settles (findIn s c t d i)
 find-in-settled s c t d i = settles _
 
 pub read-colours-settled : (s : List ℕ) → Settles (coloursOf s)

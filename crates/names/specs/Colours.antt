@@ -2,7 +2,7 @@
 use Prim.Native.Nat.{ℕ, zero, suc, _+_}
 use mathlib.Core.List.{List, [], _∷_}
 use lib.ListN.{length, getD, take, drop, set, replicate}
-use lib.Dec.{ltb}
+use lib.Dec.{ltb, leb}
 use Rattle.names.specs.Pick.{pick, fault}
 use Rattle.names.specs.Onward.{onward, faultless}
 use Rattle.names.specs.Number.{numberIn}
@@ -14,6 +14,10 @@ use Rattle.names.specs.declared.colours.ColourRead.{ColourRead}
 use Rattle.names.specs.declared.colours.ColourRead.the-variants.{At, Refused as RefusedColour}
 use Rattle.names.specs.declared.colours.Colours.{Colours}
 use Rattle.names.specs.declared.colours.ColoursRead.{ColoursRead}
+
+-- so many colours, with the place and the length of each name
+abbrev pub listOf : ℕ → List ℕ → List ℕ → Colours
+listOf count starts lens = record { count = count; starts = starts; lens = lens }
 
 -- the names that a list of places shows in the input, in order
 abbrev pub nameIn : List ℕ → Colours → ℕ → Name
@@ -29,6 +33,10 @@ namesIn s c = namesFrom s c 0 (c .count)
 -- the number of the colour with a name, or the count; a count that no list has holds nothing
 unfoldable pub findName : List ℕ → Colours → Name → ℕ
 findName s c n = pick (ltb 64 (c .count)) (c .count) (listed (namesIn s c) n)
+
+-- the number here of colour i of another list, by its name; the count too where that list has no such colour
+unfoldable pub findIn : List ℕ → Colours → List ℕ → Colours → ℕ → ℕ
+findIn s c t d i = pick (leb (d .count) i) (c .count) (pick (leb 64 i) (c .count) (findName s c (nameIn t d i)))
 
 -- the name of so many bytes from a place on
 abbrev pub namedAt : List ℕ → ℕ → ℕ → NameRead → ColourRead

@@ -5,9 +5,10 @@ use crate::number;
 use crate::number::Fault;
 use crate::number::Read;
 ghost use mathlib.Core.Path.{_≡_};
-ghost use Prim.Native.Nat.{_≤_, _<_};
-ghost use lib.ListN.{take};
-ghost use Rattle.names.specs.Colours.{nameIn, findName, colourAt, noColours, refusedColours, coloursFrom, coloursOf};
+ghost use Prim.Native.Nat.{_≤_};
+ghost use lib.ListN.{take, drop};
+ghost use Rattle.names.specs.Name.{sameName};
+ghost use Rattle.names.specs.Colours.{listOf, findName, findIn, colourAt, noColours, refusedColours, coloursFrom, coloursOf};
 
 // Where each name of a list starts in the input and how long it is; 0 past the count.
 pub struct Colours {
@@ -51,34 +52,49 @@ fn refused_colours(f: Fault) -> ColoursRead
     }
 }
 
-// The number of the colour with this name in a list over s, or the count where no colour has it.
-pub fn find_name(s: &[u8], c: Colours, name: &[u8], len: usize) -> usize
-    ensures { λ r. ⌜ r ≡ findName (now (s .entry)) c (take len (now (name .entry))) ⌝ }
+// Whether the name of so many bytes at a place of s is this one.
+fn is_named(s: &[u8], start: u16, size: u8, name: &[u8], len: usize) -> bool
+    ensures { λ r. ⌜ r ≡ sameName (take size (drop start (now (s .entry)))) (take len (now (name .entry))) ⌝ }
 {
-    let n = c.count;
-    if 64 < n {
-        return n;
-    }
-    let mut j = 0;
-    while j < n {
-        let start = c.starts[j] as usize;
-        let size = c.lens[j] as usize;
-        if name::same_name(name::tail(s, start), size, name, len) {
-            return j;
-        }
-        j += 1;
-    }
-    n
+    name::same_name(name::tail(s, start as usize), size as usize, name, len)
 }
 
-// The same for the name of colour i in a list over t. The crates above take i from below the count of a list that was read.
-pub fn find_in(s: &[u8], c: Colours, t: &[u8], d: Colours, i: usize) -> usize
-    requires { ⌜ i < 64 ⌝ }
-    ensures { λ r. ⌜ r ≡ findName (now (s .entry)) c (nameIn (now (t .entry)) d i) ⌝ }
+// The number of the colour with this name in a list over s, or the count where no colour has it. The list is lent in its parts, since a struct
+// would be copied at every look.
+pub fn find_name<'a>(
+    s: &[u8],
+    count: usize,
+    starts: &'a [u16; 64],
+    lens: &'a [u8; 64],
+    name: &[u8],
+    len: usize,
+) -> usize
+    ensures { λ r. ⌜ r ≡ findName (now (s .entry)) (listOf count (now (starts .entry)) (now (lens .entry))) (take len (now (name .entry))) ⌝ }
 {
+    if 64 < count {
+        return count;
+    }
+    for j in 0..count {
+        if is_named(s, starts[j], lens[j], name, len) {
+            return j;
+        }
+    }
+    count
+}
+
+// The same for the name of colour i in a list over t; the count too where that list has no such colour.
+pub fn find_in(s: &[u8], c: Colours, t: &[u8], d: Colours, i: usize) -> usize
+    ensures { λ r. ⌜ r ≡ findIn (now (s .entry)) c (now (t .entry)) d i ⌝ }
+{
+    if d.count <= i {
+        return c.count;
+    }
+    if 64 <= i {
+        return c.count;
+    }
     let start = d.starts[i] as usize;
     let len = d.lens[i] as usize;
-    find_name(s, c, name::tail(t, start), len)
+    find_name(s, c.count, &c.starts, &c.lens, name::tail(t, start), len)
 }
 
 // A length 1 to 40, then a name of that many bytes.
@@ -110,34 +126,36 @@ fn read_names(s: &[u8], count: usize, from: usize) -> ColoursRead
     requires { ⌜ (count ≤ 64) × (from ≤ 3) ⌝ }
     ensures { λ r. ⌜ r ≡ coloursFrom (now (s .entry)) noColours from count ⌝ }
 {
-    let mut c = no_colours();
+    let mut starts = [0u16; 64];
+    let mut lens = [0u8; 64];
     let mut at = from;
-    let mut i = 0;
-    while i < count {
+    for i in 0..count {
         let r = read_colour(s, at);
         match r {
             ColourRead::Refused(f) => return refused_colours(f),
             ColourRead::At(start, len) => {
-                if find_name(s, c, name::tail(s, start), len) < i {
+                if find_name(s, i, &starts, &lens, name::tail(s, start), len) < i {
                     return refused_colours(Fault {
                         number: 5,
                         place: start,
                     });
                 }
-                c.starts[i] = start as u16;
-                c.lens[i] = len as u8;
+                starts[i] = start as u16;
+                lens[i] = len as u8;
                 at = start + len;
             }
         }
-        i += 1;
-        c.count = i;
     }
     ColoursRead {
         fault: Fault {
             number: 0,
             place: 0,
         },
-        colours: c,
+        colours: Colours {
+            count,
+            starts,
+            lens,
+        },
         next: at,
     }
 }

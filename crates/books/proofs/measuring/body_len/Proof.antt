@@ -1,6 +1,5 @@
--- Each kind of body is one byte and the spellings of its numbers.
+-- Each kind of body is the spellings of its numbers in a row.
 use native.Mathlib.Omega.{arith}
-use mathlib.Core.List.{_++_}
 use lib.ListN.{length-append}
 use Rattle.names.specs.Number.{spellNumber}
 use Rattle.names.proofs.SpellingNumbers.{spell-few, spell-short}
@@ -17,18 +16,10 @@ returns c =
     rw (c .before .before .b .given .1) (omega (arith, length-append (spellNumber 0) (spellNumber colour), spell-short 0 (omega arith), spell-few colour))
 
 returns-2 : tie.Need-returns-2
-returns-2 c =
-    let first = c .before .before .b2 .given .0 .0 in
-    let second = c .before .before .b2 .given .0 .1 .0 in
-    rw (c .before .before .b2 .given .1)
-    (omega (arith, length-append (spellNumber 1) (spellNumber first ++ spellNumber second), length-append (spellNumber first) (spellNumber second), spell-short 1 (omega arith), c .join-len .ensures))
+returns-2 c = rw (c .before .before .b2 .given .1) (c .three-len .ensures)
 
 returns-3 : tie.Need-returns-3
-returns-3 c =
-    let first = c .before .before .b3 .given .0 .0 in
-    let second = c .before .before .b3 .given .0 .1 .0 in
-    rw (c .before .before .b3 .given .1)
-    (omega (arith, length-append (spellNumber 2) (spellNumber first ++ spellNumber second), length-append (spellNumber first) (spellNumber second), spell-short 2 (omega arith), c .join-len2 .ensures))
+returns-3 c = rw (c .before .before .b3 .given .1) (c .three-len2 .ensures)
 
 pub body-len-spec : {M : Type 1} → statement M
 body-len-spec =
@@ -39,7 +30,11 @@ body-len-spec =
     (λ c κs. search needs)
     add-result
     (λ c. search needs)
+    (λ c. search needs)
+    (λ c. search needs)
     (λ c κs. search needs)
+    (λ c. search needs)
+    (λ c. search needs)
     (λ c. search needs)
     (λ c κs. search needs)
     returns

@@ -8,8 +8,9 @@ use Rattle.books.proofs.measuring.book_len.Tie as tie
 
 returns : tie.Need-returns
 returns c =
-    let a = c .before .before .before .before .before .before .before .before .before .args in
-    omega (arith, draft-length (now (a .first)) (now (a .second)) (a .d) (c .before .before .before .before .before .before .before .before .before .pre), c .before .before .colours-len .ensures .0, c .before .figures-len .ensures .0, c .rules-len .ensures .0)
+    let b = c .before .before .before .before .before .before .before .before .before in
+    let whole = draft-length (now (b .args .first)) (now (b .args .second)) (b .args .d) (b .pre) in
+    omega (arith, whole, c .before .before .colours-len .ensures .0, c .before .three-len .ensures .0, c .rules-len .ensures .0)
 
 pub book-len-spec : {M : Type 1} → statement M
 book-len-spec =

@@ -15,7 +15,9 @@ use Rattle.books.proofs.measuring.colours_len.Statement.{statement}
 use Rattle.books.proofs.measuring.colours_len.Tie as tie
 
 add-result-2 : tie.Need-add-result-2
-add-result-2 c = omega (arith, spell-few (c .before .before .before .before .before .before .before .args .c .count + c .before .before .before .before .before .before .before .args .more .count), c .names-len2 .ensures .1, c .before .names-len .ensures .1)
+add-result-2 c =
+    let a = c .before .before .before .before .before .before .before .args in
+    omega (arith, spell-few (a .c .count + a .more .count), c .names-len2 .ensures .1, c .before .names-len .ensures .1)
 
 returns : tie.Need-returns
 returns c =

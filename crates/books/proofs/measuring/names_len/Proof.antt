@@ -48,12 +48,13 @@ add-sum-2 c = omega (arith, spell-few (length (now (c .before .front .result))),
 
 loop-again : tie.Need-loop-again Inv-loop μ-loop
 loop-again c =
-    let a = c .before .before .before .before .before .before .before .before .args in
-    let i = c .before .before .before .before .before .before .loop .i in
-    let on = names-on-length (now (a .s)) (a .t2) (a .t2 .count) i (c .before .before .before .before .before .loop-test .taken) in
-    let name = part-named c in
+    let t = c .before .before .before .before .before in
+    let l = t .before .loop in
+    let a = t .before .before .before .args in
+    let on = rw (← part-named c) at (names-on-length (now (a .s)) (a .t2) (a .t2 .count) (l .i) (t .loop-test .taken)) in
+    let size = c .spelled-len .ensures in
     let few = part-few c in
-    (omega arith, omega (arith, rw (← name) at on, c .spelled-len .ensures, c .before .before .before .before .before .before .loop .inv .1), omega (arith, c .spelled-len .ensures, spell-few (length (now (c .before .front .result))), c .before .before .before .before .before .before .loop .inv .2))
+    (omega arith, omega (arith, on, size, l .inv .1), omega (arith, size, spell-few (length (now (c .before .front .result))), l .inv .2))
 
 returns : tie.Need-returns Inv-loop μ-loop
 returns c =

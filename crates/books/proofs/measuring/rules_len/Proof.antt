@@ -10,7 +10,7 @@ use Rattle.books.proofs.measuring.rules_len.Statement.{statement}
 use Rattle.books.proofs.measuring.rules_len.Tie as tie
 
 abbrev Inv-loop : tie.InvT-loop
-Inv-loop count rules sum₀ i₀ sum i = (i ≤ count) × (sum + length (spellRules (drop i (take count rules))) ≡ length (spellRules (take count rules))) × (sum ≤ 10 * i)
+Inv-loop count rules sum₀ i₀ sum i = (i ≤ count) × (sum + length (spellRules (drop i (take count rules))) ≡ length (spellRules (take count rules))) × (sum ≤ 12 * i)
 
 abbrev μ-loop : tie.MeasureT-loop
 μ-loop count rules sum₀ i₀ sum i = count - i

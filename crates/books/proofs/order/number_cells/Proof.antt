@@ -1,62 +1,62 @@
--- At each turn of the loop the first i cells are numbered, and 0 stands after them; a number that was found is at most the count of the book's
--- colours, so that it fits a byte.
+-- At each turn of the loop the first i cells are numbered by the key, and 0 stands after them; the key has the number of each cell's colour.
 use denote.Ref.{now}
 use lib.ListN.{length, getD}
-use Rattle.names.specs.Colours.{nameIn, namesIn}
-use Rattle.names.proofs.Finding.{find-listed}
-use Rattle.names.proofs.Listing.{listed-le}
-use Rattle.names.proofs.ReadingColours.{names-count}
 use borrow.Author.Needs.{needs}
 use native.Mathlib.Omega.{arith}
-use Prim.Native.Nat.{_*_, _<_, _≤_, _-_}
-use mathlib.Core.Path.{_≡_, refl}
+use Prim.Native.Nat.{ℕ, _*_, _<_, _≤_, _-_}
+use mathlib.Core.Path.{_≡_, refl, _∙_}
 use Rattle.books.specs.Cells.{noCells}
 use Rattle.books.specs.Order.{numberOf}
-use Rattle.books.proofs.Ordering.{begun, one-numbered}
+use Rattle.books.proofs.Ordering.{begun, one-numbered, begun-same}
 use Rattle.books.proofs.order.number_cells.Statement.{statement}
 use Rattle.books.proofs.order.number_cells.Tie as tie
 
 abbrev Inv-loop : tie.InvT-loop
-Inv-loop book c sheet g count d numbers₀ i₀ numbers i =
-    (i ≤ count) × (numbers ≡ begun (numberOf book c sheet (g .colours)) (g .cells) noCells i)
+Inv-loop book sheet g count key numbers₀ i₀ numbers i = (i ≤ count) × (numbers ≡ begun (λ v. getD key v 0) (g .cells) noCells i)
 
 abbrev μ-loop : tie.MeasureT-loop
-μ-loop book c sheet g count d numbers₀ i₀ numbers i = count - i
+μ-loop book sheet g count key numbers₀ i₀ numbers i = count - i
 
--- the start, from where a cell was read
-abbrev began : tie.After-cell Inv-loop μ-loop → tie.Start Inv-loop μ-loop
-began c = c .before .before .before .before .before .before
+-- the start, from the loop's head
+abbrev began : tie.At-loop Inv-loop μ-loop → tie.Start Inv-loop μ-loop
+began l = l .before .before .before .before .before
+
+mul-count : tie.Need-mul-count Inv-loop μ-loop
+mul-count c = omega (arith, c .before .before .pre .1 .area-few)
+
+colour-key-requires : tie.Need-colour-key-requires Inv-loop μ-loop
+colour-key-requires c κs = (c .before .before .before .pre .0, c .before .before .before .pre .1 .colours-few)
 
 loop-holds : tie.Need-loop-holds Inv-loop μ-loop
 loop-holds c = (omega arith, refl)
 
-find-in-requires : tie.Need-find-in-requires Inv-loop μ-loop
-find-in-requires c κs = began c .pre .3 (c .before .before .loop .i) (c .before .loop-test .taken)
-
-cast-numbers : tie.Need-cast-numbers Inv-loop μ-loop
-cast-numbers c =
-    let a = began (c .before) .args in
-    let book = now (a .book) in
-    let few = began (c .before) .pre .0 in
-    let name = nameIn (now (a .sheet)) (a .t4 .colours) (getD (a .t4 .cells) (c .before .before .before .loop .i) 0) in
-    let most = listed-le (namesIn book (a .c)) name in
-    omega (arith, c .find-in .ensures, find-listed book (a .c) name few, most, names-count book (a .c), few)
+array-read-numbers : tie.Need-array-read-numbers Inv-loop μ-loop
+array-read-numbers c =
+    let l = c .before .before in
+    let fit = began l .pre .1 in
+    omega (arith, fit .cells-fit (l .loop .i) (c .before .loop-test .taken), fit .colours-few)
 
 loop-again : tie.Need-loop-again Inv-loop μ-loop
 loop-again c =
-    let a = began (c .before) .args in
-    let l = c .before .before .before .loop in
-    let inside : l .i < length (a .t4 .cells) = omega (arith, began (c .before) .pre .2) in
-    let number = numberOf (now (a .book)) (a .c) (now (a .sheet)) (a .t4 .colours) in
-    let next = one-numbered number (a .t4 .cells) noCells (l .i) inside (omega arith) in
-    (omega arith, simp (l .inv .1, c .find-in .ensures) next)
+    let l = c .before .before in
+    let fit = began l .pre .1 in
+    let cells = began l .args .t4 .cells in
+    let inside : l .loop .i < length cells = omega (arith, fit .cells-all, fit .area-few) in
+    let next = one-numbered (λ (v : ℕ). getD (l .before .colour-key .result) v 0) cells noCells (l .loop .i) inside (omega (arith, fit .area-few)) in
+    (omega arith, simp (l .loop .inv .1) next)
 
 returns : tie.Need-returns Inv-loop μ-loop
 returns c =
-    let a = c .before .before .before .before .before .args in
-    let l = c .before .loop in
-    let all : l .i ≡ a .t4 .rows * a .t4 .cols = omega arith in
-    rw (← all) (l .inv .1)
+    let l = c .before in
+    let b = began l in
+    let g = b .args .t4 in
+    let fit = b .pre .1 in
+    let key = l .before .colour-key .ensures in
+    let all : l .loop .i ≡ g .rows * g .cols = omega arith in
+    let number = numberOf (now (b .args .book)) (b .args .c) (now (b .args .sheet)) (g .colours) in
+    rw all at (l .loop .inv .1)
+    ∙ begun-same (λ (v : ℕ). getD (l .before .colour-key .result) v 0) number (g .cells) noCells (g .rows * g .cols) (omega (arith, fit .cells-all, fit .area-few)) (omega (arith, fit .area-few))
+    (λ i h. key .numbers (getD (g .cells) i 0) (fit .cells-fit i h))
 
 pub number-cells-spec : {M : Type 1} → statement M
 number-cells-spec =
@@ -64,14 +64,14 @@ number-cells-spec =
     (tie.spec
     Inv-loop
     μ-loop
-    (λ c. omega arith)
+    mul-count
+    colour-key-requires
     loop-holds
+    (λ c. omega arith)
     (λ c. search needs)
-    (λ c. search needs)
-    find-in-requires
-    cast-numbers
-    (λ c. search needs)
-    (λ c. search needs)
-    (λ c. search needs)
+    array-read-numbers
+    (λ c. omega arith)
+    (λ c. omega arith)
+    (λ c. omega arith)
     loop-again
     returns)

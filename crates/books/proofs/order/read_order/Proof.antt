@@ -3,7 +3,8 @@ use mathlib.Core.Path.{sym, subst}
 use native.Mathlib.Omega.{arith}
 use denote.Ref.{now}
 use Rattle.books.specs.declared.sheet.SheetRead.{SheetRead}
-use Rattle.books.proofs.Ordering.{book-start, CellsFit, sheet-cells, order-made}
+use Rattle.books.specs.inner.Key.{CellsFit}
+use Rattle.books.proofs.Ordering.{book-start, sheet-cells, order-made}
 use Rattle.books.proofs.ReadingBooks.{book-places}
 use borrow.Author.Needs.{needs}
 use Rattle.books.proofs.order.read_order.Statement.{statement}
@@ -14,8 +15,7 @@ number-cells-requires c κs =
     let a = c .before .before .before .before .before .before .before .args in
     let b = c .before .before .before .before .read-book .ensures in
     let s = c .before .before .before .read-sheet .ensures in
-    let (area, all, fit) = subst (λ (r : SheetRead). CellsFit (r .sheet)) (sym s) (sheet-cells (now (a .sheet))) in
-    (rw b (book-places (now (a .book)) .few), area, all, fit)
+    (rw b (book-places (now (a .book)) .few), subst (λ (r : SheetRead). CellsFit (r .sheet)) (sym s) (sheet-cells (now (a .sheet))))
 
 cast-t10 : tie.Need-cast-t10
 cast-t10 c =

@@ -27,9 +27,11 @@ write-rule-requires c κs =
 
 loop-again : tie.Need-loop-again Inv-loop μ-loop
 loop-again c =
-    let a = c .before .before .before .before .before .before .before .before .args in
-    let on = rules-on (a .t1) (a .count) (c .before .before .before .before .before .before .loop .i) noRule (c .before .before .before .before .before .loop-test .taken) (omega arith) in
-    (omega arith, still-less (c .before .before .before .before .before .before .before .before .pre .1) (rw on at (c .before .before .before .before .before .before .loop .inv .1)) (c .before .before .write-rule .ensures))
+    let t = c .before .before .before .before .before in
+    let l = t .before .loop in
+    let b = t .before .before .before in
+    let on = rules-on (b .args .t1) (b .args .count) (l .i) noRule (t .loop-test .taken) (omega arith) in
+    (omega arith, still-less (b .pre .1) (rw on at (l .inv .1)) (c .before .before .write-rule .ensures))
 
 same-length : tie.Need-same-length Inv-loop μ-loop
 same-length c = c .before .loop .inv .1 .sized

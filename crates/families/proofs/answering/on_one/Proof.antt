@@ -1,13 +1,12 @@
 -- A refused book is blamed; of an accepted one the combination is made, which keeps the rules, so that its length can be answered, and finished.
 use Prim.Native.Nat.{ℕ}
 use mathlib.Core.List.{List}
-use native.Mathlib.Omega.{arith}
 use denote.Ref.{now}
 use Rattle.books.specs.Contents.{Contents}
 use Rattle.books.specs.ContentsIn.{contentsIn}
 use Rattle.families.specs.inner.Lent.{Lent}
 use Rattle.families.specs.inner.Asked.{alone}
-use Rattle.families.proofs.Reading.{read-lent, read-accepted, blamed-packs, blamed-leaves}
+use Rattle.families.proofs.Reading.{read-lent, read-accepted, blamed-leaves}
 use Rattle.families.proofs.Finishing.{alone-keeps, finishes, finished-leaves}
 use borrow.Author.Needs.{needs}
 use Rattle.families.proofs.answering.on_one.Statement.{statement}
@@ -22,11 +21,6 @@ began r = r .before .before .before
 
 abbrev book : tie.After-read-book → List ℕ
 book r = now (began r .args .book)
-
-pack-requires : tie.Need-pack-requires
-pack-requires c κs =
-    let r = read (c .before .before) in
-    blamed-packs (book r) _ (r .read-book .ensures) 1 _ (c .blame .ensures) (omega arith)
 
 returns : tie.Need-returns
 returns c =
@@ -69,7 +63,7 @@ on-one-spec =
     (tie.spec
     (λ c κs. search needs)
     (λ c κs. search needs)
-    pack-requires
+    (λ c κs. search needs)
     returns
     make-single-requires
     finish-requires

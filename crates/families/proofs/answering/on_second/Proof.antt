@@ -1,13 +1,12 @@
 -- A refused second book is blamed; of two accepted ones the combination is made, which keeps the rules, so that its length can be answered, and finished.
 use Prim.Native.Nat.{ℕ}
 use mathlib.Core.List.{List}
-use native.Mathlib.Omega.{arith}
 use denote.Ref.{now}
 use Rattle.books.specs.Contents.{Contents}
 use Rattle.books.specs.ContentsIn.{contentsIn}
 use Rattle.families.specs.inner.Lent.{Lent}
 use Rattle.families.specs.inner.Asked.{paired}
-use Rattle.families.proofs.Reading.{read-lent, read-accepted, blamed-packs, blamed-leaves}
+use Rattle.families.proofs.Reading.{read-lent, read-accepted, blamed-leaves}
 use Rattle.families.proofs.Finishing.{paired-keeps, finishes, finished-leaves}
 use borrow.Author.Needs.{needs}
 use Rattle.families.proofs.answering.on_second.Statement.{statement}
@@ -29,11 +28,6 @@ firstIn r = contentsIn (now (began r .args .first)) (began r .args .f)
 
 abbrev secondIn : tie.After-read-book → Contents
 secondIn r = contentsIn (second r) (r .read-book .result .family)
-
-pack-requires : tie.Need-pack-requires
-pack-requires c κs =
-    let r = read (c .before .before) in
-    blamed-packs (second r) _ (r .read-book .ensures) 2 _ (c .blame .ensures) (omega arith)
 
 returns : tie.Need-returns
 returns c =
@@ -74,7 +68,7 @@ on-second-spec =
     (tie.spec
     (λ c κs. search needs)
     (λ c κs. search needs)
-    pack-requires
+    (λ c κs. search needs)
     returns
     make-pair-requires
     finish-requires

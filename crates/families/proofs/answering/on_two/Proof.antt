@@ -1,11 +1,10 @@
 -- A refused first book is blamed, and an accepted one is lent to what follows.
 use Prim.Native.Nat.{ℕ}
 use mathlib.Core.List.{List}
-use native.Mathlib.Omega.{arith}
 use denote.Ref.{now}
 use Rattle.families.specs.Outcome.{onSecond}
 use Rattle.families.specs.inner.Asked.{paired}
-use Rattle.families.proofs.Reading.{read-lent, read-accepted, blamed-packs, blamed-leaves}
+use Rattle.families.proofs.Reading.{read-lent, read-accepted, blamed-leaves}
 use borrow.Author.Needs.{needs}
 use Rattle.families.proofs.answering.on_two.Statement.{statement}
 use Rattle.families.proofs.answering.on_two.Tie as tie
@@ -19,11 +18,6 @@ began r = r .before .before .before .before
 
 abbrev first : tie.After-read-book → List ℕ
 first r = now (began r .args .first)
-
-pack-requires : tie.Need-pack-requires
-pack-requires c κs =
-    let r = read (c .before .before) in
-    blamed-packs (first r) _ (r .read-book .ensures) 1 _ (c .blame .ensures) (omega arith)
 
 returns : tie.Need-returns
 returns c =
@@ -52,7 +46,7 @@ on-two-spec =
     (tie.spec
     (λ c κs. search needs)
     (λ c κs. search needs)
-    pack-requires
+    (λ c κs. search needs)
     returns
     on-second-requires
     (λ c. search needs)

@@ -3,6 +3,8 @@ use Prim.Native.Nat.{_-_}
 use mathlib.Core.Path.{_≡_, refl}
 use mathlib.Core.Logic.{⊎-elim}
 use native.Mathlib.Omega.{arith}
+use denote.Ref.{now}
+use Rattle.names.proofs.Finding.{find-in-listed}
 use Rattle.families.proofs.MergingLists.{SoFar, so-far-none, so-far-held, so-far-new, so-far-all}
 use Rattle.families.proofs.merge.merge.Statement.{statement}
 use Rattle.families.proofs.merge.merge.Tie as tie
@@ -24,7 +26,7 @@ loop-again c =
     let a = s .args in
     let p = s .pre in
     let less = t .loop-test .taken in
-    let found = c .before .find-in .ensures in
+    let found = rw (find-in-listed (now (a .first)) (a .f) (now (a .second)) (a .t4) (l .i) less (p .1 .few)) at (c .before .find-in .ensures) in
     ⊎-elim
     (λ w. rw (w .1, w .2, found) (so-far-held _ (a .f) _ (a .t4) (p .0) (p .1) (l .i) _ _ less (l .inv) (rw found at (w .0 .taken))))
     (λ w. rw (w .3, w .4) (so-far-new _ (a .f) _ (a .t4) (p .0) (p .1) (l .i) _ _ less (l .inv) (rw found at (w .0 .left))))
@@ -46,7 +48,7 @@ merge-spec =
     μ-loop
     (λ c κs. tt)
     loop-holds
-    (λ c κs. omega arith)
+    (λ c κs. tt)
     (λ c. omega arith)
     (λ c. omega arith)
     (λ c. omega arith)

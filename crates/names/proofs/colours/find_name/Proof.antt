@@ -1,23 +1,41 @@
 -- The walk over the colours keeps: what is found from here on, after the colours passed, is what is found in the whole list.
 use denote.Ref.{now}
-use Rattle.names.specs.Name.{Name, sameName}
-use Rattle.names.specs.Colours.{nameIn}
 use Prim.Native.Nat.{_-_, _≤_}
 use mathlib.Core.Path.{_≡_, refl, sym, _∙_}
 use native.Mathlib.Omega.{arith}
 use lib.ListN.{take}
 use borrow.Author.Tests.{lt-ltb}
-use borrow.Author.Needs.{needs}
-use Rattle.names.specs.Colours.{findName}
+use Rattle.names.specs.Name.{Name}
+use Rattle.names.specs.Colours.{listOf, findName}
+use Rattle.names.specs.declared.colours.Colours.{Colours}
 use Rattle.names.proofs.Finding.{find-listed, found-from, found-all, found-here, found-later, found-nowhere}
 use Rattle.names.proofs.colours.find_name.Statement.{statement}
 use Rattle.names.proofs.colours.find_name.Tie as tie
 
 abbrev Inv-loop : tie.InvT-loop
-Inv-loop s name len c n j₀ j = (j ≤ n) × (found-from s c (take len name) n j ≡ found-from s c (take len name) n 0)
+Inv-loop s count starts lens name len j₀ j =
+    (j ≤ count) × (found-from s (listOf count starts lens) (take len name) count j ≡ found-from s (listOf count starts lens) (take len name) count 0)
 
 abbrev μ-loop : tie.MeasureT-loop
-μ-loop s name len c n j₀ j = n - j
+μ-loop s count starts lens name len j₀ j = count - j
+
+-- the start, from the loop's head, with the list and the name that is looked for
+abbrev began : tie.At-loop Inv-loop μ-loop → tie.Start Inv-loop μ-loop
+began l = l .before .before .before .before
+
+abbrev list : tie.Start Inv-loop μ-loop → Colours
+list b = listOf (b .args .count) (now (b .args .starts)) (now (b .args .lens))
+
+abbrev wanted : tie.Start Inv-loop μ-loop → Name
+wanted b = take (b .args .len) (now (b .args .name))
+
+-- what is found from here on is what the list gives
+found : (l : tie.At-loop Inv-loop μ-loop) → let b = began l in
+    found-from (now (b .args .s)) (list b) (wanted b) (b .args .count) (l .loop .j) ≡ findName (now (b .args .s)) (list b) (wanted b)
+found l =
+    let b = began l in
+    let s = now (b .args .s) in
+    l .loop .inv .1 ∙ (found-all s (list b) (wanted b) (b .args .count) ∙ sym (find-listed s (list b) (wanted b) (l .before .if1 .left)))
 
 returns : tie.Need-returns Inv-loop μ-loop
 unfolding findName
@@ -26,40 +44,27 @@ returns c = simp (lt-ltb _ _ (c .if1 .taken))
 loop-holds : tie.Need-loop-holds Inv-loop μ-loop
 loop-holds c = (omega arith, refl)
 
--- what the comparison says of the name at the loop's place
-compared : (c : tie.After-same-name Inv-loop μ-loop) → let a = c .before .before .before .before .before .before .before .before .before .args in
-    c .same-name .result ≡ sameName (nameIn (now (a .s)) (a .t2) (c .before .before .before .before .before .loop .j)) (take (a .len) (now (a .name)))
-compared c =
-    rw (← c .before .tail .ensures .holds) (c .same-name .ensures)
-
 returns-2 : tie.Need-returns-2 Inv-loop μ-loop
 returns-2 c =
-    let a = c .before .before .before .before .before .before .before .before .before .before .args in
-    let n : Name = take (a .len) (now (a .name)) in
-    let j = c .before .before .before .before .before .before .loop .j in
-    let inv = c .before .before .before .before .before .before .loop .inv .1 in
-    let less = c .before .before .before .before .before .loop-test .taken in
-    let few = c .before .before .before .before .before .before .before .if1 .left in
-    sym (found-here (now (a .s)) (a .t2) n (a .t2 .count) j less (sym (compared (c .before)) ∙ c .if2 .taken))
-    ∙ (inv ∙ (found-all (now (a .s)) (a .t2) n (a .t2 .count) ∙ sym (find-listed (now (a .s)) (a .t2) n few)))
+    let l = c .before .before .before .before .before in
+    let b = began l in
+    let same = sym (c .before .is-named .ensures) ∙ c .if2 .taken in
+    sym (found-here (now (b .args .s)) (list b) (wanted b) (b .args .count) (l .loop .j) (c .before .before .before .before .loop-test .taken) same) ∙ found l
 
 loop-again : tie.Need-loop-again Inv-loop μ-loop
 loop-again c =
-    let a = c .before .before .before .before .before .before .before .before .before .before .args in
-    let n : Name = take (a .len) (now (a .name)) in
-    let j = c .before .before .before .before .before .before .loop .j in
-    let inv = c .before .before .before .before .before .before .loop .inv .1 in
-    let less = c .before .before .before .before .before .loop-test .taken in
-    (omega arith, sym (found-later (now (a .s)) (a .t2) n (a .t2 .count) j less (sym (compared (c .before)) ∙ c .if2 .left)) ∙ inv)
+    let l = c .before .before .before .before .before in
+    let b = began l in
+    let other = sym (c .before .is-named .ensures) ∙ c .if2 .left in
+    let later = found-later (now (b .args .s)) (list b) (wanted b) (b .args .count) (l .loop .j) (c .before .before .before .before .loop-test .taken) other in
+    (omega arith, sym later ∙ l .loop .inv .1)
 
 returns-3 : tie.Need-returns-3 Inv-loop μ-loop
 returns-3 c =
-    let a = c .before .before .before .before .before .args in
-    let n : Name = take (a .len) (now (a .name)) in
-    let j = c .before .loop .j in
-    let end : j ≡ a .t2 .count = omega arith in
-    sym end ∙ (sym (found-nowhere (now (a .s)) (a .t2) n (a .t2 .count) j (c .loop-test .left))
-    ∙ (c .before .loop .inv .1 ∙ (found-all (now (a .s)) (a .t2) n (a .t2 .count) ∙ sym (find-listed (now (a .s)) (a .t2) n (c .before .before .if1 .left)))))
+    let l = c .before in
+    let b = began l in
+    let end : l .loop .j ≡ b .args .count = omega arith in
+    sym end ∙ (sym (found-nowhere (now (b .args .s)) (list b) (wanted b) (b .args .count) (l .loop .j) (c .loop-test .left)) ∙ found l)
 
 pub find-name-spec : {M : Type 1} → statement M
 find-name-spec =
@@ -71,10 +76,7 @@ find-name-spec =
     loop-holds
     (λ c. omega arith)
     (λ c. omega arith)
-    (λ c. search needs)
     (λ c. omega arith)
-    (λ c. search needs)
-    (λ c κs. tt)
     (λ c κs. tt)
     returns-2
     (λ c. omega arith)
