@@ -12,7 +12,7 @@ use Rattle.books.specs.Sheet.{sheetOf}
 use Rattle.books.specs.Order.{orderOf}
 use Rattle.books.specs.Answer.{plain, blaming, packed}
 use Rattle.books.specs.Calls.{bookAnswer, sheetAnswer, shown, shownStart, shownPlace}
-use Rattle.books.specs.inner.Draft.{WroteDraft}
+use Rattle.books.specs.Draft.{WroteDraft}
 use Rattle.books.specs.declared.answer.Answer.{Answer}
 use Rattle.books.specs.declared.draft.Draft.{Draft}
 use Rattle.books.specs.declared.writing.Written.{Written}

@@ -14,7 +14,7 @@ use Rattle.names.specs.Spelling.{spellNames, spellColours}
 use Rattle.names.proofs.Picking.{pick-ind}
 use Rattle.names.proofs.ReadingColours.{names-count}
 use Rattle.books.specs.SpellBook.{spellRules, spellThree, spellBook}
-use Rattle.books.specs.inner.Draft.{draftIn, DraftFits, few?, fits?, WroteBook, WroteDraft}
+use Rattle.books.specs.Draft.{draftIn, DraftFits, few?, fits?, WroteBook, WroteDraft}
 use Rattle.names.specs.declared.colours.Colours.{Colours}
 use Rattle.books.specs.declared.draft.Draft.{Draft}
 use Rattle.books.specs.declared.writing.Written.{Written}

@@ -17,4 +17,5 @@ pub mod Answer
 pub mod Calls
 pub mod Lookups
 pub mod Order
+pub mod Draft
 pub mod inner

@@ -12,7 +12,7 @@ ghost use Rattle.names.specs.Number.{spellNumber};
 ghost use Rattle.names.specs.Colours.{namesIn};
 ghost use Rattle.names.specs.Spelling.{spellNames, spellColours};
 ghost use Rattle.books.specs.SpellBook.{spellThree, spellBody, spellRule, spellRules, spellBook};
-ghost use Rattle.books.specs.inner.Draft.{bothNames, draftIn, DraftFits};
+ghost use Rattle.books.specs.Draft.{bothNames, draftIn, DraftFits};
 
 // The names of a list, each with its length before it.
 fn names_len(s: &[u8], c: Colours) -> usize

@@ -13,7 +13,7 @@ ghost use Rattle.names.specs.Colours.{namesIn};
 ghost use Rattle.names.specs.Spelling.{spellNames, spellColours};
 ghost use Rattle.books.specs.SpellBook.{spellThree, spellBody, spellRule, spellRules};
 ghost use Rattle.books.specs.inner.Wrote.{Wrote};
-ghost use Rattle.books.specs.inner.Draft.{bothNames, draftIn, DraftFits, few?, WroteBook, WroteDraft};
+ghost use Rattle.books.specs.Draft.{bothNames, draftIn, DraftFits, few?, WroteBook, WroteDraft};
 
 // Answer 0 with the bytes written, or 12 or 13 with 0.
 pub struct Written {

@@ -15,7 +15,7 @@ use Rattle.names.proofs.Picking.{pick-ind}
 use Rattle.names.proofs.Tests.{true-or-false}
 use Rattle.names.proofs.Putting.{put-out}
 use Rattle.books.specs.Contents.{Contents}
-use Rattle.books.specs.inner.Draft.{writtenBook}
+use Rattle.books.specs.Draft.{writtenBook}
 use Rattle.books.specs.SpellBook.{spellBook}
 use Rattle.books.specs.Keeps.{Keeps}
 use Rattle.books.specs.Answer.{plain, Packs}

@@ -5,7 +5,7 @@ use mathlib.Core.List.{List}
 use mathlib.Core.Bool.{true}
 use lib.ListN.{length}
 use Rattle.names.specs.Pick.{pick}
-use Rattle.books.specs.inner.Draft.{draftIn, DraftFits}
+use Rattle.books.specs.Draft.{draftIn, DraftFits}
 use Rattle.books.specs.SpellBook.{spellBook}
 use Rattle.books.specs.Answer.{plain}
 use Rattle.families.specs.Outcome.{Outcome, refused, written}

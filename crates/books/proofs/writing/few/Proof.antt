@@ -1,7 +1,7 @@
 -- The tests are the definition's.
 use borrow.Author.Tests.{lt-ltb, le-ltb}
 use native.Mathlib.Omega.{arith}
-use Rattle.books.specs.inner.Draft.{few?}
+use Rattle.books.specs.Draft.{few?}
 use Rattle.books.proofs.writing.few.Statement.{statement}
 use Rattle.books.proofs.writing.few.Tie as tie
 

@@ -10,7 +10,7 @@ use Rattle.names.specs.Colours.{namesIn}
 use Rattle.names.specs.Spelling.{spellColours}
 use Rattle.names.proofs.Putting.{put-out}
 use Rattle.books.specs.SpellBook.{spellThree, spellRules, spellBook}
-use Rattle.books.specs.inner.Draft.{draftIn}
+use Rattle.books.specs.Draft.{draftIn}
 use Rattle.books.proofs.InARow.{wrote-then, wrote-length}
 use Rattle.books.proofs.SpellingDrafts.{draft-spelled, draft-length}
 use borrow.Author.Needs.{needs}
