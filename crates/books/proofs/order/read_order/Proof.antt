@@ -15,7 +15,9 @@ number-cells-requires c κs =
     let a = c .before .before .before .before .before .before .before .args in
     let b = c .before .before .before .before .read-book .ensures in
     let s = c .before .before .before .read-sheet .ensures in
-    (rw b (book-places (now (a .book)) .few), subst (λ (r : SheetRead). CellsFit (r .sheet)) (sym s) (sheet-cells (now (a .sheet))))
+    let few = rw (← b) at (book-places (now (a .book)) .few) in
+    let fit = subst (λ (r : SheetRead). CellsFit (r .sheet)) (sym s) (sheet-cells (now (a .sheet))) in
+    (omega (arith, few, fit .colours-few), fit)
 
 cast-t10 : tie.Need-cast-t10
 cast-t10 c =

@@ -74,7 +74,7 @@ write-rules-requires c κs =
     let b = began k in
     let one = w .write-colours .ensures in
     let two = f .write-three .ensures in
-    (b .pre .rules-few, omega (arith, room k, one .place, wrote-length {l = colours b} one, two .place, wrote-length {l = figures b} two))
+    (omega (arith, b .pre .rules-few), omega (arith, room k, one .place, wrote-length {l = colours b} one, two .place, wrote-length {l = figures b} two))
 
 returns-2 : tie.Need-returns-2
 returns-2 c =

@@ -5,8 +5,8 @@ use mathlib.Core.Path.{_≡_, refl, sym, _∙_}
 use native.Mathlib.Omega.{arith}
 use lib.ListN.{take}
 use borrow.Author.Tests.{lt-ltb}
-use Rattle.names.specs.Name.{Name}
-use Rattle.names.specs.Colours.{listOf, findName}
+use Rattle.names.specs.Name.{Name, sameName}
+use Rattle.names.specs.Colours.{listOf, nameIn, findName}
 use Rattle.names.specs.declared.colours.Colours.{Colours}
 use Rattle.names.proofs.Finding.{find-listed, found-from, found-all, found-here, found-later, found-nowhere}
 use Rattle.names.proofs.colours.find_name.Statement.{statement}
@@ -37,6 +37,14 @@ found l =
     let s = now (b .args .s) in
     l .loop .inv .1 ∙ (found-all s (list b) (wanted b) (b .args .count) ∙ sym (find-listed s (list b) (wanted b) (l .before .if1 .left)))
 
+-- what the comparison says of the name at the loop's turn
+abbrev turn : tie.After-is-named Inv-loop μ-loop → tie.In-loop Inv-loop μ-loop
+turn c = c .before .before .before
+
+compared : (c : tie.After-is-named Inv-loop μ-loop) → let b = began (turn c .before) in
+    c .is-named .result ≡ sameName (nameIn (now (b .args .s)) (list b) (turn c .before .loop .j)) (wanted b)
+compared c = c .is-named .ensures
+
 returns : tie.Need-returns Inv-loop μ-loop
 unfolding findName
 returns c = simp (lt-ltb _ _ (c .if1 .taken))
@@ -46,17 +54,19 @@ loop-holds c = (omega arith, refl)
 
 returns-2 : tie.Need-returns-2 Inv-loop μ-loop
 returns-2 c =
-    let l = c .before .before .before .before .before in
+    let t = turn (c .before) in
+    let l = t .before in
     let b = began l in
-    let same = sym (c .before .is-named .ensures) ∙ c .if2 .taken in
-    sym (found-here (now (b .args .s)) (list b) (wanted b) (b .args .count) (l .loop .j) (c .before .before .before .before .loop-test .taken) same) ∙ found l
+    let same = sym (compared (c .before)) ∙ c .if2 .taken in
+    sym (found-here (now (b .args .s)) (list b) (wanted b) (b .args .count) (l .loop .j) (t .loop-test .taken) same) ∙ found l
 
 loop-again : tie.Need-loop-again Inv-loop μ-loop
 loop-again c =
-    let l = c .before .before .before .before .before in
+    let t = turn (c .before) in
+    let l = t .before in
     let b = began l in
-    let other = sym (c .before .is-named .ensures) ∙ c .if2 .left in
-    let later = found-later (now (b .args .s)) (list b) (wanted b) (b .args .count) (l .loop .j) (c .before .before .before .before .loop-test .taken) other in
+    let other = sym (compared (c .before)) ∙ c .if2 .left in
+    let later = found-later (now (b .args .s)) (list b) (wanted b) (b .args .count) (l .loop .j) (t .loop-test .taken) other in
     (omega arith, sym later ∙ l .loop .inv .1)
 
 returns-3 : tie.Need-returns-3 Inv-loop μ-loop

@@ -56,7 +56,7 @@ returns-2 : tie.Need-returns-2 Inv-loop μ-loop
 returns-2 c =
     let f = c .before .before in
     let l = turn f .before .loop in
-    let again = subst (λ (k : ℕ). k < l .i) (found f) (c .before .if1 .taken) in
+    let again = subst (λ (k : ℕ). k < l .i) (found f) (omega (arith, c .before .if1 .taken)) in
     c .refused-colours2 .ensures ∙ (simp (left-suc _ _ (turn f .loop-test .taken), colour f, lt-ltb _ _ again) at (l .inv .1))
 
 cast-starts : tie.Need-cast-starts Inv-loop μ-loop
@@ -72,7 +72,7 @@ loop-again : tie.Need-loop-again Inv-loop μ-loop
 loop-again c =
     let f = c .before in
     let l = turn f .before .loop in
-    let new = subst (λ (k : ℕ). l .i ≤ k) (found f) (c .if1 .left) in
+    let new = subst (λ (k : ℕ). l .i ≤ k) (found f) (omega (arith, c .if1 .left)) in
     (omega arith, simp (left-suc _ _ (turn f .loop-test .taken), colour f, le-ltb _ _ new) at (l .inv .1), omega (arith, colour-lies _ _ _ _ (colour f)))
 
 returns-3 : tie.Need-returns-3 Inv-loop μ-loop
