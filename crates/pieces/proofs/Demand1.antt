@@ -21,7 +21,7 @@ pub record InBook (book : List ℕ) (number blamed place : ℕ) : Type 0 where
   pub number-is : number ≡ bookOf book .fault .number
   pub place-is : place ≡ bookOf book .fault .place
   pub first : blamed ≡ 1
-  pub within : place ≤ length book
+  pub inside : place ≤ length book
 
 -- The fault stands in the sheet, and the book has none.
 pub record InSheet (book sheet : List ℕ) (number blamed place : ℕ) : Type 0 where
@@ -29,7 +29,7 @@ pub record InSheet (book sheet : List ℕ) (number blamed place : ℕ) : Type 0 
   pub number-is : number ≡ sheetOf sheet .fault .number
   pub place-is : place ≡ sheetOf sheet .fault .place
   pub second : blamed ≡ 2
-  pub within : place ≤ length sheet
+  pub inside : place ≤ length sheet
 
 -- A call that was lent a book, a sheet and two slices answers so, and leaves the slices so.
 pub record Answered (book sheet work tree : List ℕ) (number blamed place : ℕ) (work-left tree-left : List ℕ) : Type 0 where
@@ -50,7 +50,7 @@ module _ (book sheet work tree : List ℕ) where
         in-book = λ n. let f = book-refused book n .blamed in
             record {
               listed = omega (arith, f .known);
-              faults = λ h g. inl (record { number-is = refl; place-is = refl; first = refl; within = f .inside });
+              faults = λ h g. inl (record { number-is = refl; place-is = refl; first = refl; inside = f .inside });
               others = λ z. absurd (unlisted _ (f .some) (f .known) z);
               unwritten = λ h g. (refl, refl);
               eleven = λ e. absurd (omega (arith, f .known, e));
@@ -58,7 +58,7 @@ module _ (book sheet work tree : List ℕ) where
         in-sheet = λ z n. let f = sheet-refused sheet n .blamed in
             record {
               listed = omega (arith, f .known);
-              faults = λ h g. inr (record { book-fine = z; number-is = refl; place-is = refl; second = refl; within = f .inside });
+              faults = λ h g. inr (record { book-fine = z; number-is = refl; place-is = refl; second = refl; inside = f .inside });
               others = λ o. absurd (unlisted _ (f .some) (f .known) o);
               unwritten = λ h g. (refl, refl);
               eleven = λ e. absurd (omega (arith, f .known, e));
