@@ -13,6 +13,7 @@ int main(int argc, char **argv)
         {"house", compare_house},
         {"palindromes", compare_palindromes},
         {"limits", compare_limits},
+        {"blanks", compare_blanks},
         {"damaged", compare_damaged},
         {"rooms", compare_rooms},
         {"grown", compare_grown},

@@ -40,6 +40,7 @@ void compare_rooms_of_combination(enum combination combination, const struct byt
 void compare_house(void);
 void compare_palindromes(void);
 void compare_limits(void);
+void compare_blanks(void);
 void compare_damaged(void);
 void compare_rooms(void);
 void compare_grown(void);

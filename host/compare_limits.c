@@ -13,7 +13,7 @@ static void plain_palette(struct palette *palette, unsigned count, unsigned leng
         ink->length = length;
         memset(ink->name, 'n', sizeof ink->name);
         if (length > 0)
-            ink->name[length - 1] = (char)(' ' + (from + i) % 95);
+            ink->name[length - 1] = (char)('!' + (from + i) % 94);
     }
 }
 

@@ -8,7 +8,7 @@
 
 static const char *const words[] = {
     "accepted", "the input ends too early", "a number is misspelt", "a count, length, rows or columns is out of range",
-    "a name has a byte that cannot stand there, ASCII 32 to 126 only", "a name stands twice",
+    "a name has a byte that cannot stand there, ASCII 32 to 126 only and no blank at either end", "a name stands twice",
     "there is no motif or colour of this number", "there is no such kind of rule", "bytes follow the end",
     "the work slice is too short", "the tree slice is too short", "the sheet does not belong to the family",
     "too many colours, motifs or rules", "the output slice is too short", "no rule fits at some node",

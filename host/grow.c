@@ -17,32 +17,57 @@ static bool lists(const struct palette *palette, const struct ink *ink)
     return false;
 }
 
+// No blank, so that it may stand at either end of a name.
 static char some_letter(void)
 {
-    return (char)chance_from(32, 126);
+    return (char)chance_from(33, 126);
 }
 
-// A name by itself, or one of the list with its last letter gone, changed or doubled by a blank.
+static void grow_name(struct ink *ink)
+{
+    ink->length = one_in(4) ? DV_LONGEST_NAME : chance_from(1, 9);
+    for (unsigned i = 0; i < ink->length; i++)
+        ink->name[i] = one_in(20) ? ' ' : some_letter();
+    ink->name[0] = some_letter();
+    ink->name[ink->length - 1] = some_letter();
+}
+
+// The last letter, and the blanks before it.
+static void drop_letter(struct ink *ink)
+{
+    if (ink->length > 1)
+        ink->length--;
+    while (ink->name[ink->length - 1] == ' ')
+        ink->length--;
+}
+
+// A letter, now and then with a blank before it.
+static void add_letter(struct ink *ink)
+{
+    if (ink->length + 2 <= DV_LONGEST_NAME && one_in(2))
+        ink->name[ink->length++] = ' ';
+    if (ink->length < DV_LONGEST_NAME)
+        ink->name[ink->length++] = some_letter();
+}
+
+// A name by itself, or one of the list with its last letter gone or changed, or with one more.
 static struct ink some_ink(const struct palette *palette)
 {
     struct ink ink = {0};
-    if (palette->count > 0 && !one_in(3))
-        ink = palette->ink[chance_below(palette->count)];
-    switch (ink.length == 0 ? 0 : chance_from(1, 3)) {
-    case 1:
-        ink.length -= ink.length > 1;
+    if (palette->count == 0 || one_in(3)) {
+        grow_name(&ink);
+        return ink;
+    }
+    ink = palette->ink[chance_below(palette->count)];
+    switch (chance_below(3)) {
+    case 0:
+        drop_letter(&ink);
         break;
-    case 2:
+    case 1:
         ink.name[ink.length - 1] = some_letter();
         break;
-    case 3:
-        if (ink.length < DV_LONGEST_NAME)
-            ink.name[ink.length++] = one_in(2) ? ' ' : some_letter();
-        break;
     default:
-        ink.length = one_in(4) ? DV_LONGEST_NAME : chance_from(1, 9);
-        for (unsigned i = 0; i < ink.length; i++)
-            ink.name[i] = some_letter();
+        add_letter(&ink);
     }
     return ink;
 }

@@ -8,7 +8,7 @@
 
 bool same_ink(const struct ink *one, const struct ink *other);
 
-// A colour list of so many names, many of them alike but for a letter or a blank.
+// A colour list of so many names, many of them alike but for a letter or a blank inside.
 void grow_palette(struct palette *palette, unsigned count);
 
 // A family within these numbers.

@@ -66,17 +66,23 @@ unsigned independent_colour_named(const struct colours *colours, struct name nam
     return number;
 }
 
+// Whether a byte may stand in a name: a blank only where it is neither the first nor the last.
+static bool is_shown(uint8_t byte, bool at_end)
+{
+    return byte >= 32 && byte <= 126 && !(byte == 32 && at_end);
+}
+
 static bool read_name(struct reader *in, struct colours *colours)
 {
     struct name name;
     if (!read_range(in, 1, 40, &name.length))
         return false;
-    size_t place = in->at;
+    size_t place = in->at, last = place + name.length - 1;
     name.bytes = in->bytes + place;
-    for (; in->at < place + name.length; in->at++) {
+    for (; in->at <= last; in->at++) {
         if (in->at == in->length)
             return refuse(in, 1, in->length);
-        if (in->bytes[in->at] < 32 || in->bytes[in->at] > 126)
+        if (!is_shown(in->bytes[in->at], in->at == place || in->at == last))
             return refuse(in, 4, in->at);
     }
     if (independent_colour_named(colours, name) < colours->count)

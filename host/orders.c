@@ -157,7 +157,7 @@ static void write_plain_orders(const char *folder)
     struct grid grid = {.rows = DV_MOST_ROWS, .columns = DV_MOST_COLUMNS};
     grow_palette(&family.palette, DV_MOST_COLOURS);
     for (int i = 0; i < DV_MOST_COLOURS; i++) {
-        memset(family.palette.ink[i].name, ' ' + i, DV_LONGEST_NAME);
+        memset(family.palette.ink[i].name, '!' + i, DV_LONGEST_NAME);
         family.palette.ink[i].length = DV_LONGEST_NAME;
         add_rule(&family, 0, DV_KIND_COLOUR, (unsigned)i, 0);
     }

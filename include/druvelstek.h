@@ -35,7 +35,7 @@ extern "C" {
 
 // The version of rules and calls that this header describes, and the call that tells the archive's. A host compares the
 // two before any other call, so that a header and an archive of two versions are noticed.
-#define DV_VERSION 0
+#define DV_VERSION 1
 uint64_t dv_version(void);
 
 // The greatest sizes.
@@ -75,7 +75,7 @@ enum dv_answer_number {
     DV_ENDS_EARLY = 1,      // input ends inside or before something due; place: its length
     DV_MISSPELT = 2,        // second byte of a number is 0 or above 127; place: number's first byte
     DV_OUT_OF_RANGE = 3,    // a count, length, rows or columns outside its range; place: number's first byte
-    DV_NAME_BYTE = 4,       // name byte below 32 or above 126; place: that byte
+    DV_NAME_BYTE = 4,       // name byte below 32 or above 126, or 32 as the name's first or last; place: that byte
     DV_NAME_TWICE = 5,      // name already in this list; place: first byte of the later name
     DV_NOT_BELOW_COUNT = 6, // motif or colour number not below its count; place: number's first byte
     DV_NO_SUCH_KIND = 7,    // kind above 2; place: number's first byte

@@ -1,6 +1,7 @@
 // The house example and the edge cases of the rules, run through the calls that a host makes. Each line says what was asked and what came of
 // it, so that it can be held against docs/RULES.md; the file stdout has all of them.
 mod asking;
+mod blanks;
 mod combining;
 mod lent;
 mod limits;
@@ -20,6 +21,8 @@ fn main() {
     refusals::in_the_figures_of_a_book();
     refusals::in_the_rules_of_a_book();
     refusals::in_a_sheet();
+    blanks::in_a_book();
+    blanks::in_a_sheet();
     limits::of_sheets();
     limits::of_books();
     palindromes::run();

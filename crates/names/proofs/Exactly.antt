@@ -10,7 +10,7 @@ use borrow.Author.Count.{below-none, below-more}
 use lib.ListN.{length, getD}
 use lib.Dec.{ltb, leb, eqb}
 use Rattle.names.specs.Number.{numberAt, numberIn, numberBelow}
-use Rattle.names.specs.Name.{Shown, nameFrom, nameOf}
+use Rattle.names.specs.Name.{leastAt, Shown, nameFrom, nameOf}
 use Rattle.names.specs.Reads.{Reads, nothing-there, ends-inside, misspelt, one-byte, two-bytes, ReadsIn, in-range, out-of-range, no-number, ReadsBelow, below-count, not-below, none-below, AllShown, ReadsName, whole, ends, bad}
 use Rattle.names.specs.declared.number.Read.{Read}
 use Rattle.names.specs.declared.number.Read.the-variants.{Value, Refused}
@@ -104,25 +104,25 @@ number-below-exactly s at count refusal r =
 
 -- ── Names ──
 
-named-from : (s : List ℕ) (i len k : ℕ) → i + k ≡ len → i ≤ length s → AllShown s i → ReadsName s len (nameFrom s i k)
+named-from : (s : List ℕ) (i len k : ℕ) → i + k ≡ len → i ≤ length s → AllShown s len i → ReadsName s len (nameFrom s len i k)
 named-from s i len zero p h g = whole (omega arith) (λ j l. g j (omega arith)) refl
 named-from s i len (suc k) p h g =
     pick-ind (ReadsName s len) (leb (length s) i) _ _
     (λ a. let end = leb-true (length s) i a in ends (omega arith) (λ j l. g j (omega arith)) refl)
-    (λ a. pick-ind (ReadsName s len) (ltb (getD s i 0) 32) _ _
-    (λ b. bad i (omega arith) (leb-false _ _ a) g (λ t. let low = ltb-true (getD s i 0) 32 b in omega (arith, t .low)) refl)
+    (λ a. pick-ind (ReadsName s len) (ltb (getD s i 0) (leastAt len i)) _ _
+    (λ b. bad i (omega arith) (leb-false _ _ a) g (λ t. let low = ltb-true (getD s i 0) (leastAt len i) b in omega (arith, t .low)) refl)
     (λ b. pick-ind (ReadsName s len) (ltb 126 (getD s i 0)) _ _
     (λ d. bad i (omega arith) (leb-false _ _ a) g (λ t. let high = ltb-true 126 (getD s i 0) d in omega (arith, t .high)) refl)
     (λ d. named-from s (i + 1) len k (omega arith) (omega (arith, leb-false (length s) i a))
-    (below-more (λ (j : ℕ). Shown (getD s j 0)) i g (record { low = ltb-false _ _ b; high = ltb-false _ _ d })))))
+    (below-more (λ (j : ℕ). Shown len j (getD s j 0)) i g (record { low = ltb-false _ _ b; high = ltb-false _ _ d })))))
 
 named : (s : List ℕ) (len : ℕ) → ReadsName s len (nameOf s len)
 unfolding nameOf
-named s len = named-from s 0 len len (omega arith) (omega arith) (below-none (λ (j : ℕ). Shown (getD s j 0)))
+named s len = named-from s 0 len len (omega arith) (omega arith) (below-none (λ (j : ℕ). Shown len j (getD s j 0)))
 
 -- the first byte that may not stand in a name is one byte
-first-bad : (s : List ℕ) (k j : ℕ) → AllShown s k → (Shown (getD s k 0) → ⊥) → AllShown s j → (Shown (getD s j 0) → ⊥) → k ≡ j
-first-bad s k j ak nk aj nj =
+first-bad : (s : List ℕ) (len k j : ℕ) → AllShown s len k → (Shown len k (getD s k 0) → ⊥) → AllShown s len j → (Shown len j (getD s j 0) → ⊥) → k ≡ j
+first-bad s len k j ak nk aj nj =
     ⊎-elim (λ (h : k < j). absurd (nk (aj k h)))
     (λ (h : j ≤ k). ⊎-elim (λ (g : j < k). absurd (nj (ak j g))) (λ (g : k ≤ j). omega arith) (lt-or-le j k))
     (lt-or-le k j)
@@ -136,7 +136,7 @@ name-one s len r q (ends h all e) (ends g _ f) = e ∙ sym f
 name-one s len r q (ends h all e) (bad k l i _ not f) = absurd (not (all k i))
 name-one s len r q (bad k l i _ not e) (whole g all f) = absurd (not (all k l))
 name-one s len r q (bad k l i _ not e) (ends g all f) = absurd (not (all k i))
-name-one s len r q (bad k l i all not e) (bad j m n each nor f) = e ∙ ap Bad (first-bad s k j all not each nor) ∙ sym f
+name-one s len r q (bad k l i all not e) (bad j m n each nor f) = e ∙ ap Bad (first-bad s len k j all not each nor) ∙ sym f
 
 pub name-exactly : (s : List ℕ) (len : ℕ) (r : NameRead) → (nameOf s len ≡ r) ↔ ReadsName s len r
 name-exactly s len r = (λ e. subst (ReadsName s len) e (named s len), λ h. name-one s len _ r (named s len) h)

@@ -4,9 +4,10 @@ use mathlib.Core.Path.{_≡_, refl}
 use mathlib.Core.List.{List, [], _∷_, _++_}
 use Rattle.names.specs.Pick.{fault}
 use Rattle.names.specs.Number.{numberAt, numberIn, spellNumber}
-use Rattle.names.specs.Name.{Name, nameOf, sameName, listed}
+use Rattle.names.specs.Name.{Name, leastAt, nameOf, sameName, listed}
 use Rattle.names.specs.Colours.{namesIn, findName, colourAt, coloursOf}
 use Rattle.names.specs.declared.number.Read.the-variants.{Value, Refused}
+use Rattle.names.specs.declared.name.NameRead.the-variants.{Whole, Ends, Bad}
 
 pub record Numbers : Type 0 where
   pub P7 : numberAt (128 ∷ 0 ∷ []) 0 ≡ Refused (fault 2 0)
@@ -38,6 +39,18 @@ numbers =
 pub slateC : Name
 slateC = 83 ∷ 108 ∷ 97 ∷ 116 ∷ 101 ∷ 32 ∷ 67 ∷ []
 
+-- a blank stands inside a name, and neither first nor last
+pub record Blanks : Type 0 where
+  pub inside : nameOf (65 ∷ 32 ∷ 66 ∷ []) 3 ≡ Whole
+  pub first : nameOf (32 ∷ 65 ∷ []) 2 ≡ Bad 0
+  pub last : nameOf (65 ∷ 32 ∷ []) 2 ≡ Bad 1
+  pub alone : nameOf (32 ∷ []) 1 ≡ Bad 0
+  pub end-before-last : nameOf (65 ∷ 32 ∷ []) 3 ≡ Ends
+
+pub blanks : Blanks
+unfolding nameOf leastAt
+blanks = record { inside = refl; first = refl; last = refl; alone = refl; end-before-last = refl }
+
 pub slateU : Name
 slateU = 83 ∷ 108 ∷ 97 ∷ 116 ∷ 101 ∷ 32 ∷ 85 ∷ []
 
@@ -57,5 +70,5 @@ pub record Lists : Type 0 where
   pub repeated : coloursOf twice .fault ≡ fault 5 10
 
 pub lists : Lists
-unfolding house twice slateC slateU coloursOf numberIn numberAt colourAt nameOf findName listed sameName
+unfolding house twice slateC slateU coloursOf numberIn numberAt colourAt nameOf leastAt findName listed sameName
 lists = record { fine = refl; next = refl; names = refl; repeated = refl }

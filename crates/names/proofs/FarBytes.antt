@@ -70,20 +70,20 @@ module _ (t u : List ℕ) where
 
   -- ── Names ──
 
-  name-from-far : (l : List ℕ) (k i : ℕ) → i + k ≤ length l → nameFrom (l ++ u) i k ≡ nameFrom l i k
-  name-from-far l zero i h = refl
-  name-from-far l (suc k) i h =
+  name-from-far : (l : List ℕ) (len k i : ℕ) → i + k ≤ length l → nameFrom (l ++ u) len i k ≡ nameFrom l len i k
+  name-from-far l len zero i h = refl
+  name-from-far l len (suc k) i h =
       let sum = length-append l u in
       simp (
         lt-leb (length (l ++ u)) i (omega arith),
         lt-leb (length l) i (omega arith),
         List·getD-append l u 0 i (omega arith),
-        name-from-far l k (i + 1) (omega arith),
+        name-from-far l len k (i + 1) (omega arith),
       )
 
   name-far : (start len : ℕ) → start + len ≤ length t → nameOf (drop start (t ++ u)) len ≡ nameOf (drop start t) len
   unfolding nameOf
-  name-far start len h = rw (drop-append-le start t u (omega arith)) (name-from-far (drop start t) len 0 (omega (arith, length-drop start t)))
+  name-far start len h = rw (drop-append-le start t u (omega arith)) (name-from-far (drop start t) len len 0 (omega (arith, length-drop start t)))
 
   -- the part of so many bytes from a place on
   part-far : (start len : ℕ) → start + len ≤ length t → take len (drop start (t ++ u)) ≡ take len (drop start t)

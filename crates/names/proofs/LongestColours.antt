@@ -5,9 +5,11 @@ use mathlib.Core.List.{List, [], _∷_, _++_, List·Memᴰ, List·Memᴰ·cases-
 use mathlib.Core.Logic.{⊎-elim}
 use native.Mathlib.Omega.{arith}
 use lib.ListN.{length, getD, replicate, length-append, getD-replicate}
-use Rattle.names.specs.Name.{Name, Shown}
+use lib.Dec.{eqb}
+use Rattle.names.specs.Name.{Name, leastAt, Shown}
 use Rattle.names.specs.Number.{spellNumber}
 use Rattle.names.specs.Spelling.{NameOk, Distinct, ColoursOk, spellNames, spellColours}
+use Rattle.names.proofs.Picking.{pick-ind}
 use Rattle.names.proofs.SpellingNumbers.{spell-short}
 use Rattle.names.proofs.SpelledBytes.{colours-few}
 
@@ -24,14 +26,21 @@ abbrev inks : ℕ → ℕ → List Name
 inks b zero = []
 inks b (suc k) = ink b ∷ inks (suc b) k
 
-ink-ok : (b : ℕ) → 32 ≤ b → b ≤ 126 → NameOk (ink b)
+-- no byte of a name need be more than 33
+least-low : (len i : ℕ) → leastAt len i ≤ 33
+unfolding leastAt
+least-low len i =
+    pick-ind (λ (x : ℕ). x ≤ 33) (eqb i 0) 33 _ (λ _. omega arith)
+    (λ _. pick-ind (λ (x : ℕ). x ≤ 33) (eqb (i + 1) len) 33 32 (λ _. omega arith) (λ _. omega arith))
+
+ink-ok : (b : ℕ) → 33 ≤ b → b ≤ 126 → NameOk (ink b)
 ink-ok b l h = record { some = omega arith; few = omega arith; shown = shown }
   where
-    shown : (i : ℕ) → i < 40 → Shown (getD (ink b) i 0)
-    shown zero p = record { low = l; high = h }
-    shown (suc i) p = let e = getD-replicate {A = ℕ} 39 i 65 0 (omega arith) in record { low = omega arith; high = omega arith }
+    shown : (i : ℕ) → i < 40 → Shown 40 i (getD (ink b) i 0)
+    shown zero p = record { low = omega (arith, least-low 40 0); high = h }
+    shown (suc i) p = let e = getD-replicate {A = ℕ} 39 i 65 0 (omega arith) in record { low = omega (arith, least-low 40 (suc i)); high = omega arith }
 
-inks-each : (k b : ℕ) → 32 ≤ b → b + k ≤ 127 → (n : Name) → List·Memᴰ n (inks b k) → NameOk n × (b ≤ getD n 0 0)
+inks-each : (k b : ℕ) → 33 ≤ b → b + k ≤ 127 → (n : Name) → List·Memᴰ n (inks b k) → NameOk n × (b ≤ getD n 0 0)
 inks-each zero b l h n m = absurd (List·Memᴰ·not-nil m)
 inks-each (suc k) b l h n m =
     ⊎-elim
@@ -39,7 +48,7 @@ inks-each (suc k) b l h n m =
     (λ t. let (ok, first) = inks-each k (suc b) (omega arith) (omega arith) n t in (ok, omega arith))
     (List·Memᴰ·cases-cons m)
 
-inks-distinct : (k b : ℕ) → 32 ≤ b → b + k ≤ 127 → Distinct (inks b k)
+inks-distinct : (k b : ℕ) → 33 ≤ b → b + k ≤ 127 → Distinct (inks b k)
 inks-distinct zero b l h = tt
 inks-distinct (suc k) b l h =
     (λ m. omega (arith, inks-each k (suc b) (omega arith) (omega arith) (ink b) m .1), inks-distinct k (suc b) (omega arith) (omega arith))

@@ -93,7 +93,7 @@ module _ (s : List ℕ) (bytes : Bytes s) where
       record {
         some = omega (arith, g .low);
         few = omega (arith, g .high);
-        shown = λ i h. let l : i < len = omega arith in rw (getD-take len (drop start s) i 0 l) (w .1 i l);
+        shown = λ i h. let l : i < len = omega arith in rw (n, getD-take len (drop start s) i 0 l) (w .1 i l);
       }
 
   -- one name more in front of those that were taken after it

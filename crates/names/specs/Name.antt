@@ -12,21 +12,25 @@ use Rattle.names.specs.declared.name.NameRead.the-variants.{Whole, Ends,
 abbrev pub Name : Type 0
 Name = List ℕ
 
--- a byte that may stand in a name
-pub record Shown (b : ℕ) : Type 0 where
-  pub low : 32 ≤ b
+-- the least byte at place i of a name of so many bytes: a blank, 32, stands inside a name, and neither first nor last
+unfoldable pub leastAt : ℕ → ℕ → ℕ
+leastAt len i = pick (eqb i 0) 33 (pick (eqb (i + 1) len) 33 32)
+
+-- a byte that may stand there
+pub record Shown (len i b : ℕ) : Type 0 where
+  pub low : leastAt len i ≤ b
   pub high : b ≤ 126
 
--- so many bytes of s from the i-th on: left to right, to the first fault
-abbrev pub nameFrom : List ℕ → ℕ → ℕ → NameRead
-nameFrom s i zero = Whole
-nameFrom s i (suc k) =
+-- the last so many bytes of a name of len bytes, from the i-th on: left to right, to the first fault
+abbrev pub nameFrom : List ℕ → ℕ → ℕ → ℕ → NameRead
+nameFrom s len i zero = Whole
+nameFrom s len i (suc k) =
     pick (leb (length s) i) Ends
-    (pick (ltb (getD s i 0) 32) (Bad i) (pick (ltb 126 (getD s i 0)) (Bad i) (nameFrom s (i + 1) k)))
+    (pick (ltb (getD s i 0) (leastAt len i)) (Bad i) (pick (ltb 126 (getD s i 0)) (Bad i) (nameFrom s len (i + 1) k)))
 
 -- the name of so many bytes that s begins with
 unfoldable pub nameOf : List ℕ → ℕ → NameRead
-nameOf s len = nameFrom s 0 len
+nameOf s len = nameFrom s len 0 len
 
 -- names are the same when they have the same length and the same bytes
 unfoldable pub sameName : Name → Name → Bool

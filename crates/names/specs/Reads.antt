@@ -33,12 +33,12 @@ pub data ReadsBelow (s : List ℕ) (at count refusal : ℕ) (r : Read) : Type 0 
   not-below : (v next : ℕ) → Reads s at (Value v next) → count ≤ v → r ≡ Refused (fault refusal at) → ReadsBelow s at count refusal r
   none-below : (f : Fault) → Reads s at (Refused f) → r ≡ Refused f → ReadsBelow s at count refusal r
 
--- the first so many bytes may all stand in a name
-abbrev pub AllShown : List ℕ → ℕ → Type 0
-AllShown s n = (j : ℕ) → j < n → Shown (getD s j 0)
+-- the first so many bytes may all stand in a name of len bytes
+abbrev pub AllShown : List ℕ → ℕ → ℕ → Type 0
+AllShown s len n = (j : ℕ) → j < n → Shown len j (getD s j 0)
 
 -- a name of so many bytes that s begins with
 pub data ReadsName (s : List ℕ) (len : ℕ) (r : NameRead) : Type 0 where
-  whole : len ≤ length s → AllShown s len → r ≡ Whole → ReadsName s len r
-  ends : length s < len → AllShown s (length s) → r ≡ Ends → ReadsName s len r
-  bad : (k : ℕ) → k < len → k < length s → AllShown s k → (Shown (getD s k 0) → ⊥) → r ≡ Bad k → ReadsName s len r
+  whole : len ≤ length s → AllShown s len len → r ≡ Whole → ReadsName s len r
+  ends : length s < len → AllShown s len (length s) → r ≡ Ends → ReadsName s len r
+  bad : (k : ℕ) → k < len → k < length s → AllShown s len k → (Shown len k (getD s k 0) → ⊥) → r ≡ Bad k → ReadsName s len r

@@ -9,7 +9,7 @@ use Rattle.names.specs.Name.{Name, Shown}
 pub record NameOk (n : Name) : Type 0 where
   pub some : 1 ≤ length n
   pub few : length n ≤ 40
-  pub shown : (i : ℕ) → i < length n → Shown (getD n i 0)
+  pub shown : (i : ℕ) → i < length n → Shown (length n) i (getD n i 0)
 
 -- no name stands twice
 abbrev pub Distinct : List Name → Type 0

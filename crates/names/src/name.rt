@@ -1,7 +1,8 @@
 // A name is read, compared and copied from the part of a slice that begins with its first byte.
 ghost use mathlib.Core.Path.{_≡_};
+ghost use Prim.Native.Nat.{_<_};
 ghost use lib.ListN.{take, drop};
-ghost use Rattle.names.specs.Name.{nameOf, sameName};
+ghost use Rattle.names.specs.Name.{leastAt, nameOf, sameName};
 ghost use Rattle.names.specs.Part.{Part, tailStart};
 ghost use Rattle.names.specs.Put.{Puts};
 
@@ -26,6 +27,17 @@ pub enum NameRead {
     Bad(usize),
 }
 
+// The least byte that may stand at a place of a name: a blank, 32, stands inside a name. At either end it is a slip of the keyboard.
+fn least_at(len: usize, i: usize) -> u8
+    requires { ⌜ i < len ⌝ }
+    ensures { λ r. ⌜ r ≡ leastAt len i ⌝ }
+{
+    if i == 0 {
+        return 33;
+    }
+    if i + 1 == len { 33 } else { 32 }
+}
+
 // Reads the name of so many bytes, left to right.
 pub fn read_name(s: &[u8], len: usize) -> NameRead
     ensures { λ r. ⌜ r ≡ nameOf (now (s .entry)) len ⌝ }
@@ -36,7 +48,7 @@ pub fn read_name(s: &[u8], len: usize) -> NameRead
             return NameRead::Ends;
         }
         let b = s[i];
-        if b < 32 {
+        if b < least_at(len, i) {
             return NameRead::Bad(i);
         }
         if 126 < b {

@@ -9,7 +9,7 @@ use Rattle.names.proofs.name.read_name.Statement.{statement}
 use Rattle.names.proofs.name.read_name.Tie as tie
 
 abbrev Inv-loop : tie.InvT-loop
-Inv-loop s len i₀ i = (i ≤ len) × (nameFrom s i (len - i) ≡ nameOf s len)
+Inv-loop s len i₀ i = (i ≤ len) × (nameFrom s len i (len - i) ≡ nameOf s len)
 
 abbrev μ-loop : tie.MeasureT-loop
 μ-loop s len i₀ i = len - i
@@ -22,13 +22,23 @@ returns : tie.Need-returns Inv-loop μ-loop
 returns c = simp (left-suc _ _ (c .before .loop-test .taken), le-leb _ _ (c .if1 .taken)) at (c .before .before .loop .inv .1)
 
 returns-2 : tie.Need-returns-2 Inv-loop μ-loop
-returns-2 c = simp (left-suc _ _ (c .before .before .before .loop-test .taken), lt-leb _ _ (c .before .before .if1 .left), lt-ltb _ _ (c .if2 .taken)) at (c .before .before .before .before .loop .inv .1)
+returns-2 c =
+    let turn = c .before .before .before .before in
+    simp (left-suc _ _ (turn .loop-test .taken), lt-leb _ _ (c .before .before .before .if1 .left), ← c .before .least-at .ensures, lt-ltb _ _ (c .if2 .taken)) at (turn .before .loop .inv .1)
 
 returns-3 : tie.Need-returns-3 Inv-loop μ-loop
-returns-3 c = simp (left-suc _ _ (c .before .before .before .before .loop-test .taken), lt-leb _ _ (c .before .before .before .if1 .left), le-ltb _ _ (c .before .if2 .left), lt-ltb _ _ (c .if3 .taken)) at (c .before .before .before .before .before .loop .inv .1)
+returns-3 c =
+    let turn = c .before .before .before .before .before in
+    simp (left-suc _ _ (turn .loop-test .taken), lt-leb _ _ (c .before .before .before .before .if1 .left), ← c .before .before .least-at .ensures, le-ltb _ _ (c .before .if2 .left), lt-ltb _ _ (c .if3 .taken))
+    at (turn .before .loop .inv .1)
 
 loop-again : tie.Need-loop-again Inv-loop μ-loop
-loop-again c = (omega arith, simp (left-suc _ _ (c .before .before .before .before .loop-test .taken), lt-leb _ _ (c .before .before .before .if1 .left), le-ltb _ _ (c .before .if2 .left), le-ltb _ _ (c .if3 .left)) at (c .before .before .before .before .before .loop .inv .1))
+loop-again c =
+    let turn = c .before .before .before .before .before in (
+      omega arith,
+      simp (left-suc _ _ (turn .loop-test .taken), lt-leb _ _ (c .before .before .before .before .if1 .left), ← c .before .before .least-at .ensures, le-ltb _ _ (c .before .if2 .left), le-ltb _ _ (c .if3 .left))
+          at (turn .before .loop .inv .1),
+    )
 
 returns-4 : tie.Need-returns-4 Inv-loop μ-loop
 returns-4 c = simp (left-none _ _ (c .loop-test .left)) at (c .before .loop .inv .1)
@@ -42,6 +52,7 @@ read-name-spec =
     loop-holds
     returns
     (λ c. omega arith)
+    (λ c κs. c .before .before .loop-test .taken)
     returns-2
     returns-3
     (λ c. omega arith)
