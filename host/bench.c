@@ -129,6 +129,12 @@ static void look_up(const struct engine *timed, const struct task *task)
     timed->rule(task->first.at, task->first.length, DV_MOST_RULES - 1);
 }
 
+static void size_card(const struct engine *timed, const struct task *task)
+{
+    static uint32_t card[DV_CARD_ENTRIES];
+    timed->size_card(task->first.at, task->first.length, card, DV_CARD_ENTRIES);
+}
+
 static void make(const struct engine *timed, const struct task *task)
 {
     static uint8_t out[DV_LONGEST_BOOK];
@@ -172,25 +178,40 @@ static void measure_house(void)
 }
 
 // The first four rules derive every sheet; the rest are joins by chance, half of them across.
+static void press_family(struct family *family, unsigned rules)
+{
+    *family = (struct family){.motifs = MOTIFS, .start = 0};
+    add_ink(&family->palette, "Slate C");
+    add_ink(&family->palette, "Slate U");
+    add_rule(family, 0, DV_KIND_COLOUR, 0, 0);
+    add_rule(family, 0, DV_KIND_COLOUR, 1, 0);
+    add_rule(family, 0, DV_KIND_ACROSS, 0, 0);
+    add_rule(family, 0, DV_KIND_DOWN, 0, 0);
+    while (family->rules < rules)
+        add_rule(family, chance_below(MOTIFS), family->rules % 2 == 0 ? DV_KIND_ACROSS : DV_KIND_DOWN,
+                 chance_below(MOTIFS), chance_below(MOTIFS));
+}
+
 static void measure_press(unsigned rules)
 {
-    struct family family = {.motifs = MOTIFS, .start = 0};
+    struct family family;
     struct grid grid = {.rows = DV_MOST_ROWS, .columns = DV_MOST_COLUMNS};
     char name[40];
-    add_ink(&family.palette, "Slate C");
-    add_ink(&family.palette, "Slate U");
+    press_family(&family, rules);
     grid.palette = family.palette;
     for (unsigned i = 0; i < grid.rows * grid.columns; i++)
         grid.cell[i] = chance_below(2);
-    add_rule(&family, 0, DV_KIND_COLOUR, 0, 0);
-    add_rule(&family, 0, DV_KIND_COLOUR, 1, 0);
-    add_rule(&family, 0, DV_KIND_ACROSS, 0, 0);
-    add_rule(&family, 0, DV_KIND_DOWN, 0, 0);
-    while (family.rules < rules)
-        add_rule(&family, chance_below(MOTIFS), family.rules % 2 == 0 ? DV_KIND_ACROSS : DV_KIND_DOWN,
-                 chance_below(MOTIFS), chance_below(MOTIFS));
     snprintf(name, sizeof name, "derivation, 12 by 12, %u rules", rules);
     measure_derivation(name, &family, &grid, trials(&family, &grid));
+}
+
+static void measure_card(void)
+{
+    struct family family;
+    struct task task = {.call = size_card, .unit = "a call", .units = 1};
+    press_family(&family, DV_MOST_RULES);
+    spell_book(&family, &task.first);
+    print_figures("size card, 200 rules", &task, measure(&task));
 }
 
 // The longest names, alike but for the last letter, listed either way round, and so many joins of the start.
@@ -284,6 +305,7 @@ int main(int argc, char **argv)
     measure_press(4);
     measure_press(40);
     measure_press(200);
+    measure_card();
     measure_longest_book();
     measure_stems();
     measure_combinations();

@@ -36,6 +36,10 @@ static uint64_t derive(void)
     return dv_derive(slice[0].at, slice[0].length, slice[1].at, slice[1].length, (uint32_t *)(void *)slice[2].at,
                      slice[2].length, (uint16_t *)(void *)slice[3].at, slice[3].length);
 }
+static uint64_t size_card(void)
+{
+    return dv_size_card(slice[0].at, slice[0].length, (uint32_t *)(void *)slice[1].at, slice[1].length);
+}
 #define OF_TWO(name)                                                                                                   \
     static uint64_t name(void)                                                                                         \
     {                                                                                                                  \
@@ -69,6 +73,7 @@ static const struct call calls[] = {
     {"dv_rule", rule, 1, 0, {0}, 0},
     {"dv_sheet_size", sheet_size, 0, 1, {0}, 0},
     {"dv_derive", derive, 1, 1, {sizeof(uint32_t), sizeof(uint16_t)}, ENDS_EARLY},
+    {"dv_size_card", size_card, 1, 0, {sizeof(uint32_t)}, ENDS_EARLY},
     {"dv_either_of", either_of, 2, 0, {1}, ENDS_EARLY},
     {"dv_beside", beside, 2, 0, {1}, ENDS_EARLY},
     {"dv_above", above, 2, 0, {1}, ENDS_EARLY},

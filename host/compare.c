@@ -18,6 +18,7 @@ int main(int argc, char **argv)
         {"rooms", compare_rooms},
         {"grown", compare_grown},
         {"lookups", compare_lookups},
+        {"cards", compare_cards},
         {"combinations", compare_combinations},
         {"members", compare_members},
     };

@@ -28,6 +28,8 @@ uint64_t compare_colour(const struct bytes *book, size_t number);
 uint64_t compare_rule(const struct bytes *book, size_t number);
 uint64_t compare_sheet_size(const struct bytes *sheet);
 uint64_t compare_derive(const struct bytes *book, const struct bytes *sheet, size_t work_len, size_t tree_len);
+// The card is put into card, where that is not null and the answer is 0.
+uint64_t compare_size_card(const struct bytes *book, size_t card_len, uint32_t card[DV_CARD_ENTRIES]);
 // The new book is put into made, where that is not null and the answer is 0.
 uint64_t compare_combination(enum combination combination, const struct bytes *first, const struct bytes *second,
                              size_t out_len, struct bytes *made);
@@ -45,6 +47,7 @@ void compare_damaged(void);
 void compare_rooms(void);
 void compare_grown(void);
 void compare_lookups(void);
+void compare_cards(void);
 void compare_combinations(void);
 void compare_members(void);
 

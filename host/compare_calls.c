@@ -246,6 +246,24 @@ uint64_t compare_derive(const struct bytes *book, const struct bytes *sheet, siz
     return met_with(compare());
 }
 
+static uint64_t ask_size_card(const struct lent *lent)
+{
+    return asked->size_card(in[0].slice, call.input[0]->length, (uint32_t *)(void *)lent[0].slice, call.entries[0]);
+}
+
+uint64_t compare_size_card(const struct bytes *book, size_t card_len, uint32_t card[DV_CARD_ENTRIES])
+{
+    call = (struct call){.name = "dv_size_card",
+                         .ask = ask_size_card,
+                         .input = {book},
+                         .entries = {card_len},
+                         .size = {sizeof(uint32_t)}};
+    uint64_t answer = met_with(compare());
+    if (card != NULL && dv_number(answer) == DV_ACCEPTED)
+        memcpy(card, out[0][0].slice, DV_CARD_ENTRIES * sizeof *card);
+    return answer;
+}
+
 // The same book given twice is lent as one slice.
 static uint64_t ask_combination(const struct lent *lent)
 {

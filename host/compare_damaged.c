@@ -10,6 +10,7 @@ static void compare_as_book(const struct bytes *book, const struct bytes *sheet,
     compare_colour(book, chance_below(4));
     compare_rule(book, chance_below(8));
     compare_derive(book, sheet, one_in(4) ? 0 : ROOMY_WORK, one_in(4) ? 0 : ROOMY_TREE);
+    compare_size_card(book, one_in(4) ? 0 : DV_CARD_ENTRIES, NULL);
     enum combination combination = (enum combination)chance_below(COMBINATIONS);
     if (one_in(2))
         compare_combination(combination, book, other, one_in(4) ? 0 : ROOMY_OUT, NULL);

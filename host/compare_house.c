@@ -86,6 +86,24 @@ static void expect_books(void)
     expect(makes(EITHER_OF, &house_either), "P12");
 }
 
+// Whether the size card of a book is this one, with so many sizes.
+static bool has_card(const struct bytes *book, const uint32_t *expected, uint64_t sizes)
+{
+    uint32_t card[DV_CARD_ENTRIES];
+    return judged->size_card(book->at, book->length, card, DV_CARD_ENTRIES) == sizes << 32 &&
+           memcmp(card, expected, sizeof card) == 0;
+}
+
+// The house book has two rows and any columns; two of it side by side have at least two.
+static void expect_cards(void)
+{
+    static const uint32_t of_house[DV_CARD_ENTRIES] = {0, 0xfff}, of_two[DV_CARD_ENTRIES] = {0, 0xffe};
+    static const uint32_t transposed[DV_CARD_ENTRIES] = {2, 2, 2, 2, 2, 2, 2, 2, 2, 2, 2, 2};
+    expect(has_card(&house, of_house, 12), "its size card");
+    expect(has_card(&house_beside, of_two, 11), "the size card of two side by side");
+    expect(has_card(&house_transposed, transposed, 12), "the size card transposed");
+}
+
 static void expect_lookups(void)
 {
     static const uint64_t rules[] = {UINT64_C(0x100000100), UINT64_C(0x102010200), UINT64_C(0x100000001),
@@ -103,6 +121,7 @@ void compare_house(void)
         judged = engines[i];
         expect_sheets();
         expect_books();
+        expect_cards();
         expect_lookups();
     }
     if (compare_read_book(&book_and_sheet) != 0 || compare_read_sheet(&book_and_sheet) != 0)
@@ -113,4 +132,6 @@ void compare_house(void)
     if (compare_derive(&house, &sheet_a, 18, 22) != 0 || compare_derive(&house, &sheet_a, 17, 22) != 9 ||
         compare_derive(&house, &sheet_a, 18, 21) != 10)
         wrong("sheet A wants a work slice of 18 and a tree slice of 22");
+    if (compare_size_card(&house, 12, NULL) != UINT64_C(12) << 32 || compare_size_card(&house, 11, NULL) != 13)
+        wrong("a card wants a slice of 12");
 }

@@ -45,6 +45,7 @@ static void compare_book(const struct family *family)
     compare_rule(&book, family->rules - 1);
     compare_sheet_size(&sheet);
     compare_derive(&book, &sheet, dv_work_entries(2, 2), dv_tree_entries(2, 2));
+    compare_size_card(&book, DV_CARD_ENTRIES, NULL);
     compare_combination(RUN, &book, NULL, ROOMY_OUT, NULL);
     compare_combination(TRANSPOSED, &book, NULL, book.length, NULL);
 }

@@ -1,5 +1,5 @@
 // What each combination holds: for small families, all sheets up to 3 by 3 in two colours under the book that it
-// writes, against their membership in the families that it is made of.
+// writes, against their membership in the families that it is made of; and the size cards against all these sheets.
 #include <string.h>
 
 #include "chance.h"
@@ -124,15 +124,36 @@ static unsigned members_of(const struct bytes *book, struct members *members)
     return count;
 }
 
+// A size is on the card exactly when one of its sheets is a member.
+static void expect_card(const struct bytes *book, const struct members *members)
+{
+    uint32_t card[DV_CARD_ENTRIES];
+    struct small sheet;
+    compare_size_card(book, DV_CARD_ENTRIES, card);
+    for (sheet.rows = 1; sheet.rows <= SIDE; sheet.rows++)
+        for (sheet.columns = 1; sheet.columns <= SIDE; sheet.columns++) {
+            bool found = false;
+            for (sheet.cells = 0; sheet.cells < 1u << sheet.rows * sheet.columns; sheet.cells++)
+                found = found || has(members, sheet);
+            if (dv_has_size(card, sheet.rows, sheet.columns) != found)
+                wrong("the card has other sizes than the sheets");
+        }
+}
+
 static void expect_members(enum combination combination, const struct bytes *made, const struct members *f,
                            const struct members *g)
 {
+    static struct members members;
     struct small sheet;
     for (sheet.rows = 1; sheet.rows <= SIDE; sheet.rows++)
         for (sheet.columns = 1; sheet.columns <= SIDE; sheet.columns++)
-            for (sheet.cells = 0; sheet.cells < 1u << sheet.rows * sheet.columns; sheet.cells++)
-                if (derived(made, sheet) != holds(combination, f, g, sheet))
+            for (sheet.cells = 0; sheet.cells < 1u << sheet.rows * sheet.columns; sheet.cells++) {
+                bool in = derived(made, sheet);
+                members.has[sheet.rows][sheet.columns][sheet.cells] = in;
+                if (in != holds(combination, f, g, sheet))
                     wrong("the book that a combination wrote has other sheets than the combination");
+            }
+    expect_card(made, &members);
 }
 
 // A family of two colours, listed either way round, that has more than a few sheets and not all.
@@ -148,6 +169,7 @@ static void grow_small(struct bytes *book, struct members *members)
         add_ink(&family.palette, turned_round ? "a" : "b");
         spell_book(&family, book);
         count = members_of(book, members);
+        expect_card(book, members);
     } while (count < 6 || count > 650);
 }
 

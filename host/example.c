@@ -1,4 +1,5 @@
-// A small RIP: tells whether a sheet belongs to a family and how it is made up, and joins two families.
+// A small RIP: tells which sizes a family has, whether a sheet belongs to it and how that is made up, and joins two
+// families.
 //
 //     example BOOK SHEET [SECOND-BOOK]
 #include <stdio.h>
@@ -20,6 +21,7 @@ static size_t book_len, second_len, sheet_len;
 static uint8_t joined[DV_LONGEST_BOOK];
 static uint32_t work[DV_MOST_WORK];
 static uint16_t tree[DV_MOST_TREE];
+static uint32_t card[DV_CARD_ENTRIES];
 
 static size_t load(const char *path, uint8_t *bytes, size_t most)
 {
@@ -39,6 +41,26 @@ static void say(const char *what, uint64_t answer)
     if (dv_blamed(answer) != 0)
         printf(", at byte %zu of input %u", dv_place(answer), dv_blamed(answer));
     printf("\n");
+}
+
+// What order entry offers; all else is greyed out.
+static void print_sizes(void)
+{
+    uint64_t answer = dv_size_card(book, book_len, card, DV_CARD_ENTRIES);
+    if (dv_number(answer) != DV_ACCEPTED) {
+        say("the sizes", answer);
+        return;
+    }
+    printf("the family has %zu of %d sizes\n", dv_count(answer), DV_MOST_ROWS * DV_MOST_COLUMNS);
+    for (size_t rows = 1; rows <= DV_MOST_ROWS; rows++) {
+        if (card[rows - 1] == 0)
+            continue;
+        printf("%zu rows by", rows);
+        for (size_t columns = 1; columns <= DV_MOST_COLUMNS; columns++)
+            if (dv_has_size(card, rows, columns))
+                printf(" %zu", columns);
+        printf(" columns\n");
+    }
 }
 
 // Prints the panel of a node and the panels that it is cut into, and gives the node after them. The node names its rule
@@ -92,6 +114,7 @@ int main(int argc, char **argv)
     book_len = load(argv[1], book, sizeof book);
     sheet_len = load(argv[2], sheet, sizeof sheet);
     second_len = load(argv[argc == 4 ? 3 : 1], second, sizeof second);
+    print_sizes();
     derive();
     join();
     return 0;

@@ -4,13 +4,7 @@
 #include <stdbool.h>
 #include <string.h>
 
-#include "independent_read.h"
-
-// The join rules of one kind in three rows, each motif as its mask, so that the loop over them has no branch.
-struct joins {
-    unsigned count;
-    uint32_t first[200], second[200], head[200];
-};
+#include "independent_joins.h"
 
 // A sheet under a book.
 struct job {
@@ -44,30 +38,6 @@ static void number_slots(struct job *job)
 static inline uint32_t entry(const struct job *job, unsigned height, unsigned width, unsigned top, unsigned left)
 {
     return job->table[job->slot[height][width] + top * (job->sheet.columns - width + 1) + left];
-}
-
-static void split(const struct book *book, unsigned kind, struct joins *joins)
-{
-    joins->count = 0;
-    for (unsigned i = 0; i < book->rules; i++) {
-        struct rule rule = book->rule[i];
-        if (rule.kind == kind) {
-            joins->first[joins->count] = UINT32_C(1) << rule.first;
-            joins->second[joins->count] = UINT32_C(1) << rule.second;
-            joins->head[joins->count++] = UINT32_C(1) << rule.head;
-        }
-    }
-}
-
-// The heads of the rules that join a part with the first motifs to one with the second.
-static inline uint32_t joined(const struct joins *joins, uint32_t first, uint32_t second)
-{
-    uint32_t heads = 0;
-    for (unsigned i = 0; i < joins->count; i++) {
-        uint32_t lacking = (~first & joins->first[i]) | (~second & joins->second[i]);
-        heads |= lacking == 0 ? joins->head[i] : 0;
-    }
-    return heads;
 }
 
 static void fill_cells(const struct job *job, uint32_t *table)

@@ -16,6 +16,7 @@ static struct bytes book, second, sheet;
 static enum combination combination;
 static uint32_t work[DV_MOST_WORK];
 static uint16_t tree[DV_MOST_TREE];
+static uint32_t card[DV_CARD_ENTRIES];
 static uint8_t out[DV_LONGEST_BOOK];
 static uint64_t answer;
 
@@ -52,6 +53,11 @@ static void sheet_size(void)
 static void derive(void)
 {
     answer = dv_derive(book.at, book.length, sheet.at, sheet.length, work, DV_MOST_WORK, tree, DV_MOST_TREE);
+}
+
+static void size_card(void)
+{
+    answer = dv_size_card(book.at, book.length, card, DV_CARD_ENTRIES);
 }
 
 static void make(void)
@@ -91,6 +97,7 @@ static struct kind kinds[] = {
     {"dv_rule", rule, 0},
     {"dv_sheet_size", sheet_size, 0},
     {"dv_derive", derive, 0},
+    {"dv_size_card", size_card, 0},
 };
 static size_t most_of[COMBINATIONS];
 

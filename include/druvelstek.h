@@ -1,8 +1,9 @@
 // Druvelstek: the C face of the verified library. C99 or later, or C++11 or later.
 //
 // A book is one family of layouts and a sheet is a grid of colours, both spelt byte by byte as docs/RULES.md says. The
-// library tells whether the family derives the sheet, gives the table of pieces and one derivation, looks up names,
-// rules and sizes, and makes new books of lent ones. Each call is proved to keep what its comment says, on every input.
+// library tells whether the family derives the sheet, gives the table of pieces and one derivation, tells which sizes
+// the family has, looks up names, rules and sizes, and makes new books of lent ones. Each call is proved to keep what
+// its comment says, on every input.
 //
 // Nothing in the bytes tells a book from a sheet, and some are both: 2, 1 "a", 1 "b", 4, 1, 1, 0, 0, 0 is a book of
 // four motifs with one rule, and a sheet of four rows and one column. A caller keeps apart which file is which.
@@ -10,10 +11,10 @@
 // What a caller sees to, for every call:
 // - A slice is a pointer and then its length, in elements. The pointer is valid for that many elements, and aligned for
 //   their type, until the call returns. With length 0 it may be null, as that of an empty std::vector may be.
-// - A slice that the call may write (work, tree, out) overlaps no other slice of the same call. Nothing tells when it
-//   does. dv_beside(f, f_len, g, g_len, g, room) reads names of g that it has written over: with the one colour "Navy"
-//   in f and "Red" in g it answers 0, and the new book has the inks "Navy" and "Nav". Slices that are only read may
-//   overlap: the same book may be given twice.
+// - A slice that the call may write (work, tree, card, out) overlaps no other slice of the same call. Nothing tells
+//   when it does. dv_beside(f, f_len, g, g_len, g, room) reads names of g that it has written over: with the one colour
+//   "Navy" in f and "Red" in g it answers 0, and the new book has the inks "Navy" and "Nav". Slices that are only read
+//   may overlap: the same book may be given twice.
 // - The stack has room for DV_ENOUGH_STACK bytes.
 // With DV_CHECKED defined before this header is included, each call tests null, alignment and overlap by assert, which
 // NDEBUG takes out again.
@@ -35,7 +36,7 @@ extern "C" {
 
 // The version of rules and calls that this header describes, and the call that tells the archive's. A host compares the
 // two before any other call, so that a header and an archive of two versions are noticed.
-#define DV_VERSION 1
+#define DV_VERSION 2
 uint64_t dv_version(void);
 
 // The greatest sizes.
@@ -55,6 +56,9 @@ uint64_t dv_version(void);
 // Enough entries of the work slice and of the tree slice for every sheet.
 #define DV_MOST_WORK 6084
 #define DV_MOST_TREE 574
+
+// Entries of a size card.
+#define DV_CARD_ENTRIES 12
 
 // Entries of the work slice for a sheet of so many rows and columns, from 1 on: one for each of its pieces.
 static inline size_t dv_work_entries(size_t rows, size_t columns)
@@ -84,12 +88,12 @@ enum dv_answer_number {
     DV_TREE_SHORT = 10,     // tree slice shorter than needed
     DV_NOT_DERIVED = 11,    // the start motif does not derive the sheet
     DV_TOO_MANY = 12,       // a combination exceeds 64 colours, 32 motifs or 200 rules
-    DV_OUT_SHORT = 13,      // output slice shorter than the result
+    DV_OUT_SHORT = 13,      // output or card slice shorter than the result
     DV_NO_RULE_FITS = 14    // a guard: the sheet is derived, yet at some node no rule fits; proved never to come
 };
 
 // An answer is number + 2^8 * blamed + 2^12 * place + 2^32 * count; here it is taken apart. The count is the number of
-// bytes that a combination wrote, 0 on refusal and for every other call.
+// bytes that a combination wrote, or of sizes on a card, 0 on refusal and for every other call.
 static inline unsigned dv_number(uint64_t answer) { return (unsigned)(answer & 0xff); }
 static inline unsigned dv_blamed(uint64_t answer) { return (unsigned)(answer >> 8 & 0xf); }
 static inline size_t dv_place(uint64_t answer) { return (size_t)(answer >> 12 & 0xfffff); }
@@ -142,6 +146,18 @@ static inline size_t dv_size_columns(uint64_t size) { return (size_t)(size >> 32
 // works. On 14 these entries are 0. Everything else in work and tree is unchanged.
 uint64_t dv_derive(const uint8_t *book, size_t book_len, const uint8_t *sheet, size_t sheet_len, uint32_t *work,
                    size_t work_len, uint16_t *tree, size_t tree_len);
+
+// Writes the family's size card, for order entry: bit c-1 of entry r-1 is set exactly when the family has some sheet of
+// r rows and c columns, in any of its colours; other bits are clear. Answers, in this order: 1 to 8 blaming 1; 13 where
+// the card slice has fewer than DV_CARD_ENTRIES entries; 0, with the number of sizes as the count, which is that of the
+// set bits. A refusal writes nothing. Everything else in card is unchanged.
+uint64_t dv_size_card(const uint8_t *book, size_t book_len, uint32_t *card, size_t card_len);
+
+// Whether a card has a size, of 1 to DV_MOST_ROWS rows and 1 to DV_MOST_COLUMNS columns.
+static inline int dv_has_size(const uint32_t *card, size_t rows, size_t columns)
+{
+    return (int)(card[rows - 1] >> (columns - 1) & 1);
+}
 
 // The eight combinations. Each answers, in this order: 1 to 8 blaming 1, the first book; 1 to 8 blaming 2, the second;
 // 12; 13; 0. On 0 the first dv_count bytes of out are the new book. Everything else in out is unchanged.
@@ -237,6 +253,13 @@ static inline uint64_t dv_checked_derive(const uint8_t *book, size_t book_len, c
     return dv_derive(book, book_len, sheet, sheet_len, work, work_len, tree, tree_len);
 }
 
+static inline uint64_t dv_checked_size_card(const uint8_t *book, size_t book_len, uint32_t *card, size_t card_len)
+{
+    assert(dv_is_lent(book, book_len, 1) && dv_is_lent(card, card_len, sizeof *card));
+    assert(dv_are_apart(card, card_len * sizeof *card, book, book_len));
+    return dv_size_card(book, book_len, card, card_len);
+}
+
 // The combinations of two books, and those of one, differ in the call alone.
 #define DV_CHECKED_OF_TWO(name)                                                                                        \
     static inline uint64_t dv_checked_##name(const uint8_t *first, size_t first_len, const uint8_t *second,            \
@@ -270,6 +293,7 @@ DV_CHECKED_OF_ONE(transposed)
 #define dv_rule dv_checked_rule
 #define dv_sheet_size dv_checked_sheet_size
 #define dv_derive dv_checked_derive
+#define dv_size_card dv_checked_size_card
 #define dv_either_of dv_checked_either_of
 #define dv_beside dv_checked_beside
 #define dv_above dv_checked_above

@@ -12,5 +12,5 @@ pub mod order;
 pub mod rule;
 mod rules;
 pub mod sheet;
-mod size;
+pub mod size;
 pub mod writing;

@@ -6,10 +6,10 @@ ghost use mathlib.Core.Path.{_≡_};
 ghost use Rattle.books.specs.Size.{sizeAt};
 
 // The greatest number of rows, and of columns.
-pub(crate) const GREATEST: usize = 12;
+pub const GREATEST: usize = 12;
 
 // The cells of a sheet that has both.
-pub(crate) const ROOM: usize = GREATEST * GREATEST;
+pub const ROOM: usize = GREATEST * GREATEST;
 
 // Rows, columns and the place after them, or the fault.
 pub(crate) enum SizeRead {

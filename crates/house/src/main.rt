@@ -2,6 +2,7 @@
 // it, so that it can be held against docs/RULES.md; the file stdout has all of them.
 mod asking;
 mod blanks;
+mod cards;
 mod combining;
 mod lent;
 mod limits;
@@ -31,4 +32,11 @@ fn main() {
     );
     combining::house_combined();
     combining::limits();
+    printing::line(b"Size cards: number, blamed input, place; sizes; the card's rows");
+    cards::of_the_house();
+    printing::line(
+        b"Card slices and refusals: number, blamed input, place; sizes; how much of the slice was written",
+    );
+    cards::of_slices();
+    cards::refusals();
 }

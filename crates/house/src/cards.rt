@@ -1,0 +1,100 @@
+// Size cards: which sizes a family has, of the house book and of its combinations.
+use crate::lent;
+use crate::printing;
+
+// The card of a book in a slice as long as a card: the answer, the number of sizes, and the rows.
+fn card(asked: &[u8], book: &[u8]) {
+    let mut card = [4294967295u32; 12];
+    let packed = sizes::calls::dv_size_card(book, &mut card);
+    printing::answer(asked, packed);
+    printing::figure(b"; ", packed / 4294967296);
+    printing::entries(b";", &card);
+}
+
+// The answer alone, with the number of sizes and how much of the slice was written.
+fn refused(asked: &[u8], book: &[u8], card: &mut [u32]) {
+    let packed = sizes::calls::dv_size_card(book, card);
+    printing::answer(asked, packed);
+    printing::figure(b"; ", packed / 4294967296);
+    printing::figure(b"; ", lent::entries_written(card) as u64);
+    printing::text(b"\n");
+}
+
+fn transposed(house: &[u8]) {
+    let mut out = [255u8; 34];
+    families::calls::dv_transposed(house, &mut out);
+    card(b"transposed", &out);
+}
+
+fn beside(house: &[u8]) {
+    let mut out = [255u8; 52];
+    families::calls::dv_beside(house, house, &mut out);
+    card(b"beside itself", &out);
+}
+
+fn above(house: &[u8]) {
+    let mut out = [255u8; 52];
+    families::calls::dv_above(house, house, &mut out);
+    card(b"above itself", &out);
+}
+
+fn stack(house: &[u8]) {
+    let mut out = [255u8; 46];
+    families::calls::dv_stack(house, &mut out);
+    card(b"stack", &out);
+}
+
+pub(crate) fn of_the_house() {
+    let house =
+        b"\x02\x07Slate C\x07Slate U\x03\x00\x04\x00\x01\x00\x00\x00\x02\x01\x02\x01\x00\x00\x02\x00\x01";
+    card(b"house book", house);
+    transposed(house);
+    beside(house);
+    above(house);
+    stack(house);
+}
+
+pub(crate) fn of_slices() {
+    let house =
+        b"\x02\x07Slate C\x07Slate U\x03\x00\x04\x00\x01\x00\x00\x00\x02\x01\x02\x01\x00\x00\x02\x00\x01";
+    let mut longer = [4294967295u32; 14];
+    refused(b"house book, card slice of 14", house, &mut longer);
+    let mut exact = [4294967295u32; 12];
+    refused(b"house book, card slice of 12", house, &mut exact);
+    let mut short = [4294967295u32; 11];
+    refused(b"house book, card slice of 11", house, &mut short);
+}
+
+fn refusal(asked: &[u8], book: &[u8]) {
+    let mut card = [4294967295u32; 12];
+    refused(asked, book, &mut card);
+}
+
+pub(crate) fn refusals() {
+    refusal(b"empty book", b"");
+    refusal(
+        b"book of 128 0 motifs",
+        b"\x02\x07Slate C\x07Slate U\x80\x00\x00\x04",
+    );
+    refusal(b"book of no colours", b"\x00\x03\x00\x04");
+    refusal(
+        b"book, byte 31 in a name",
+        b"\x02\x07Slate\x1fC\x07Slate U\x03\x00\x04",
+    );
+    refusal(
+        b"book, Slate C twice",
+        b"\x02\x07Slate C\x07Slate C\x03\x00\x04",
+    );
+    refusal(
+        b"book, start motif 3 of 3",
+        b"\x02\x07Slate C\x07Slate U\x03\x03\x04",
+    );
+    refusal(
+        b"book, kind 3",
+        b"\x02\x07Slate C\x07Slate U\x03\x00\x01\x00\x03\x00\x00",
+    );
+    refusal(
+        b"book with a byte more",
+        b"\x02\x07Slate C\x07Slate U\x03\x00\x01\x00\x00\x00\x00",
+    );
+}

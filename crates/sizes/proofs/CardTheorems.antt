@@ -1,0 +1,70 @@
+-- What the call leaves, from the bytes of the lent book to the bits in the slice: where it answers 0, the first numbers of the slice are the size card of the
+-- book's family, and the number of sizes is that of the bits set in them.
+use Prim.Native.Nat.{ℕ, _-_, _/_, _%_, _^_, _≤_}
+use mathlib.Core.Path.{_≡_, sym, ap, _∙_, subst}
+use mathlib.Core.List.{List, _++_}
+use mathlib.Core.Logic.{_↔_}
+use native.Mathlib.Omega.{arith}
+use lib.ListN.{length, getD, take, drop}
+use lib.Seq.{getD-take, take-at, drop-at, length-front, length-take-le}
+use Rattle.books.specs.Book.{bookOf}
+use Rattle.books.specs.Contents.{Contents}
+use Rattle.books.specs.ContentsIn.{contentsIn}
+use Rattle.books.specs.Size.{greatest}
+use Rattle.books.proofs.Packing.{apart}
+use Rattle.pieces.specs.Table.{bit}
+use Rattle.sizes.specs.declared.calls.CardAnswer.{CardAnswer}
+use Rattle.sizes.specs.Promise.{Sized, SizeCard}
+use Rattle.sizes.specs.Card.{card, sizesOf, setBits}
+use Rattle.sizes.specs.Outcome.{Outcome, sizeCard, Answers, Leaves}
+use Rattle.sizes.proofs.Answering.{with-room, card-packs}
+use Rattle.sizes.proofs.CardRight.{card-length, card-right}
+use Rattle.sizes.proofs.Counting.{sizes-counted}
+use Rattle.sizes.proofs.Demand1.{size-card-answered, dv-size-card-answered}
+
+-- the contents of a lent book
+abbrev pub lent : List ℕ → Contents
+lent book = contentsIn book (bookOf book .family)
+
+-- a slice that was left with the card of a family, and the number of its sizes
+pub record CardLeft (b : Contents) (slice left : List ℕ) (count : ℕ) : Type 0 where
+  pub says : SizeCard b greatest (take greatest left)
+  pub set-bits : count ≡ setBits (take greatest left)
+  pub sizes : count ≡ length (sizesOf b greatest)
+  pub beyond : drop greatest left ≡ drop greatest slice
+  pub as-long : length left ≡ length slice
+
+card-left : (b : Contents) (slice left : List ℕ) (count : ℕ) → greatest ≤ length slice → left ≡ card b greatest ++ drop greatest slice
+    → count ≡ length (sizesOf b greatest) → CardLeft b slice left count
+card-left b slice left count room e n =
+    let size = card-length b greatest in
+    let front : take greatest left ≡ card b greatest = ap (take greatest) e ∙ take-at (card b greatest) (drop greatest slice) greatest size in
+    record {
+      says = subst (SizeCard b greatest) (sym front) (card-right b greatest);
+      set-bits = n ∙ sym (sizes-counted b greatest) ∙ ap setBits (sym front);
+      sizes = n;
+      beyond = ap (drop greatest) e ∙ drop-at (card b greatest) (drop greatest slice) greatest size;
+      as-long = ap length e ∙ length-front slice (card b greatest) greatest (size ∙ sym (length-take-le greatest slice room));
+    }
+
+module _ (book slice : List ℕ) where
+  pub size-card-holds : (r : CardAnswer) (left : List ℕ) → Answers (sizeCard book slice) r left → r .answer .number ≡ 0
+      → CardLeft (lent book) slice left (r .sizes)
+  size-card-holds r left a z =
+      let (fine, room) = size-card-answered book slice r left a .zero .0 z in
+      let e = with-room book slice fine room in
+      card-left (lent book) slice left (r .sizes) room (a .leaves ∙ ap (λ (o : Outcome). o .slice) e) (a .counts ∙ ap (λ (o : Outcome). o .sizes) e)
+
+  pub dv-size-card-holds : (r : ℕ) (left : List ℕ) → Leaves (sizeCard book slice) r left → r % 2 ^ 8 ≡ 0
+      → CardLeft (lent book) slice left (r / 2 ^ 32)
+  dv-size-card-holds r left l z =
+      let (fine, room) = dv-size-card-answered book slice r left l .zero .0 z in
+      let e = with-room book slice fine room in
+      let counted : r / 2 ^ 32 ≡ sizeCard book slice .sizes = ap (λ (n : ℕ). n / 2 ^ 32) (l .answers) ∙ apart _ _ (card-packs book slice) .count-is in
+      card-left (lent book) slice left (r / 2 ^ 32) room (l .leaves ∙ ap (λ (o : Outcome). o .slice) e) (counted ∙ ap (λ (o : Outcome). o .sizes) e)
+
+-- Bit by bit: set exactly when the family has a sheet of that size, in any colours.
+pub bit-exactly : (b : Contents) (slice left : List ℕ) (count : ℕ) → CardLeft b slice left count → (r c : ℕ) → 1 ≤ r → r ≤ greatest → 1 ≤ c → c ≤ greatest
+    → (bit (getD left (r - 1) 0) (c - 1) ≡ 1) ↔ Sized b r c
+bit-exactly b slice left count l r c hr kr hc kc =
+    rw (getD-take greatest left (r - 1) 0 (omega arith)) at (l .says .says r c hr kr hc kc)

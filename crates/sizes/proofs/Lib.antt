@@ -1,0 +1,17 @@
+pub mod Gluing
+pub mod SizesOfSheets
+pub mod Testing
+pub mod Listing
+pub mod Counting
+pub mod CardRight
+pub mod Laying
+pub mod Firing
+pub mod Slots
+pub mod EntriesRight
+pub mod Painters
+pub mod Filling
+pub mod CardRows
+pub mod Answering
+pub mod Demand1
+pub mod CardTheorems
+pub mod Settled

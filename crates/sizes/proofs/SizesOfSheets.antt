@@ -1,0 +1,62 @@
+-- A motif has a size exactly when it derives some picture of that size, whatever the size: a derivation keeps its cuts when the colours are forgotten, and
+-- where sizes join, pictures of those sizes are glued together.
+use Prim.Native.Nat.{ℕ}
+use mathlib.Core.Path.{refl, sym, _∙_}
+use mathlib.Core.Logic.{_↔_}
+use native.Mathlib.Omega.{arith}
+use Rattle.books.specs.Contents.{Contents, Has, name}
+use Rattle.books.specs.Picture.{Picture, Dir, across, down, joins}
+use Rattle.books.specs.Derives.{Derives, paint, join}
+use Rattle.books.proofs.NothingEmpty.{derives-size}
+use Rattle.books.proofs.SamePictures.{derives-same}
+use Rattle.sizes.specs.Size.{Size, by}
+use Rattle.sizes.specs.HasSize.{HasSize, cell, join as join-sizes}
+use Rattle.sizes.specs.Promise.{SomeSheet}
+use Rattle.sizes.proofs.Gluing.{glued, Level, glued-first, glued-rest}
+
+-- ---- the colours forgotten
+
+derived-size : {b : Contents} {a : ℕ} {p : Picture} → Derives b a p → HasSize b a (by (p .rows) (p .cols))
+derived-size (paint c h hr hc e) = cell c h (e .0) hr hc
+derived-size (join across l r k h hk hs x y) = join-sizes across l r k h hk hs (derived-size x) (derived-size y)
+derived-size (join down l r k h hk hs x y) = join-sizes down l r k h hk hs (derived-size x) (derived-size y)
+
+-- ---- pictures glued
+
+glued-derived : {b : Contents} {a : ℕ} (d : Dir) (l r : ℕ) (p q : Picture) → Has b a (joins d l r) → Level d p q
+    → Derives b l p → Derives b r q → Derives b a (glued d p q)
+glued-derived across l r p q h e x y =
+    join {p = glued across p q} across l r (p .cols) h (derives-size across x) (omega (arith, derives-size across y))
+    (derives-same (glued-first across p q) x) (derives-same (glued-rest across p q e) y)
+glued-derived down l r p q h e x y =
+    join {p = glued down p q} down l r (p .rows) h (derives-size down x) (omega (arith, derives-size down y))
+    (derives-same (glued-first down p q) x) (derives-same (glued-rest down p q e) y)
+
+size-derived : {b : Contents} {a : ℕ} {s : Size} → HasSize b a s → SomeSheet b a (s .rows) (s .cols)
+size-derived {b = b} (cell c h fits hr hc) =
+    let one : Picture = record { rows = 1; cols = 1; cell = λ _ _. name b c } in
+    record { sheet = one; derived = paint {p = one} c h refl refl (fits, refl); rows-are = sym hr; cols-are = sym hc }
+size-derived (join-sizes across l r k h hk hs x y) =
+    let u = size-derived x in
+    let v = size-derived y in
+    record {
+      sheet = glued across (u .sheet) (v .sheet);
+      derived = glued-derived across l r (u .sheet) (v .sheet) h (v .rows-are ∙ sym (u .rows-are)) (u .derived) (v .derived);
+      rows-are = u .rows-are;
+      cols-are = omega (arith, u .cols-are, v .cols-are);
+    }
+size-derived (join-sizes down l r k h hk hs x y) =
+    let u = size-derived x in
+    let v = size-derived y in
+    record {
+      sheet = glued down (u .sheet) (v .sheet);
+      derived = glued-derived down l r (u .sheet) (v .sheet) h (v .cols-are ∙ sym (u .cols-are)) (u .derived) (v .derived);
+      rows-are = omega (arith, u .rows-are, v .rows-are);
+      cols-are = u .cols-are;
+    }
+
+pub sizes-of-sheets : (b : Contents) (a r c : ℕ) → HasSize b a (by r c) ↔ SomeSheet b a r c
+sizes-of-sheets b a r c = (
+  size-derived,
+  λ x. rw (← x .rows-are, ← x .cols-are) (derived-size (x .derived)),
+)

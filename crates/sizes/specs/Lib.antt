@@ -1,0 +1,7 @@
+pub mod Size
+pub mod HasSize
+pub mod Promise
+pub mod Test
+pub mod Card
+pub mod Outcome
+pub mod inner

@@ -1,0 +1,48 @@
+-- What the call answers and leaves, from the bytes of the lent book and the entries of the lent card slice.
+use Prim.Native.Nat.{ℕ}
+use mathlib.Core.Path.{_≡_}
+use mathlib.Core.List.{List, _++_}
+use lib.Dec.{eqb, ltb}
+use lib.ListN.{length, drop}
+use Rattle.names.specs.Pick.{pick}
+use Rattle.books.specs.Answer.{plain, blaming, packed}
+use Rattle.books.specs.Book.{bookOf}
+use Rattle.books.specs.Contents.{Contents}
+use Rattle.books.specs.ContentsIn.{contentsIn}
+use Rattle.books.specs.Size.{greatest}
+use Rattle.books.specs.declared.answer.Answer.{Answer}
+use Rattle.sizes.specs.declared.calls.CardAnswer.{CardAnswer}
+use Rattle.sizes.specs.Card.{card, sizesOf}
+
+-- the answer, the number of sizes, and the card slice
+pub record Outcome : Type 0 where
+  pub answer : Answer
+  pub sizes : ℕ
+  pub slice : List ℕ
+
+-- a refusal writes nothing, and the number of sizes is 0
+abbrev pub refused : Answer → List ℕ → Outcome
+refused a slice = record { answer = a; sizes = 0; slice = slice }
+
+-- the card of a family stands at the front of the slice, and the slice beyond is as it was
+abbrev pub carded : Contents → List ℕ → Outcome
+carded b slice = record { answer = plain 0; sizes = length (sizesOf b greatest); slice = card b greatest ++ drop greatest slice }
+
+-- 13 where the slice is shorter than the card
+unfoldable pub roomed : Contents → List ℕ → Outcome
+roomed b slice = pick (ltb (length slice) greatest) (refused (plain 13) slice) (carded b slice)
+
+unfoldable pub sizeCard : List ℕ → List ℕ → Outcome
+sizeCard book slice =
+    pick (eqb (bookOf book .fault .number) 0) (roomed (contentsIn book (bookOf book .family)) slice) (refused (blaming 1 (bookOf book .fault)) slice)
+
+-- what the call answers, and the slice as it leaves it, are those of an outcome
+pub record Answers (o : Outcome) (r : CardAnswer) (slice : List ℕ) : Type 0 where
+  pub answers : r .answer ≡ o .answer
+  pub counts : r .sizes ≡ o .sizes
+  pub leaves : slice ≡ o .slice
+
+-- the same of the number that a C host gets
+pub record Leaves (o : Outcome) (r : ℕ) (slice : List ℕ) : Type 0 where
+  pub answers : r ≡ packed (o .answer) (o .sizes)
+  pub leaves : slice ≡ o .slice
