@@ -250,7 +250,7 @@ static void stem_palette(struct palette *palette)
     }
 }
 
-// A work slice one short, so that a derivation ends when it has read both.
+// A work slice one short, so that a derivation ends when it has read both and found the sheet's colours in the book.
 static void measure_stems(void)
 {
     struct family family = {.motifs = 1, .start = 0};
@@ -268,7 +268,11 @@ static void measure_stems(void)
     task.call = read_sheet;
     print_figures("reading a sheet, 144 cells in 64 such colours", &task, measure(&task));
     task.call = derive;
-    print_figures("both read by a derivation that answers 9", &task, measure(&task));
+    print_figures("reading both and numbering the cells by the book", &task, measure(&task));
+    task.call = make;
+    task.combination = BESIDE;
+    task.second = task.first;
+    print_figures("dv_beside of two such books", &task, measure(&task));
 }
 
 // Each combination on the largest books that it takes; the one that takes the library longest is shown.

@@ -6,12 +6,8 @@
 
 #include "independent_joins.h"
 
-// A sheet under a book.
 struct job {
-    struct book book;
-    struct sheet sheet;
-    // The book's number of each colour of the sheet, or its count of colours where it has none of that name.
-    uint8_t colour[64];
+    struct order order;
     // The slot of the first piece of each height and width.
     unsigned slot[13][13];
     const uint32_t *table;
@@ -19,43 +15,37 @@ struct job {
     uint16_t *tree;
 };
 
-static void match_colours(struct job *job)
-{
-    for (unsigned i = 0; i < job->sheet.colours.count; i++)
-        job->colour[i] = (uint8_t)independent_colour_named(&job->book.colours, job->sheet.colours.name[i]);
-}
-
 static void number_slots(struct job *job)
 {
     unsigned next = 0;
-    for (unsigned height = 1; height <= job->sheet.rows; height++)
-        for (unsigned width = 1; width <= job->sheet.columns; width++) {
+    for (unsigned height = 1; height <= job->order.sheet.rows; height++)
+        for (unsigned width = 1; width <= job->order.sheet.columns; width++) {
             job->slot[height][width] = next;
-            next += (job->sheet.rows - height + 1) * (job->sheet.columns - width + 1);
+            next += (job->order.sheet.rows - height + 1) * (job->order.sheet.columns - width + 1);
         }
 }
 
 static inline uint32_t entry(const struct job *job, unsigned height, unsigned width, unsigned top, unsigned left)
 {
-    return job->table[job->slot[height][width] + top * (job->sheet.columns - width + 1) + left];
+    return job->table[job->slot[height][width] + top * (job->order.sheet.columns - width + 1) + left];
 }
 
 static void fill_cells(const struct job *job, uint32_t *table)
 {
     uint32_t heads[65] = {0};
-    for (unsigned i = 0; i < job->book.rules; i++)
-        if (job->book.rule[i].kind == KIND_COLOUR)
-            heads[job->book.rule[i].first] |= UINT32_C(1) << job->book.rule[i].head;
-    for (unsigned i = 0; i < job->sheet.rows * job->sheet.columns; i++)
-        table[i] = heads[job->colour[job->sheet.cell[i]]];
+    for (unsigned i = 0; i < job->order.book.rules; i++)
+        if (job->order.book.rule[i].kind == KIND_COLOUR)
+            heads[job->order.book.rule[i].first] |= UINT32_C(1) << job->order.book.rule[i].head;
+    for (unsigned i = 0; i < job->order.sheet.rows * job->order.sheet.columns; i++)
+        table[i] = heads[job->order.colour[job->order.sheet.cell[i]]];
 }
 
 static void fill(struct job *job, uint32_t *table)
 {
-    unsigned rows = job->sheet.rows, columns = job->sheet.columns;
+    unsigned rows = job->order.sheet.rows, columns = job->order.sheet.columns;
     struct joins across, down;
-    split(&job->book, KIND_ACROSS, &across);
-    split(&job->book, KIND_DOWN, &down);
+    split(&job->order.book, KIND_ACROSS, &across);
+    split(&job->order.book, KIND_DOWN, &down);
     fill_cells(job, table);
     job->table = table;
     // Pieces go by slot, so the parts of a piece are there before it.
@@ -99,14 +89,15 @@ static unsigned smallest_cut(const struct job *job, struct rule rule, unsigned h
 static bool is_cell(const struct job *job, unsigned colour, unsigned height, unsigned width, unsigned top,
                     unsigned left)
 {
-    return height == 1 && width == 1 && job->colour[job->sheet.cell[top * job->sheet.columns + left]] == colour;
+    return height == 1 && width == 1 &&
+           job->order.colour[job->order.sheet.cell[top * job->order.sheet.columns + left]] == colour;
 }
 
 // Writes the node of a piece and its motif, then its parts. False where no rule fits.
 static bool write_node(struct job *job, unsigned motif, unsigned height, unsigned width, unsigned top, unsigned left)
 {
-    for (unsigned i = 0; i < job->book.rules; i++) {
-        struct rule rule = job->book.rule[i];
+    for (unsigned i = 0; i < job->order.book.rules; i++) {
+        struct rule rule = job->order.book.rule[i];
         if (rule.head != motif)
             continue;
         bool colour = rule.kind == KIND_COLOUR;
@@ -130,24 +121,21 @@ uint64_t independent_derive(const uint8_t *book, size_t book_len, const uint8_t 
                             uint32_t *work, size_t work_len, uint16_t *tree, size_t tree_len)
 {
     struct job job;
-    uint64_t refusal = independent_book_of(&job.book, book, book_len, 1);
-    if (refusal == 0)
-        refusal = independent_sheet_of(&job.sheet, sheet, sheet_len, 2);
+    uint64_t refusal = independent_order_of(&job.order, book, book_len, sheet, sheet_len);
     if (refusal != 0)
         return refusal;
-    unsigned m = job.sheet.rows, n = job.sheet.columns;
+    unsigned m = job.order.sheet.rows, n = job.order.sheet.columns;
     size_t numbers = 2 * (2 * m * n - 1);
     if (work_len < m * (m + 1) / 2 * (n * (n + 1) / 2))
         return independent_answer(9, 0, 0);
     if (tree_len < numbers)
         return independent_answer(10, 0, 0);
-    match_colours(&job);
     number_slots(&job);
     fill(&job, work);
-    if (!has(&job, job.book.start, m, n, 0, 0))
+    if (!has(&job, job.order.book.start, m, n, 0, 0))
         return independent_answer(11, 0, 0);
     job.tree = tree;
-    if (!write_node(&job, job.book.start, m, n, 0, 0)) {
+    if (!write_node(&job, job.order.book.start, m, n, 0, 0)) {
         memset(tree, 0, numbers * sizeof *tree);
         return independent_answer(14, 0, 0);
     }

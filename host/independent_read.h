@@ -37,6 +37,14 @@ struct sheet {
     uint8_t cell[12 * 12];
 };
 
+// A sheet under a book.
+struct order {
+    struct book book;
+    struct sheet sheet;
+    // The book's number of each colour of the sheet, or its count of colours where it has none of that name.
+    uint8_t colour[64];
+};
+
 // An answer with no count.
 uint64_t independent_answer(unsigned number, unsigned blamed, size_t place);
 
@@ -46,5 +54,9 @@ unsigned independent_colour_named(const struct colours *colours, struct name nam
 // Each reads its input whole and answers 0, or 1 to 8 blaming the input of that number.
 uint64_t independent_book_of(struct book *book, const uint8_t *bytes, size_t length, unsigned blamed);
 uint64_t independent_sheet_of(struct sheet *sheet, const uint8_t *bytes, size_t length, unsigned blamed);
+
+// Reads both, the book as the first input and the sheet as the second, and finds the sheet's colours in the book.
+uint64_t independent_order_of(struct order *order, const uint8_t *book, size_t book_len, const uint8_t *sheet,
+                              size_t sheet_len);
 
 #endif

@@ -36,7 +36,7 @@ extern "C" {
 
 // The version of rules and calls that this header describes, and the call that tells the archive's. A host compares the
 // two before any other call, so that a header and an archive of two versions are noticed.
-#define DV_VERSION 2
+#define DV_VERSION 3
 uint64_t dv_version(void);
 
 // The greatest sizes.

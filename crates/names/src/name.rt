@@ -59,19 +59,19 @@ pub fn read_name(s: &[u8], len: usize) -> NameRead
     NameRead::Whole
 }
 
-// Whether two names are the same, byte for byte.
+// Whether two names are the same, byte for byte: from the back, since names that share a long stem part in their last letters.
 fn same_bytes(a: &[u8], b: &[u8]) -> bool
     ensures { λ r. ⌜ r ≡ sameName (now (a .entry)) (now (b .entry)) ⌝ }
 {
     if a.len() != b.len() {
         return false;
     }
-    let mut i = 0;
-    while i < a.len() {
+    let mut i = a.len();
+    while 0 < i {
+        i -= 1;
         if a[i] != b[i] {
             return false;
         }
-        i += 1;
     }
     true
 }
