@@ -18,7 +18,7 @@ add-t14 c =
     let start = r .before .before .before .before in
     let s = now (start .args .s) in
     let text = now (t .tail .result) in
-    let g = number-in s _ 1 40 _ _ (sym (r .before .before .read-in .ensures) ∙ r .r2 .given .1) in
+    let g = number-in s _ _ _ _ _ (sym (r .before .before .read-in .ensures) ∙ r .r2 .given .1) in
     let b = name-bad text _ _ (sym (c .before .before .before .read-name .ensures) ∙ c .before .n .given .1) in
     let l : length text ≡ length s - r .r2 .given .0 .1 .0 = ap length (t .tail .ensures .holds) ∙ length-drop _ s in
     omega (arith, start .good)
