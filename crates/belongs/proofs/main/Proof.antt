@@ -13,7 +13,9 @@ slice-aggregate-derive c =
     sym (length-take-le (l .result) (l .last .1 .0) (omega (arith, l .ensures, l .kept .1 .0)))
 
 slice-aggregate-derive-2 : tie.Need-slice-aggregate-derive-2
-slice-aggregate-derive-2 c = sym (length-take-le (c .before .before .before .load2 .result) (c .before .before .before .load2 .last .1 .0) (omega (arith, c .before .before .before .load2 .ensures, c .before .before .before .load2 .kept .1 .0)))
+slice-aggregate-derive-2 c =
+    let l = c .before .before .before .load2 in
+    sym (length-take-le (l .result) (l .last .1 .0) (omega (arith, l .ensures, l .kept .1 .0)))
 
 slice-aggregate-nodes : tie.Need-slice-aggregate-nodes
 slice-aggregate-nodes c =
