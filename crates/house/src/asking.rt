@@ -1,5 +1,7 @@
 // A book asked for a sheet, and the house book asked for the sheets of docs/RULES.md.
 use crate::lent;
+use crate::lists;
+use crate::lists::Kind;
 use crate::printing;
 
 // Asks the book for the sheet with slices lent, and prints the answer and how much of each slice was written.
@@ -18,7 +20,7 @@ pub(crate) fn ask_with_room(asked: &[u8], book: &[u8], sheet: &[u8]) {
 }
 
 // The house book asked for a sheet.
-pub(crate) fn house(asked: &[u8], sheet: &[u8]) {
+pub(crate) fn sheet(asked: &[u8], sheet: &[u8]) {
     ask_with_room(
         asked,
         b"\x02\x07Slate C\x07Slate U\x03\x00\x04\x00\x01\x00\x00\x00\x02\x01\x02\x01\x00\x00\x02\x00\x01",
@@ -26,30 +28,24 @@ pub(crate) fn house(asked: &[u8], sheet: &[u8]) {
     );
 }
 
-pub(crate) fn house_sheets() {
-    house(
-        b"sheet A",
+// A book asked for sheet A.
+pub(crate) fn book(asked: &[u8], book: &[u8]) {
+    ask_with_room(
+        asked,
+        book,
         b"\x02\x07Slate C\x07Slate U\x02\x03\x00\x00\x00\x01\x01\x01",
     );
-    house(
-        b"sheet A, colours listed in the other order",
-        b"\x02\x07Slate U\x07Slate C\x02\x03\x01\x01\x01\x00\x00\x00",
-    );
-    house(
-        b"sheet A with Slate for Slate C",
-        b"\x02\x05Slate\x07Slate U\x02\x03\x00\x00\x00\x01\x01\x01",
-    );
-    house(
-        b"1 by 1, Slate C",
-        b"\x02\x07Slate C\x07Slate U\x01\x01\x00",
-    );
-    house(
-        b"2 by 1, Slate C over Slate U",
-        b"\x02\x07Slate C\x07Slate U\x02\x01\x00\x01",
-    );
-    house(
-        b"2 by 1, Slate U over Slate C",
-        b"\x02\x07Slate C\x07Slate U\x02\x01\x01\x00",
+}
+
+pub(crate) fn house_sheets() {
+    lists::each(
+        Kind::Sheet,
+        b"\x07sheet A\x19\x02\x07Slate C\x07Slate U\x02\x03\x00\x00\x00\x01\x01\x01\
+          \x2asheet A, colours listed in the other order\x19\x02\x07Slate U\x07Slate C\x02\x03\x01\x01\x01\x00\x00\x00\
+          \x1esheet A with Slate for Slate C\x17\x02\x05Slate\x07Slate U\x02\x03\x00\x00\x00\x01\x01\x01\
+          \x0f1 by 1, Slate C\x14\x02\x07Slate C\x07Slate U\x01\x01\x00\
+          \x1c2 by 1, Slate C over Slate U\x15\x02\x07Slate C\x07Slate U\x02\x01\x00\x01\
+          \x1c2 by 1, Slate U over Slate C\x15\x02\x07Slate C\x07Slate U\x02\x01\x01\x00",
     );
 }
 

@@ -1,5 +1,7 @@
 // Size cards: which sizes a family has, of the house book and of its combinations.
 use crate::lent;
+use crate::lists;
+use crate::lists::Kind;
 use crate::printing;
 
 // The card of a book in a slice as long as a card: the answer, the number of sizes, and the rows.
@@ -65,36 +67,21 @@ pub(crate) fn of_slices() {
     refused(b"house book, card slice of 11", house, &mut short);
 }
 
-fn refusal(asked: &[u8], book: &[u8]) {
+pub(crate) fn refusal(asked: &[u8], book: &[u8]) {
     let mut card = [4294967295u32; 12];
     refused(asked, book, &mut card);
 }
 
 pub(crate) fn refusals() {
-    refusal(b"empty book", b"");
-    refusal(
-        b"book of 128 0 motifs",
-        b"\x02\x07Slate C\x07Slate U\x80\x00\x00\x04",
-    );
-    refusal(b"book of no colours", b"\x00\x03\x00\x04");
-    refusal(
-        b"book, byte 31 in a name",
-        b"\x02\x07Slate\x1fC\x07Slate U\x03\x00\x04",
-    );
-    refusal(
-        b"book, Slate C twice",
-        b"\x02\x07Slate C\x07Slate C\x03\x00\x04",
-    );
-    refusal(
-        b"book, start motif 3 of 3",
-        b"\x02\x07Slate C\x07Slate U\x03\x03\x04",
-    );
-    refusal(
-        b"book, kind 3",
-        b"\x02\x07Slate C\x07Slate U\x03\x00\x01\x00\x03\x00\x00",
-    );
-    refusal(
-        b"book with a byte more",
-        b"\x02\x07Slate C\x07Slate U\x03\x00\x01\x00\x00\x00\x00",
+    lists::each(
+        Kind::Card,
+        b"\x0aempty book\x00\
+          \x14book of 128 0 motifs\x15\x02\x07Slate C\x07Slate U\x80\x00\x00\x04\
+          \x12book of no colours\x04\x00\x03\x00\x04\
+          \x17book, byte 31 in a name\x14\x02\x07Slate\x1fC\x07Slate U\x03\x00\x04\
+          \x13book, Slate C twice\x14\x02\x07Slate C\x07Slate C\x03\x00\x04\
+          \x18book, start motif 3 of 3\x14\x02\x07Slate C\x07Slate U\x03\x03\x04\
+          \x0cbook, kind 3\x18\x02\x07Slate C\x07Slate U\x03\x00\x01\x00\x03\x00\x00\
+          \x15book with a byte more\x18\x02\x07Slate C\x07Slate U\x03\x00\x01\x00\x00\x00\x00",
     );
 }

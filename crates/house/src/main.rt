@@ -6,8 +6,10 @@ mod cards;
 mod combining;
 mod lent;
 mod limits;
+mod lists;
 mod palindromes;
 mod printing;
+mod reading;
 mod refusals;
 mod slices;
 
@@ -18,9 +20,7 @@ fn main() {
     asking::house_sheets();
     asking::house_colours();
     slices::run();
-    refusals::in_the_colours_of_a_book();
-    refusals::in_the_figures_of_a_book();
-    refusals::in_the_rules_of_a_book();
+    refusals::in_a_book();
     refusals::in_a_sheet();
     blanks::in_a_book();
     blanks::in_a_sheet();

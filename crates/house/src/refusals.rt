@@ -1,115 +1,41 @@
 // Each refusal at its place, in a book and in a sheet. The faulty inputs are the house book and sheet A with one thing changed.
-use crate::asking;
+use crate::lists;
+use crate::lists::Kind;
 
-// A book asked for sheet A.
-fn book(asked: &[u8], bytes: &[u8]) {
-    asking::ask_with_room(
-        asked,
-        bytes,
-        b"\x02\x07Slate C\x07Slate U\x02\x03\x00\x00\x00\x01\x01\x01",
-    );
-}
-
-pub(crate) fn in_the_colours_of_a_book() {
-    book(b"empty book", b"");
-    book(b"book of no colours", b"\x00\x03\x00\x04");
-    book(
-        b"book of 65 colours",
-        b"\x41\x07Slate C\x07Slate U\x03\x00\x04",
-    );
-    book(
-        b"book, byte 31 in a name",
-        b"\x02\x07Slate\x1fC\x07Slate U\x03\x00\x04",
-    );
-    book(
-        b"book, byte 127 in a name",
-        b"\x02\x07Slate\x7fC\x07Slate U\x03\x00\x04",
-    );
-    book(
-        b"book, Slate C twice",
-        b"\x02\x07Slate C\x07Slate C\x03\x00\x04",
-    );
-}
-
-pub(crate) fn in_the_figures_of_a_book() {
-    book(
-        b"book of 128 0 motifs",
-        b"\x02\x07Slate C\x07Slate U\x80\x00\x00\x04",
-    );
-    book(
-        b"book of 129 128 motifs",
-        b"\x02\x07Slate C\x07Slate U\x81\x80\x00\x04",
-    );
-    book(
-        b"book of no motifs",
-        b"\x02\x07Slate C\x07Slate U\x00\x00\x04",
-    );
-    book(
-        b"book of 33 motifs",
-        b"\x02\x07Slate C\x07Slate U\x21\x00\x04",
-    );
-    book(
-        b"book, start motif 3 of 3",
-        b"\x02\x07Slate C\x07Slate U\x03\x03\x04",
-    );
-}
-
-pub(crate) fn in_the_rules_of_a_book() {
-    book(
-        b"book, head 3 of 3",
-        b"\x02\x07Slate C\x07Slate U\x03\x00\x01\x03\x00\x00",
-    );
-    book(
-        b"book, kind 3",
-        b"\x02\x07Slate C\x07Slate U\x03\x00\x01\x00\x03\x00\x00",
-    );
-    book(
-        b"book, colour 2 of 2",
-        b"\x02\x07Slate C\x07Slate U\x03\x00\x01\x00\x00\x02",
-    );
-    book(
-        b"book, lower motif 3 of 3",
-        b"\x02\x07Slate C\x07Slate U\x03\x00\x01\x00\x02\x00\x03",
-    );
-    book(
-        b"book without its last byte",
-        b"\x02\x07Slate C\x07Slate U\x03\x00\x04\x00\x01\x00\x00\x00\x02\x01\x02\x01\x00\x00\x02\x00",
-    );
-    book(
-        b"book with a byte more",
-        b"\x02\x07Slate C\x07Slate U\x03\x00\x04\x00\x01\x00\x00\x00\x02\x01\x02\x01\x00\x00\x02\x00\x01\x00",
+pub(crate) fn in_a_book() {
+    lists::each(
+        Kind::Book,
+        b"\x0aempty book\x00\
+          \x12book of no colours\x04\x00\x03\x00\x04\
+          \x12book of 65 colours\x14A\x07Slate C\x07Slate U\x03\x00\x04\
+          \x17book, byte 31 in a name\x14\x02\x07Slate\x1fC\x07Slate U\x03\x00\x04\
+          \x18book, byte 127 in a name\x14\x02\x07Slate\x7fC\x07Slate U\x03\x00\x04\
+          \x13book, Slate C twice\x14\x02\x07Slate C\x07Slate C\x03\x00\x04\
+          \x14book of 128 0 motifs\x15\x02\x07Slate C\x07Slate U\x80\x00\x00\x04\
+          \x16book of 129 128 motifs\x15\x02\x07Slate C\x07Slate U\x81\x80\x00\x04\
+          \x11book of no motifs\x14\x02\x07Slate C\x07Slate U\x00\x00\x04\
+          \x11book of 33 motifs\x14\x02\x07Slate C\x07Slate U!\x00\x04\
+          \x18book, start motif 3 of 3\x14\x02\x07Slate C\x07Slate U\x03\x03\x04\
+          \x11book, head 3 of 3\x17\x02\x07Slate C\x07Slate U\x03\x00\x01\x03\x00\x00\
+          \x0cbook, kind 3\x18\x02\x07Slate C\x07Slate U\x03\x00\x01\x00\x03\x00\x00\
+          \x13book, colour 2 of 2\x17\x02\x07Slate C\x07Slate U\x03\x00\x01\x00\x00\x02\
+          \x18book, lower motif 3 of 3\x18\x02\x07Slate C\x07Slate U\x03\x00\x01\x00\x02\x00\x03\
+          \x1abook without its last byte\x21\x02\x07Slate C\x07Slate U\x03\x00\x04\x00\x01\x00\x00\x00\x02\x01\x02\x01\x00\x00\x02\x00\
+          \x15book with a byte more\x23\x02\x07Slate C\x07Slate U\x03\x00\x04\x00\x01\x00\x00\x00\x02\x01\x02\x01\x00\x00\x02\x00\x01\x00",
     );
 }
 
 pub(crate) fn in_a_sheet() {
-    asking::house(b"empty sheet", b"");
-    asking::house(
-        b"sheet without its last byte",
-        b"\x02\x07Slate C\x07Slate U\x02\x03\x00\x00\x00\x01\x01",
-    );
-    asking::house(
-        b"sheet of 130 0 rows",
-        b"\x02\x07Slate C\x07Slate U\x82\x00\x03",
-    );
-    asking::house(b"sheet of no rows", b"\x02\x07Slate C\x07Slate U\x00\x03");
-    asking::house(
-        b"sheet of 13 columns",
-        b"\x02\x07Slate C\x07Slate U\x02\x0d",
-    );
-    asking::house(
-        b"sheet, byte 31 in a name",
-        b"\x02\x07Slate\x1fC\x07Slate U\x02\x03",
-    );
-    asking::house(
-        b"sheet, Slate C twice",
-        b"\x02\x07Slate C\x07Slate C\x02\x03",
-    );
-    asking::house(
-        b"sheet, a cell of colour 2 of 2",
-        b"\x02\x07Slate C\x07Slate U\x02\x03\x00\x00\x00\x01\x01\x02",
-    );
-    asking::house(
-        b"sheet with a byte more",
-        b"\x02\x07Slate C\x07Slate U\x02\x03\x00\x00\x00\x01\x01\x01\x00",
+    lists::each(
+        Kind::Sheet,
+        b"\x0bempty sheet\x00\
+          \x1bsheet without its last byte\x18\x02\x07Slate C\x07Slate U\x02\x03\x00\x00\x00\x01\x01\
+          \x13sheet of 130 0 rows\x14\x02\x07Slate C\x07Slate U\x82\x00\x03\
+          \x10sheet of no rows\x13\x02\x07Slate C\x07Slate U\x00\x03\
+          \x13sheet of 13 columns\x13\x02\x07Slate C\x07Slate U\x02\x0d\
+          \x18sheet, byte 31 in a name\x13\x02\x07Slate\x1fC\x07Slate U\x02\x03\
+          \x14sheet, Slate C twice\x13\x02\x07Slate C\x07Slate C\x02\x03\
+          \x1esheet, a cell of colour 2 of 2\x19\x02\x07Slate C\x07Slate U\x02\x03\x00\x00\x00\x01\x01\x02\
+          \x16sheet with a byte more\x1a\x02\x07Slate C\x07Slate U\x02\x03\x00\x00\x00\x01\x01\x01\x00",
     );
 }
