@@ -6,27 +6,30 @@ use mathlib.Core.List.{List, [], _∷_, map, _++_, map-append, append-assoc}
 use mathlib.Core.Logic.{_⊎_, inl, inr, ⊎-elim}
 use native.Mathlib.Numerals.{add-one}
 use native.Mathlib.Omega.{arith}
-use borrow.Author.Tests.{eqb-true, eqb-false, eq-eqb, ne-eqb}
-use lib.Dec.{eqb}
-use lib.ListN.{length, getD, take, drop, set, length-append, length-drop, length-map, List·getD-append}
+use borrow.Author.Tests.{eqb-true, eqb-false, eq-eqb, ne-eqb, ltb-false, le-ltb}
+use lib.Dec.{eqb, ltb}
+use lib.ListN.{length, getD, getD-replicate, take, drop, set, length-append, length-drop, length-map, List·getD-append}
 use lib.Seq.{length-take-le, take-suc, drop-cons, set-at, getD-take}
+use Rattle.names.specs.Colours.{nameIn}
 use Rattle.names.specs.declared.number.Fault.{Fault}
 use Rattle.names.specs.declared.colours.Colours.{Colours}
+use Rattle.names.proofs.Finding.{find-few}
 use Rattle.names.proofs.Picking.{pick-ind}
 use Rattle.names.proofs.Tests.{true-or-false}
 use Rattle.books.specs.Answer.{plain, answer, blaming}
 use Rattle.books.specs.Book.{bookOf}
 use Rattle.books.specs.Cells.{noCells}
-use Rattle.books.specs.Order.{numberOf, numbersOf, firstFault, orderOf}
+use Rattle.books.specs.Order.{numberOf, numbersOf, numbersFor, firstFault, numberedSheet, orderOf}
 use Rattle.books.specs.Sheet.{sheetOf}
 use Rattle.books.specs.inner.Key.{CellsFit}
 use Rattle.books.specs.Size.{room}
 use Rattle.books.specs.declared.answer.Answer.{Answer}
 use Rattle.books.specs.declared.book.BookRead.{BookRead}
+use Rattle.books.specs.declared.order.NumberedSheet.{NumberedSheet}
 use Rattle.books.specs.declared.order.Order.{Order}
 use Rattle.books.specs.declared.sheet.Sheet.{Sheet}
 use Rattle.books.specs.declared.sheet.SheetRead.{SheetRead}
-use Rattle.books.proofs.ReadingBooks.{book-lies, book-refused}
+use Rattle.books.proofs.ReadingBooks.{book-lies, book-refused, book-places}
 use Rattle.books.proofs.ReadingSheets.{sheet-lies, sheet-refused}
 
 -- ── The answer ──
@@ -140,17 +143,56 @@ sheet-cells s =
     (record { colours-few = omega arith; area-few = omega arith; cells-all = refl; cells-fit = λ i h. absurd (omega arith) }))
     (true-or-false (eqb (sheetOf s .fault .number) 0))
 
--- an order is made of a book and a sheet that were read, of the first fault and of the cells' numbers
-pub order-made : (book sheet : List ℕ) (b : BookRead) (s : SheetRead) (a : Answer) (cells : List ℕ) → b ≡ bookOf book → s ≡ sheetOf sheet
-    → a ≡ firstFault (b .fault) (s .fault) → cells ≡ numbersOf book (b .family .colours) sheet (s .sheet)
+-- ── What is made of what was read ──
+
+-- by at most 64 colours the cells are numbered
+pub numbers-for : (book : List ℕ) (c : Colours) (sheet : List ℕ) (g : Sheet) → c .count ≤ 64 → numbersFor book c sheet g ≡ numbersOf book c sheet g
+numbers-for book c sheet g few = rw (le-ltb 64 (c .count) few)
+
+-- a numbered sheet is made of a sheet that was read and of its cells' numbers
+pub sheet-made : (book : List ℕ) (c : Colours) (sheet : List ℕ) (s : SheetRead) (cells : List ℕ) → s ≡ sheetOf sheet → cells ≡ numbersFor book c sheet (s .sheet)
+    → _≡_ {A = NumberedSheet} (record { fault = s .fault; rows = s .sheet .rows; cols = s .sheet .cols; cells = cells }) (numberedSheet book c sheet)
+unfolding numberedSheet
+sheet-made book c sheet s cells seen numbered = rw (numbered, seen)
+
+-- an order is made of a book and a numbered sheet that were read, and of the first fault
+pub order-made : (book sheet : List ℕ) (b : BookRead) (s : NumberedSheet) (a : Answer) → b ≡ bookOf book → s ≡ numberedSheet book (b .family .colours) sheet
+    → a ≡ firstFault (b .fault) (s .fault)
     → _≡_ {A = Order} (record {
       answer = a;
       rules = b .family .rules;
       count = b .family .count;
       start = b .family .start;
-      rows = s .sheet .rows;
-      cols = s .sheet .cols;
-      cells = cells;
+      rows = s .rows;
+      cols = s .cols;
+      cells = s .cells;
     }) (orderOf book sheet)
-unfolding orderOf
-order-made book sheet b s a cells read seen first numbered = rw (first, numbered, read, seen)
+unfolding orderOf numberedSheet
+order-made book sheet b s a read seen first =
+    rw (first, seen, read, numbers-for book (bookOf book .family .colours) sheet (sheetOf sheet .sheet) (book-places book .few))
+
+-- ── What a numbered sheet keeps ──
+
+module _ (book : List ℕ) (c : Colours) (sheet : List ℕ) where
+  pub numbered-room : length (numberedSheet book c sheet .cells) ≡ room
+  unfolding numberedSheet
+  numbered-room =
+      let fit = sheet-cells sheet in
+      pick-ind (λ (l : List ℕ). length l ≡ room) (ltb 64 (c .count)) noCells (numbersOf book c sheet (sheetOf sheet .sheet))
+      (λ _. refl)
+      (λ _. numbers-all book c sheet (sheetOf sheet .sheet) (fit .area-few) (fit .cells-all))
+
+  -- a cell's number is at most 64
+  pub numbered-few : (i : ℕ) → i < sheetOf sheet .sheet .rows * sheetOf sheet .sheet .cols → getD (numberedSheet book c sheet .cells) i 0 ≤ 64
+  unfolding numberedSheet
+  numbered-few i h =
+      let g = sheetOf sheet .sheet in
+      let fit = sheet-cells sheet in
+      pick-ind (λ (l : List ℕ). getD l i 0 ≤ 64) (ltb 64 (c .count)) noCells (numbersOf book c sheet g)
+      (λ _. omega (arith, getD-replicate {A = ℕ} room i 0 0 (omega (arith, fit .area-few))))
+      (λ e. omega (
+        arith,
+        number-at book c sheet g i h (omega (arith, fit .area-few, fit .cells-all)),
+        find-few book c (nameIn sheet (g .colours) (getD (g .cells) i 0)),
+        ltb-false 64 (c .count) e,
+      ))

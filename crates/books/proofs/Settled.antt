@@ -4,12 +4,13 @@ use mathlib.Core.Path.{_≡_}
 use mathlib.Core.List.{List}
 use denote.Ref.{RefT, now}
 use Rattle.names.specs.Part.{Part}
+use Rattle.names.specs.declared.colours.Colours.{Colours}
 use Rattle.names.specs.declared.number.Fault.{Fault}
 use Rattle.names.proofs.Settled.{Settles, settles, SettlesPart, part-settles}
 pub use Rattle.names.proofs.Settled.{settled}
 use Rattle.books.specs.Book.{noFamily, bookOf}
 use Rattle.books.specs.Sheet.{sheetOf}
-use Rattle.books.specs.Order.{orderOf}
+use Rattle.books.specs.Order.{numberedSheet, orderOf}
 use Rattle.books.specs.Answer.{plain, blaming, packed}
 use Rattle.books.specs.Calls.{bookAnswer, sheetAnswer, shown, shownStart, shownPlace}
 use Rattle.books.specs.Draft.{WroteDraft}
@@ -38,6 +39,9 @@ read-book-settled s = settles _
 
 pub read-sheet-settled : (s : List ℕ) → Settles (sheetOf s)
 read-sheet-settled s = settles _
+
+pub number-sheet-settled : (book : List ℕ) (c : Colours) (sheet : List ℕ) → Settles (numberedSheet book c sheet)
+number-sheet-settled book c sheet = settles _
 
 pub read-order-settled : (book sheet : List ℕ) → Settles (orderOf book sheet)
 read-order-settled book sheet = settles _

@@ -1,8 +1,8 @@
 -- A book and a sheet that are read together: the book's fault or else the sheet's, the rules of the book, and the cells of the sheet by the
--- numbers that their colours have in the book.
+-- numbers that their colours have in the book. A sheet can also be read alone for a book whose colours are at hand.
 use Prim.Native.Nat.{ℕ, _*_}
 use mathlib.Core.List.{List, map, _++_}
-use lib.Dec.{eqb}
+use lib.Dec.{eqb, ltb}
 use lib.ListN.{take, drop}
 use Rattle.names.specs.Pick.{pick}
 use Rattle.names.specs.Colours.{nameIn, findName}
@@ -13,6 +13,7 @@ use Rattle.books.specs.Book.{bookOf}
 use Rattle.books.specs.Cells.{noCells}
 use Rattle.books.specs.Sheet.{sheetOf}
 use Rattle.books.specs.declared.answer.Answer.{Answer}
+use Rattle.books.specs.declared.order.NumberedSheet.{NumberedSheet}
 use Rattle.books.specs.declared.order.Order.{Order}
 use Rattle.books.specs.declared.sheet.Sheet.{Sheet}
 
@@ -24,6 +25,20 @@ numberOf book c sheet d i = findName book c (nameIn sheet d i)
 abbrev pub numbersOf : List ℕ → Colours → List ℕ → Sheet → List ℕ
 numbersOf book c sheet g =
     map (numberOf book c sheet (g .colours)) (take (g .rows * g .cols) (g .cells)) ++ drop (g .rows * g .cols) noCells
+
+-- by more than 64 colours, which no book has, no cell is numbered
+abbrev pub numbersFor : List ℕ → Colours → List ℕ → Sheet → List ℕ
+numbersFor book c sheet g = pick (ltb 64 (c .count)) noCells (numbersOf book c sheet g)
+
+-- a sheet as it is read, with its cells numbered
+unfoldable pub numberedSheet : List ℕ → Colours → List ℕ → NumberedSheet
+numberedSheet book c sheet =
+    record {
+      fault = sheetOf sheet .fault;
+      rows = sheetOf sheet .sheet .rows;
+      cols = sheetOf sheet .sheet .cols;
+      cells = numbersFor book c sheet (sheetOf sheet .sheet);
+    }
 
 -- the book's fault, then the sheet's
 unfoldable pub firstFault : Fault → Fault → Answer

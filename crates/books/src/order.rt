@@ -1,4 +1,5 @@
-// An order: a book and a sheet that are read together, the sheet's cells by the numbers that their colours have in the book.
+// An order: a book and a sheet that are read together, the sheet's cells by the numbers that their colours have in the book. Where many sheets are
+// ordered from one book, each is numbered by the colours that were read of the book once.
 use crate::answer::Answer;
 use crate::answer::blame;
 use crate::book::read_book;
@@ -12,7 +13,7 @@ use names::name::tail;
 use names::number::Fault;
 ghost use mathlib.Core.Path.{_≡_};
 ghost use Prim.Native.Nat.{_≤_};
-ghost use Rattle.books.specs.Order.{numbersOf, firstFault, orderOf};
+ghost use Rattle.books.specs.Order.{numbersFor, firstFault, numberedSheet, orderOf};
 ghost use Rattle.books.specs.inner.Key.{Key, CellsFit};
 
 // The answer is that of the fault, the book's before the sheet's, or 0. The first `count` rules stand, and the first rows times columns cells;
@@ -22,6 +23,15 @@ pub struct Order {
     pub rules: [Rule; 200],
     pub count: usize,
     pub start: u8,
+    pub rows: usize,
+    pub cols: usize,
+    pub cells: [u8; ROOM],
+}
+
+// A sheet as a book's colours number it: the fault of a refused one; else 0, rows and columns, and the cells, row by row, each with the number of its
+// colour among them, or their count where the book lacks it.
+pub struct NumberedSheet {
+    pub fault: Fault,
     pub rows: usize,
     pub cols: usize,
     pub cells: [u8; ROOM],
@@ -51,11 +61,14 @@ fn colour_key(book: &[u8], c: Colours, sheet: &[u8], d: Colours) -> [u8; 64]
     key
 }
 
-// The number of each cell's colour in the book.
+// The number of each cell's colour in the book. No book has more than 64 colours: by more, no cell is numbered.
 fn number_cells(book: &[u8], c: Colours, sheet: &[u8], g: Sheet) -> [u8; ROOM]
-    requires { ⌜ (c .count ≤ 64) × CellsFit g ⌝ }
-    ensures { λ r. ⌜ r ≡ numbersOf (now (book .entry)) c (now (sheet .entry)) g ⌝ }
+    requires { ⌜ CellsFit g ⌝ }
+    ensures { λ r. ⌜ r ≡ numbersFor (now (book .entry)) c (now (sheet .entry)) g ⌝ }
 {
+    if c.count > 64 {
+        return [0u8; ROOM];
+    }
     let count = g.rows * g.cols;
     let d = g.colours;
     let key = colour_key(book, c, sheet, d);
@@ -67,24 +80,39 @@ fn number_cells(book: &[u8], c: Colours, sheet: &[u8], g: Sheet) -> [u8; ROOM]
     numbers
 }
 
+// Reads a sheet for a book whose colours were read.
+pub fn number_sheet(book: &[u8], colours: Colours, sheet: &[u8]) -> NumberedSheet
+    ensures { λ r. ⌜ r ≡ numberedSheet (now (book .entry)) colours (now (sheet .entry)) ⌝ }
+{
+    let s = read_sheet(sheet);
+    let fault = s.fault;
+    let g = s.sheet;
+    let cells = number_cells(book, colours, sheet, g);
+    NumberedSheet {
+        fault,
+        rows: g.rows,
+        cols: g.cols,
+        cells,
+    }
+}
+
 // Reads a book and a sheet.
 pub fn read_order(book: &[u8], sheet: &[u8]) -> Order
     ensures { λ r. ⌜ r ≡ orderOf (now (book .entry)) (now (sheet .entry)) ⌝ }
 {
     let b = read_book(book);
-    let s = read_sheet(sheet);
     let f = b.family;
-    let g = s.sheet;
+    let s = number_sheet(book, f.colours, sheet);
     let rules = f.rules;
-    let cells = number_cells(book, f.colours, sheet, g);
+    let cells = s.cells;
     let answer = first_fault(b.fault, s.fault);
     Order {
         answer,
         rules,
         count: f.count,
         start: f.start as u8,
-        rows: g.rows,
-        cols: g.cols,
+        rows: s.rows,
+        cols: s.cols,
         cells,
     }
 }

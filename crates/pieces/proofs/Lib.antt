@@ -16,6 +16,7 @@ pub mod Laying
 pub mod SettledTable
 pub mod CellEntries
 pub mod WholeTable
+pub mod AcceptedInputs
 pub mod TableEntries
 pub mod Least
 pub mod Cutting
@@ -32,6 +33,8 @@ pub mod TheTree
 pub mod Endings
 pub mod Judging
 pub mod DerivationAnswers
+pub mod AskingAnswers
+pub mod AskingSheets
 pub mod Orders
 pub mod Demand1
 pub mod Demand2

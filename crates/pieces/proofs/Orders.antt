@@ -20,10 +20,8 @@ use Rattle.books.specs.declared.answer.Answer.{Answer}
 use Rattle.books.specs.declared.family.Family.{Family}
 use Rattle.books.specs.declared.order.Order.{Order}
 use Rattle.books.specs.declared.sheet.Sheet.{Sheet}
-use Rattle.books.proofs.Ordering.{number-at, numbers-all, order-fine, order-faulty}
-use Rattle.books.proofs.ReadingBooks.{book-lies, book-accepted}
+use Rattle.books.proofs.Ordering.{numbers-all, order-fine, order-faulty}
 use Rattle.books.proofs.ReadingSheets.{sheet-lies}
-use Rattle.books.proofs.SpellingSheets.{sheet-accepted}
 use Rattle.pieces.specs.Area.{whole}
 use Rattle.pieces.specs.Derivation.{leaving, derivation}
 use Rattle.pieces.specs.inner.Layout.{colourMasks}
@@ -32,9 +30,10 @@ use Rattle.pieces.specs.inner.Room.{Room}
 use Rattle.pieces.specs.inner.Settled.{TableMade}
 use Rattle.pieces.specs.inner.Verdict.{Verdict, verdict, lacking}
 use Rattle.pieces.specs.inner.Seen.{sized, seen}
+use Rattle.pieces.proofs.AcceptedInputs.{as-read as inputs-read, cells-numbered}
 use Rattle.pieces.proofs.DerivationAnswers.{book-first, sheet-second, then-room}
 use Rattle.pieces.proofs.Judging.{judged-made, nothing-lacks, roomed-short, roomed-enough}
-use Rattle.pieces.proofs.WholeTable.{AsRead, Numbered, room, small-rules, numbers-low}
+use Rattle.pieces.proofs.WholeTable.{AsRead, Numbered, room, read-rules, numbers-low}
 
 -- what the table and the tree ask of an order
 pub record Ordered (o : Order) : Type 0 where
@@ -67,20 +66,13 @@ module _ (book sheet : List ℕ) (bytes-book : Bytes book) (bytes-sheet : Bytes 
   accepted = order-fine book sheet fine
 
   as-read : AsRead book f sheet g
-  as-read =
-      let b = book-lies book (accepted .0) in
-      record {
-        book-keeps = book-accepted book bytes-book (accepted .0) .keeps;
-        rules-few = b .rules-few;
-        rules-size = b .rules-size;
-        sheet-keeps = sheet-accepted sheet bytes-sheet (accepted .1) .keeps;
-      }
+  as-read = inputs-read book bytes-book (accepted .0) sheet bytes-sheet (accepted .1)
 
   abbrev numbers-of-cells : List ℕ
   numbers-of-cells = numbersOf book (f .colours) sheet g
 
   numbered : Numbered book f sheet g numbers-of-cells
-  numbered i h = let s = sheet-lies sheet (accepted .1) in number-at book (f .colours) sheet g i h (omega (arith, s .area-few, s .cells-all))
+  numbered = cells-numbered book bytes-book (accepted .0) sheet bytes-sheet (accepted .1)
 
   order-kept : Ordered (orderOf book sheet)
   unfolding orderOf
@@ -88,7 +80,7 @@ module _ (book sheet : List ℕ) (bytes-book : Bytes book) (bytes-sheet : Bytes 
       let s = sheet-lies sheet (accepted .1) in
       let all = numbers-all book (f .colours) sheet g (s .area-few) (s .cells-all) in
       record {
-        rules-small = small-rules as-read;
+        rules-small = read-rules as-read;
         sizes = room as-read;
         cells-room = all;
         cells-all = omega (arith, s .area-few, all);

@@ -51,6 +51,18 @@ body-small m n (Colour c) h k f = omega arith
 body-small m n (Across l r) h k f = (omega arith, omega arith)
 body-small m n (Down u v) h k f = (omega arith, omega arith)
 
+pub small-rules : (book : List ℕ) (f : Family) → Keeps (contentsIn book f) → f .count ≤ mostRules → length (f .rules) ≡ mostRules → SmallRules (f .rules) (f .count)
+small-rules book f k few size =
+    let held : f .count ≤ length (f .rules) = omega arith in
+    record {
+      few = few;
+      held = held;
+      small = λ i h. let fits = k .sound .rules-fit _ (rule-in book f k held i h) in record {
+        head = omega (arith, fits .head-fits, k .motifs-few);
+        body = body-small _ _ (getD (f .rules) i noRule .body) (k .motifs-few) (k .colours-ok .few) (fits .body-fits);
+      };
+    }
+
 module _ {book : List ℕ} {f : Family} {bytes : List ℕ} {g : Sheet} (read : AsRead book f bytes g) where
   pub room : Room (g .rows) (g .cols)
   room =
@@ -60,17 +72,8 @@ module _ {book : List ℕ} {f : Family} {bytes : List ℕ} {g : Sheet} (read : A
   all-rules : f .count ≤ length (f .rules)
   all-rules = omega (arith, read .rules-few, read .rules-size)
 
-  pub small-rules : SmallRules (f .rules) (f .count)
-  small-rules =
-      let k = read .book-keeps in
-      record {
-        few = read .rules-few;
-        held = all-rules;
-        small = λ i h. let fits = k .sound .rules-fit _ (rule-in book f k all-rules i h) in record {
-          head = omega (arith, fits .head-fits, k .motifs-few);
-          body = body-small _ _ (getD (f .rules) i noRule .body) (k .motifs-few) (k .colours-ok .few) (fits .body-fits);
-        };
-      }
+  pub read-rules : SmallRules (f .rules) (f .count)
+  read-rules = small-rules book f (read .book-keeps) (read .rules-few) (read .rules-size)
 
   pub book-colours : f .colours .count ≤ 64
   book-colours = omega (arith, read .book-keeps .colours-ok .few, names-count book (f .colours))

@@ -8,4 +8,5 @@ pub mod Given
 pub mod Choice
 pub mod Tree
 pub mod Derivation
+pub mod Asking
 pub mod inner

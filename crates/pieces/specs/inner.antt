@@ -11,4 +11,5 @@ pub mod Masks
 pub mod Painted
 pub mod Settled
 pub mod Verdict
+pub mod Told
 pub mod TreeWrote

@@ -1,11 +1,12 @@
-// The table of the pieces of a sheet, and the derivation given.
+// The table of the pieces of a sheet, the derivation given, and a book asked for one sheet after another.
+pub mod asking;
 mod cells;
 mod choice;
 mod course;
 mod cut;
 pub mod derive;
 mod lent;
-mod masks;
+pub mod masks;
 mod part;
 mod piece;
 mod table;

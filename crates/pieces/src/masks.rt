@@ -22,12 +22,12 @@ pub(crate) const PAINTERS_FROM: usize = 2 * JOIN_MASKS;
 
 pub(crate) const COLOUR_MASKS: usize = 65;
 
-pub(crate) const ALL_MASKS: usize = PAINTERS_FROM + COLOUR_MASKS;
+pub const ALL_MASKS: usize = PAINTERS_FROM + COLOUR_MASKS;
 
 // How many joins a family has in each direction.
-pub(crate) struct Joins {
-    pub(crate) across: usize,
-    pub(crate) down: usize,
+pub struct Joins {
+    pub across: usize,
+    pub down: usize,
 }
 
 // The mask of one motif.
@@ -74,6 +74,18 @@ fn put_rule(r: Rule, rules: &mut [u32], joins: Joins) -> Joins
                 down: joins.down + 1,
             }
         }
+    }
+}
+
+// Zeros all along the masks.
+pub(crate) fn blank(masks: &mut [u32])
+    requires { ⌜ length (now masks) ≡ allMasks ⌝ }
+    ensures { λ _. ⌜ now (masks .exit) ≡ replicate allMasks 0 ⌝ }
+{
+    let mut i = 0;
+    while i < ALL_MASKS {
+        masks[i] = 0;
+        i += 1;
     }
 }
 

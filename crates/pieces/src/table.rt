@@ -22,7 +22,7 @@ ghost use Rattle.pieces.specs.inner.Course.{Runs};
 ghost use Rattle.pieces.specs.inner.Firing.{firing, allFired, along};
 ghost use Rattle.pieces.specs.inner.Layout.{mostRules, joinMasks, colourMasks, allMasks};
 ghost use Rattle.pieces.specs.inner.Painted.{SmallRules};
-ghost use Rattle.pieces.specs.inner.Settled.{plan, entryOf, Filled, TableMade};
+ghost use Rattle.pieces.specs.inner.Settled.{plan, entryOf, Filled, TableMade, FilledFrom};
 
 // One join at one cut.
 fn fired(l: u32, r: u32, first: u32, second: u32, head: u32) -> u32
@@ -131,7 +131,25 @@ fn fill(work: &mut [u32], rules: &[u32], joins: Joins, m: usize, n: usize)
     }
 }
 
-// The table of a sheet for the first rules of a family, by the numbers that the colours of its cells have there.
+// The table of a sheet by the masks of rules, and by the numbers that the colours of its cells have there.
+pub(crate) fn fill_from(
+    rules: &[u32],
+    joins: Joins,
+    colours: &[u8],
+    m: usize,
+    n: usize,
+    work: &mut [u32],
+)
+    requires { ⌜ Room m n × (total m n ≤ length (now work)) ⌝ }
+    requires { ⌜ (length (now rules) ≡ allMasks) × (joins .across ≤ mostRules) × (joins .down ≤ mostRules) ⌝ }
+    requires { ⌜ (m * n ≤ length (now colours)) × ((i : ℕ) → i < m * n → getD (now colours) i 0 < colourMasks) ⌝ }
+    ensures { λ _. ⌜ FilledFrom (now (rules .entry)) joins (now (colours .entry)) m n (now (work .entry)) (now (work .exit)) ⌝ }
+{
+    cells::paint_cells(rules, colours, piece::times(m, n), work);
+    fill(work, rules, joins, m, n);
+}
+
+// The table of a sheet for the first rules of a family.
 pub(crate) fn fill_table(
     family: [Rule; MOST_RULES],
     count: usize,
@@ -146,6 +164,5 @@ pub(crate) fn fill_table(
 {
     let mut rules = [0u32; ALL_MASKS];
     let joins = masks::split(family, count, &mut rules);
-    cells::paint_cells(&rules, colours, piece::times(m, n), work);
-    fill(work, &rules, joins, m, n);
+    fill_from(&rules, joins, colours, m, n, work);
 }

@@ -10,7 +10,7 @@ use Rattle.pieces.specs.Pieces.{Inside, total, slotOf}
 use Rattle.pieces.specs.Parts.{extent, firstPart, restPart}
 use Rattle.pieces.specs.inner.Firing.{gathered, allFired}
 use Rattle.pieces.specs.inner.Masks.{Serves, masksOf, countOf}
-use Rattle.pieces.specs.inner.Painted.{paintersOf}
+use Rattle.pieces.specs.inner.Painted.{paintersOf, SplitInto}
 use Rattle.pieces.specs.declared.piece.Piece.{Piece}
 use Rattle.pieces.specs.declared.masks.Joins.{Joins}
 
@@ -58,3 +58,7 @@ pub record TableMade (rs : List Rule) (few : ℕ) (colours : List ℕ) (m n : �
   pub settled : Settled (record { rows = m; cols = n; masks = masks; count = count }) (total m n) after
   pub painted : (i : ℕ) → i < m * n → getD after i 0 ≡ paintersOf rs few (getD colours i 0)
   pub rest : (i : ℕ) → total m n ≤ i → getD after i 0 ≡ getD before i 0
+
+-- a table that was filled from masks is made for whatever rules they are those of
+pub record FilledFrom (masks : List ℕ) (j : Joins) (colours : List ℕ) (m n : ℕ) (before after : List ℕ) : Type 0 where
+  pub made : (rs : List Rule) (few : ℕ) → SplitInto rs few masks j → TableMade rs few colours m n before after

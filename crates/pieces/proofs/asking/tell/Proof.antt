@@ -1,0 +1,79 @@
+-- Each test ends in one of the four ways to answer; where none does, the bit is read in the table that was filled.
+use mathlib.Core.Path.{sym, ap, _∙_}
+use Prim.Native.Nat.{_≤_}
+use native.Mathlib.Nat.{le-trans, lt-of-lt-of-le, le-of-eq}
+use lib.ListN.{length}
+use denote.Ref.{now}
+use Rattle.books.specs.Answer.{plain}
+use Rattle.pieces.specs.Pieces.{total}
+use Rattle.pieces.specs.inner.Told.{Shows, faulty, short, unfitting, answered}
+use Rattle.pieces.proofs.AskingSheets.{fitting-placed}
+use borrow.Author.Needs.{needs}
+use Rattle.pieces.proofs.asking.tell.Statement.{statement}
+use Rattle.pieces.proofs.asking.tell.Tie as tie
+
+-- After the masks were held to their number: where the call began, what the sheet keeps, and that the work slice is long enough for it.
+abbrev began : tie.After-fits2 → tie.Start
+began t = t .before .before .before .before .before .before .before
+
+shows : (t : tie.After-fits2) → Shows (began t .args .s)
+shows t = began t .pre (t .before .before .before .if1 .left)
+
+enough : (t : tie.After-fits2) → let a = began t .args in total (a .s .rows) (a .s .cols) ≤ length (now (a .work))
+enough t = le-trans (le-of-eq (sym (t .before .before .count .ensures .0))) (t .before .if2 .left)
+
+-- After the table was filled: where the masks were held to their number.
+abbrev tested : tie.After-fill-from → tie.After-fits2
+tested w = w .before .before .before .before .before
+
+returns : tie.Need-returns
+returns c = rw (c .blame .ensures) (faulty (c .before .if1 .taken))
+
+count-requires : tie.Need-count-requires
+count-requires c κs = c .before .before .before .before .pre (c .if1 .left) .sizes
+
+returns-2 : tie.Need-returns-2
+returns-2 c =
+    let k = c .before .before in
+    rw (c .unblamed .ensures) (short (k .before .if1 .left) (lt-of-lt-of-le (c .before .if2 .taken) (le-of-eq (k .count .ensures .0))))
+
+fill-from-requires : tie.Need-fill-from-requires
+fill-from-requires c κs =
+    let y = c .before .before .before in
+    let t = y .before in
+    let s = shows t in
+    ((s .sizes, enough t), (fitting-placed _ _ (sym (t .fits2 .ensures) ∙ y .if3 .taken), (s .cells-all, s .cells-low)))
+
+whole-sheet-requires : tie.Need-whole-sheet-requires
+whole-sheet-requires c κs =
+    let w = c .before .before .before in
+    record { sizes = shows (tested w) .sizes; entries = le-trans (enough (tested w)) (le-of-eq (sym (w .fill-from .kept .1 .1 .1 .1 .1 .0))) }
+
+returns-3 : tie.Need-returns-3
+returns-3 c =
+    let w = c .before .before .before .before .before in
+    let t = tested w in
+    rw (c .unblamed2 .ensures ∙ ap plain (c .before .whole-sheet .ensures))
+    (answered _ (t .before .before .before .if1 .left) (enough t) (w .fill-from .ensures) (sym (w .fill-from .kept .1 .1 .1 .1 .1 .0)))
+
+returns-4 : tie.Need-returns-4
+returns-4 c = rw (c .unblamed3 .ensures) (unfitting (sym (c .before .before .fits2 .ensures) ∙ c .before .if3 .left))
+
+pub tell-spec : {M : Type 1} → statement M
+tell-spec =
+    tie.close
+    (tie.spec
+    (λ c κs. search needs)
+    returns
+    count-requires
+    (λ c κs. search needs)
+    returns-2
+    (λ c κs. search needs)
+    (λ c. search needs)
+    fill-from-requires
+    whole-sheet-requires
+    (λ c κs. search needs)
+    (λ c. search needs)
+    returns-3
+    (λ c κs. search needs)
+    returns-4)

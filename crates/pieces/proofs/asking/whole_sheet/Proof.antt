@@ -1,0 +1,14 @@
+-- The whole sheet is a piece of it, and its bit is the test.
+use mathlib.Core.Path.{sym, _∙_}
+use borrow.Author.Needs.{needs}
+use Rattle.pieces.proofs.asking.whole_sheet.Statement.{statement}
+use Rattle.pieces.proofs.asking.whole_sheet.Tie as tie
+
+returns : tie.Need-returns
+returns c = rw (sym (c .before .has .ensures) ∙ c .if1 .taken)
+
+returns-2 : tie.Need-returns-2
+returns-2 c = rw (sym (c .before .has .ensures) ∙ c .if1 .left)
+
+pub whole-sheet-spec : {M : Type 1} → statement M
+whole-sheet-spec = tie.close (tie.spec (λ c κs. search needs) returns returns-2)

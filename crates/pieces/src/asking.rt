@@ -1,0 +1,145 @@
+// One book asked for one sheet after another: the book is read and split into masks once, and each sheet gets its table and an answer, with no tree.
+use crate::cut;
+use crate::masks;
+use crate::masks::ALL_MASKS;
+use crate::masks::Joins;
+use crate::masks::MOST_RULES;
+use crate::part::Part;
+use crate::piece;
+use crate::piece::Piece;
+use crate::piece::Size;
+use crate::table;
+use books::answer;
+use books::answer::Answer;
+use books::book;
+use books::order;
+use books::order::NumberedSheet;
+use books::rule::Rule;
+use books::size::ROOM;
+use names::colours::Colours;
+use names::number::Fault;
+ghost use mathlib.Core.Path.{_≡_};
+ghost use Rattle.pieces.specs.Asking.{SplitFrom, Splits, Asks};
+ghost use Rattle.names.specs.Pick.{pick};
+ghost use Rattle.pieces.specs.inner.Painted.{SmallRules};
+ghost use Rattle.pieces.specs.inner.Seen.{Tabled, hasBit, wholeOf};
+ghost use Rattle.pieces.specs.inner.Told.{Lays, Shows, fitting, Told};
+
+// What is kept of a book from sheet to sheet, beside the lent book and the masks of its rules.
+pub struct Split {
+    pub fault: Fault,
+    pub colours: Colours,
+    pub start: u8,
+    pub joins: Joins,
+}
+
+// The answer of one sheet, with its cells by the numbers that their colours have in the book; a refused sheet has no rows and no columns.
+pub struct Asked {
+    pub answer: Answer,
+    pub rows: usize,
+    pub cols: usize,
+    pub cells: [u8; ROOM],
+}
+
+// The masks of the rules of a book with no fault, where the slice has their length.
+fn lay(fault: u8, rules: [Rule; MOST_RULES], count: usize, masks: &mut [u32]) -> Joins
+    requires { ⌜ (fault ≡ 0 → SmallRules rules count) ⌝ }
+    ensures { λ r. ⌜ Lays fault rules count (now (masks .entry)) r (now (masks .exit)) ⌝ }
+{
+    if fault != 0 {
+        return Joins { across: 0, down: 0 };
+    }
+    if masks.len() != ALL_MASKS {
+        return Joins { across: 0, down: 0 };
+    }
+    masks::blank(masks);
+    masks::split(rules, count, masks)
+}
+
+// Reads a book, and writes the masks of its rules where it is accepted and they fill the slice.
+pub fn split_book(book: &[u8], masks: &mut [u32]) -> Split
+    ensures { λ r. ⌜ Splits (now (book .entry)) (now (masks .entry)) r (now (masks .exit)) ⌝ }
+{
+    let b = book::read_book(book);
+    let fault = b.fault;
+    let colours = b.family.colours;
+    let rules = b.family.rules;
+    let joins = lay(fault.number, rules, b.family.count, masks);
+    Split {
+        fault,
+        colours,
+        start: b.family.start as u8,
+        joins,
+    }
+}
+
+// Whether masks of this number, with so many joins, can be a book's.
+fn fits(masks: usize, joins: Joins) -> bool
+    ensures { λ r. ⌜ r ≡ fitting masks joins ⌝ }
+{
+    if masks != ALL_MASKS {
+        return false;
+    }
+    if joins.across > MOST_RULES {
+        return false;
+    }
+    joins.down <= MOST_RULES
+}
+
+// 0 where a motif has its bit at the whole sheet, and else 11.
+fn whole_sheet(work: &[u32], size: Size, motif: u8) -> u8
+    requires { ⌜ Tabled size (now work) ⌝ }
+    ensures { λ r. ⌜ r ≡ pick (hasBit size (now (work .entry)) motif (wholeOf size)) 0 11 ⌝ }
+{
+    let sheet = Part {
+        piece: Piece {
+            height: size.rows,
+            width: size.cols,
+            top: 0,
+            left: 0,
+        },
+        motif,
+    };
+    if cut::has(work, size, sheet) { 0 } else { 11 }
+}
+
+// The answer of a numbered sheet, with its table written. Masks that can be no book's have no sheet.
+fn tell(s: NumberedSheet, start: u8, joins: Joins, masks: &[u32], work: &mut [u32]) -> Answer
+    requires { ⌜ (s .fault .number ≡ 0 → Shows s) ⌝ }
+    ensures { λ r. ⌜ Told s start joins (now (masks .entry)) (now (work .entry)) r (now (work .exit)) ⌝ }
+{
+    if s.fault.number != 0 {
+        return answer::blame(2, s.fault);
+    }
+    if work.len() < piece::count(s.rows, s.cols) {
+        return answer::unblamed(9);
+    }
+    if fits(masks.len(), joins) {
+        let cells = s.cells;
+        table::fill_from(masks, joins, &cells, s.rows, s.cols, work);
+        return answer::unblamed(whole_sheet(
+            work,
+            Size {
+                rows: s.rows,
+                cols: s.cols,
+            },
+            start,
+        ));
+    }
+    answer::unblamed(11)
+}
+
+// Asks whether the family of a book has a sheet, by what was kept of the book and the masks of its rules. The work slice gets the table of pieces.
+pub fn ask_sheet(book: &[u8], split: Split, masks: &[u32], sheet: &[u8], work: &mut [u32]) -> Asked
+    ensures { λ r. ⌜ (SplitFrom (now (book .entry)) split (now (masks .entry)) → Asks (now (book .entry)) (now (sheet .entry)) (now (work .entry)) r (now (work .exit))) ⌝ }
+{
+    let s = order::number_sheet(book, split.colours, sheet);
+    let answer = tell(s, split.start, split.joins, masks, work);
+    let cells = s.cells;
+    Asked {
+        answer,
+        rows: s.rows,
+        cols: s.cols,
+        cells,
+    }
+}
