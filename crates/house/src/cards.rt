@@ -5,7 +5,7 @@ use crate::lists::Kind;
 use crate::printing;
 
 // The card of a book in a slice as long as a card: the answer, the number of sizes, and the rows.
-fn card(asked: &[u8], book: &[u8]) {
+pub(crate) fn card(asked: &[u8], book: &[u8]) {
     let mut card = [4294967295u32; 12];
     let packed = sizes::calls::dv_size_card(book, &mut card);
     printing::answer(asked, packed);
@@ -22,38 +22,16 @@ fn refused(asked: &[u8], book: &[u8], card: &mut [u32]) {
     printing::text(b"\n");
 }
 
-fn transposed(house: &[u8]) {
-    let mut out = [255u8; 34];
-    families::calls::dv_transposed(house, &mut out);
-    card(b"transposed", &out);
-}
-
-fn beside(house: &[u8]) {
-    let mut out = [255u8; 52];
-    families::calls::dv_beside(house, house, &mut out);
-    card(b"beside itself", &out);
-}
-
-fn above(house: &[u8]) {
-    let mut out = [255u8; 52];
-    families::calls::dv_above(house, house, &mut out);
-    card(b"above itself", &out);
-}
-
-fn stack(house: &[u8]) {
-    let mut out = [255u8; 46];
-    families::calls::dv_stack(house, &mut out);
-    card(b"stack", &out);
-}
-
+// The house book, and books that its combinations write.
 pub(crate) fn of_the_house() {
-    let house =
-        b"\x02\x07Slate C\x07Slate U\x03\x00\x04\x00\x01\x00\x00\x00\x02\x01\x02\x01\x00\x00\x02\x00\x01";
-    card(b"house book", house);
-    transposed(house);
-    beside(house);
-    above(house);
-    stack(house);
+    lists::each(
+        Kind::CardRows,
+        b"\x0ahouse book\x22\x02\x07Slate C\x07Slate U\x03\x00\x04\x00\x01\x00\x00\x00\x02\x01\x02\x01\x00\x00\x02\x00\x01\
+          \x0atransposed\x22\x02\x07Slate C\x07Slate U\x03\x00\x04\x00\x02\x00\x00\x00\x01\x01\x02\x01\x00\x00\x02\x00\x01\
+          \x0dbeside itself\x34\x02\x07Slate C\x07Slate U\x07\x06\x09\x00\x01\x00\x00\x00\x02\x01\x02\x01\x00\x00\x02\x00\x01\x03\x01\x03\x03\x03\x02\x04\x05\x04\x00\x00\x05\x00\x01\x06\x01\x00\x03\
+          \x0cabove itself\x34\x02\x07Slate C\x07Slate U\x07\x06\x09\x00\x01\x00\x00\x00\x02\x01\x02\x01\x00\x00\x02\x00\x01\x03\x01\x03\x03\x03\x02\x04\x05\x04\x00\x00\x05\x00\x01\x06\x02\x00\x03\
+          \x05stack\x2e\x02\x07Slate C\x07Slate U\x04\x03\x07\x00\x01\x00\x00\x00\x02\x01\x02\x01\x00\x00\x02\x00\x01\x03\x01\x00\x00\x03\x02\x01\x02\x03\x02\x00\x03",
+    );
 }
 
 pub(crate) fn of_slices() {
