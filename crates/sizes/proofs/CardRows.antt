@@ -17,7 +17,7 @@ use Rattle.names.specs.Pick.{pick}
 use Rattle.names.proofs.Tests.{true-or-false}
 use Rattle.books.specs.Contents.{Contents}
 use Rattle.books.specs.Keeps.{Sound}
-use Rattle.books.specs.Size.{greatest}
+use Rattle.books.specs.Size.{greatest, room}
 use Rattle.books.specs.declared.rule.Rule.{Rule}
 use Rattle.pieces.specs.Pieces.{each}
 use Rattle.pieces.specs.Table.{bit, bits}
@@ -98,7 +98,7 @@ unfolding each
 each-same zero f g same = refl
 each-same (suc n) f g same = ap₂ (λ (l : List ℕ) (x : ℕ). l ++ (x ∷ [])) (each-same n f g (λ i h. same i (omega arith))) (same n (omega arith))
 
-entry-tells : (b : Contents) (s : Size) (a : ℕ) → a < b .motifs → eqb (bit (entry b s) a) 1 ≡ hasSize? b a s
+pub entry-tells : (b : Contents) (s : Size) (a : ℕ) → a < b .motifs → eqb (bit (entry b s) a) 1 ≡ hasSize? b a s
 unfolding entry
 entry-tells b s a h =
     let test : ℕ → Bool = λ x. hasSize? b x s in
@@ -126,7 +126,7 @@ module _ (b : Contents) (n : ℕ) (t : List ℕ) (right : Right b n (n * n) t) (
   unfolding rowsOf card
   rows-right = each-same n _ _ row-right
 
-module _ (rules : List Rule) (few start : ℕ) (t before : List ℕ) (count : ℕ) (after : List ℕ) (made : SizesMade rules few t)
+module _ (rules : List Rule) (few start : ℕ) (t before : List ℕ) (count : ℕ) (after : List ℕ) (made : SizesMade rules few room t)
     (wrote : RowsWrote (rowsOf t greatest start greatest) before count after) where
   rows-are : (b : Contents) → Sound b → b .rules ≡ take few rules → b .start ≡ start → rowsOf t greatest start greatest ≡ card b greatest
   rows-are b sound same begins =

@@ -10,7 +10,7 @@ use lib.Seq.{getD-set-same, getD-set-other}
 use Rattle.books.specs.Contents.{Contents}
 use Rattle.books.specs.Keeps.{Sound}
 use Rattle.books.specs.Picture.{Dir, across, down}
-use Rattle.books.specs.Size.{greatest, room}
+use Rattle.books.specs.Size.{greatest}
 use Rattle.books.specs.declared.rule.Rule.{Rule}
 use Rattle.sizes.specs.Size.{Size, by}
 use Rattle.sizes.specs.inner.Entries.{entry, slot, OfTable, Right, Joins, joins, entryAt, Serves, Filled, SizesMade}
@@ -73,9 +73,9 @@ module _ (rules : List Rule) (count : ℕ) (few : count ≤ length rules) (acros
   serves b same across l r = laid-across .gives l r ∙ fires-taken rules count few b same across l r
   serves b same down l r = laid-down .gives l r ∙ fires-taken rules count few b same down l r
 
-  pub sizes-made : (before t : List ℕ) → getD before 0 0 ≡ paintersOf rules count → Filled (joins across-masks a down-masks d) greatest room before t
-      → SizesMade rules count t
-  sizes-made before t begins filled =
+  pub sizes-made : (k : ℕ) (before t : List ℕ) → getD before 0 0 ≡ paintersOf rules count → Filled (joins across-masks a down-masks d) greatest k before t
+      → SizesMade rules count k t
+  sizes-made k before t begins filled =
       record {
         right = λ b sound same. filled .right b sound (serves b same) (begins ∙ painters-taken rules count few b same ∙ painters-right b sound);
       }

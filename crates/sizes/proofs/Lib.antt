@@ -14,4 +14,5 @@ pub mod CardRows
 pub mod Answering
 pub mod Demand1
 pub mod CardTheorems
+pub mod OneSize
 pub mod Settled

@@ -1,10 +1,13 @@
 -- The size card of a family, computed, and the sizes that it has.
-use Prim.Native.Nat.{ℕ, suc, _+_}
+use Prim.Native.Nat.{ℕ, suc, _+_, _-_}
 use mathlib.Core.Bool.{Bool}
 use mathlib.Core.List.{List, [], _∷_}
 use lib.Count.{ones}
+use lib.Dec.{ltb, leb}
 use Rattle.names.specs.Pick.{pick}
 use Rattle.books.specs.Contents.{Contents}
+use Rattle.books.specs.Decide.{andThen}
+use Rattle.books.specs.Size.{greatest}
 use Rattle.pieces.specs.Pieces.{each}
 use Rattle.pieces.specs.Table.{bits}
 use Rattle.sizes.specs.Size.{Size, by}
@@ -29,3 +32,15 @@ sizesOf b most = each most (λ i. each most (λ j. pick (sized? b i j) (by (suc 
 unfoldable pub setBits : List ℕ → ℕ
 setBits [] = 0
 setBits (x ∷ xs) = ones x + setBits xs
+
+-- whether a card has so many rows, or columns, ...
+unfoldable pub within : ℕ → Bool
+within n = andThen (ltb 0 n) (λ _. leb n greatest)
+
+-- ... and so whether it has a place for a size of m rows and n columns
+unfoldable pub onCard : ℕ → ℕ → Bool
+onCard m n = andThen (within m) (λ _. within n)
+
+-- whether the card of a family has the size
+unfoldable pub hasOn : Contents → ℕ → ℕ → Bool
+hasOn b m n = andThen (onCard m n) (λ _. sized? b (m - 1) (n - 1))

@@ -1,6 +1,7 @@
 -- What the call answers and leaves, from the bytes of the lent book and the entries of the lent card slice.
 use Prim.Native.Nat.{ℕ}
 use mathlib.Core.Path.{_≡_}
+use mathlib.Core.Bool.{Bool, false}
 use mathlib.Core.List.{List, _++_}
 use lib.Dec.{eqb, ltb}
 use lib.ListN.{length, drop}
@@ -12,7 +13,7 @@ use Rattle.books.specs.ContentsIn.{contentsIn}
 use Rattle.books.specs.Size.{greatest}
 use Rattle.books.specs.declared.answer.Answer.{Answer}
 use Rattle.sizes.specs.declared.calls.CardAnswer.{CardAnswer}
-use Rattle.sizes.specs.Card.{card, sizesOf}
+use Rattle.sizes.specs.Card.{card, sizesOf, hasOn}
 
 -- the answer, the number of sizes, and the card slice
 pub record Outcome : Type 0 where
@@ -46,3 +47,7 @@ pub record Answers (o : Outcome) (r : CardAnswer) (slice : List ℕ) : Type 0 wh
 pub record Leaves (o : Outcome) (r : ℕ) (slice : List ℕ) : Type 0 where
   pub answers : r ≡ packed (o .answer) (o .sizes)
   pub leaves : slice ≡ o .slice
+
+-- whether the size card of a lent book has the size of m rows and n columns: a refused book has no card
+unfoldable pub cardHas : List ℕ → ℕ → ℕ → Bool
+cardHas book m n = pick (eqb (bookOf book .fault .number) 0) (hasOn (contentsIn book (bookOf book .family)) m n) false

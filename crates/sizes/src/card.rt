@@ -47,6 +47,6 @@ pub(crate) fn write_card(rules: [Rule; 200], count: usize, start: u32, card: &mu
     ensures { λ n. ⌜ CardMade rules count start (now (card .entry)) n (now (card .exit)) ⌝ }
 {
     let mut sizes = [0u32; ROOM];
-    table::fill_sizes(rules, count, &mut sizes);
+    table::fill_sizes(rules, count, ROOM, &mut sizes);
     write_rows(&sizes, start, card)
 }

@@ -2,4 +2,5 @@
 pub mod calls;
 mod card;
 mod masks;
+mod one;
 mod table;

@@ -6,7 +6,6 @@ use crate::masks::SECONDS_FROM;
 use crate::masks::Way;
 use books::rule::Rule;
 use books::size::GREATEST;
-use books::size::ROOM;
 ghost use mathlib.Core.Path.{_≡_};
 ghost use Prim.Native.Nat.{_+_, _*_, _≤_, _<_};
 ghost use lib.ListN.{length};
@@ -94,28 +93,28 @@ fn entry_at(
     beside | above
 }
 
-// Every entry of a table that begins with that of 1 by 1.
-fn fill(sizes: &mut [u32], across: &[u32], acrosses: usize, down: &[u32], downs: usize)
-    requires { ⌜ (length (now across) ≡ joinMasks) × (acrosses ≤ mostRules) × (length (now down) ≡ joinMasks) × (downs ≤ mostRules) × (length (now sizes) ≡ room) ⌝ }
-    ensures { λ _. ⌜ Filled (joins (now (across .entry)) acrosses (now (down .entry)) downs) greatest room (now (sizes .entry)) (now (sizes .exit)) ⌝ }
+// The entries before a slot, of a table that begins with that of 1 by 1.
+fn fill(sizes: &mut [u32], across: &[u32], acrosses: usize, down: &[u32], downs: usize, end: usize)
+    requires { ⌜ (length (now across) ≡ joinMasks) × (acrosses ≤ mostRules) × (length (now down) ≡ joinMasks) × (downs ≤ mostRules) × (length (now sizes) ≡ room) × (1 ≤ end) × (end ≤ room) ⌝ }
+    ensures { λ _. ⌜ Filled (joins (now (across .entry)) acrosses (now (down .entry)) downs) greatest end (now (sizes .entry)) (now (sizes .exit)) ⌝ }
 {
     let mut due = 1;
-    while due < ROOM {
+    while due < end {
         let e = entry_at(sizes, across, acrosses, down, downs, due);
         sizes[due] = e;
         due += 1;
     }
 }
 
-// The entries of all sizes, for the first rules of a family.
-pub(crate) fn fill_sizes(rules: [Rule; 200], count: usize, sizes: &mut [u32])
-    requires { ⌜ Small rules count × (length (now sizes) ≡ room) ⌝ }
-    ensures { λ _. ⌜ SizesMade rules count (now (sizes .exit)) ⌝ }
+// The entries of the sizes before a slot, for the first rules of a family.
+pub(crate) fn fill_sizes(rules: [Rule; 200], count: usize, end: usize, sizes: &mut [u32])
+    requires { ⌜ Small rules count × (length (now sizes) ≡ room) × (1 ≤ end) × (end ≤ room) ⌝ }
+    ensures { λ _. ⌜ SizesMade rules count end (now (sizes .exit)) ⌝ }
 {
     let mut across = [0u32; JOIN_MASKS];
     let acrosses = masks::lay(Way::Across, rules, count, &mut across);
     let mut down = [0u32; JOIN_MASKS];
     let downs = masks::lay(Way::Down, rules, count, &mut down);
     sizes[0] = masks::painters(rules, count);
-    fill(sizes, &across, acrosses, &down, downs);
+    fill(sizes, &across, acrosses, &down, downs, end);
 }

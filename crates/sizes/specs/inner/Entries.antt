@@ -7,7 +7,7 @@ use lib.ListN.{length, getD, take}
 use Rattle.books.specs.Contents.{Contents}
 use Rattle.books.specs.Keeps.{Sound}
 use Rattle.books.specs.Picture.{Dir, across, down}
-use Rattle.books.specs.Size.{greatest, room}
+use Rattle.books.specs.Size.{greatest}
 use Rattle.books.specs.declared.rule.Rule.{Rule}
 use Rattle.pieces.specs.Table.{bits}
 use Rattle.pieces.specs.inner.Firing.{gathered, allFired}
@@ -60,6 +60,6 @@ Serves b j = (d : Dir) (l r : ℕ) → allFired (j .masks d) (j .count d) l r �
 pub record Filled (j : Joins) (n k : ℕ) (before after : List ℕ) : Type 0 where
   pub right : (b : Contents) → Sound b → Serves b j → getD before 0 0 ≡ entry b (by 1 1) → Right b n k after
 
--- the entries of all sizes, for any book with the first so many of these rules
-pub record SizesMade (rules : List Rule) (few : ℕ) (t : List ℕ) : Type 0 where
-  pub right : (b : Contents) → Sound b → b .rules ≡ take few rules → Right b greatest room t
+-- the entries before slot k, for any book with the first so many of these rules
+pub record SizesMade (rules : List Rule) (few k : ℕ) (t : List ℕ) : Type 0 where
+  pub right : (b : Contents) → Sound b → b .rules ≡ take few rules → Right b greatest k t

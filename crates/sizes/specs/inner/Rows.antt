@@ -1,6 +1,7 @@
 -- The rows of the card as the code writes them, from the table of sizes.
 use Prim.Native.Nat.{ℕ, _+_, _*_}
 use mathlib.Core.Path.{_≡_}
+use mathlib.Core.Bool.{Bool}
 use mathlib.Core.List.{List, [], _∷_, _++_}
 use lib.Dec.{eqb}
 use lib.ListN.{length, getD, take, drop}
@@ -10,7 +11,10 @@ use Rattle.books.specs.Size.{greatest}
 use Rattle.books.specs.declared.rule.Rule.{Rule}
 use Rattle.pieces.specs.Pieces.{each}
 use Rattle.pieces.specs.Table.{bit, bits}
+use Rattle.sizes.specs.Size.{Size}
+use Rattle.sizes.specs.Test.{hasSize?}
 use Rattle.sizes.specs.Card.{card, sizesOf, setBits}
+use Rattle.sizes.specs.inner.Entries.{slot, OfTable}
 
 -- bit j is that of motif a in the j-th entry from a slot on, of n entries
 unfoldable pub rowOf : List ℕ → ℕ → ℕ → ℕ → ℕ
@@ -29,3 +33,8 @@ pub record RowsWrote (rows before : List ℕ) (count : ℕ) (after : List ℕ) :
 pub record CardMade (rules : List Rule) (few start : ℕ) (before : List ℕ) (count : ℕ) (after : List ℕ) : Type 0 where
   pub counts : (b : Contents) → Sound b → b .rules ≡ take few rules → b .start ≡ start → count ≡ length (sizesOf b greatest)
   pub leaves : (b : Contents) → Sound b → b .rules ≡ take few rules → b .start ≡ start → after ≡ card b greatest ++ drop greatest before
+
+-- whether the start has the size at a slot, of any book with the first so many of these rules and this start
+pub record SlotTold (rules : List Rule) (few start k : ℕ) (has : Bool) : Type 0 where
+  pub right : (b : Contents) → Sound b → b .rules ≡ take few rules → b .start ≡ start → (s : Size) → OfTable greatest s → slot greatest s ≡ k
+      → has ≡ hasSize? b (b .start) s

@@ -11,23 +11,25 @@ use Rattle.sizes.proofs.table.fill.Statement.{statement}
 use Rattle.sizes.proofs.table.fill.Tie as tie
 
 abbrev Inv-loop : tie.InvT-loop
-Inv-loop sizes₀ across acrosses down downs due₀ sizes due =
-    (1 ≤ due) × (due ≤ room) × (length sizes ≡ room) × Filled (joins across acrosses down downs) greatest due sizes₀ sizes
+Inv-loop sizes₀ across acrosses down downs end due₀ sizes due =
+    (1 ≤ due) × (due ≤ end) × (length sizes ≡ room) × Filled (joins across acrosses down downs) greatest due sizes₀ sizes
 
 abbrev μ-loop : tie.MeasureT-loop
-μ-loop sizes₀ across acrosses down downs due₀ sizes due = room - due
+μ-loop sizes₀ across acrosses down downs end due₀ sizes due = end - due
 
 loop-holds : tie.Need-loop-holds Inv-loop μ-loop
-loop-holds c = (omega arith, omega arith, c .before .before .before .pre .4, filling-start _ _ _)
+loop-holds c = (omega arith, omega (arith, c .before .before .before .pre .5), c .before .before .before .pre .4, filling-start _ _ _)
 
 entry-at-requires : tie.Need-entry-at-requires Inv-loop μ-loop
 entry-at-requires c κs =
     let t = c .before .before in
     let s = t .before .before .before .before in
-    (s .pre .0, s .pre .1, s .pre .2, s .pre .3, omega (arith, t .loop .inv .2, c .before .loop-test .taken))
+    (s .pre .0, s .pre .1, s .pre .2, s .pre .3, omega (arith, t .loop .inv .2, c .before .loop-test .taken, s .pre .6))
 
 slice-write-sizes : tie.Need-slice-write-sizes Inv-loop μ-loop
-slice-write-sizes c = let t = c .before .before .before in omega (arith, t .loop .inv .2, c .before .before .loop-test .taken)
+slice-write-sizes c =
+    let t = c .before .before .before in
+    omega (arith, t .loop .inv .2, c .before .before .loop-test .taken, t .before .before .before .before .pre .6)
 
 loop-again : tie.Need-loop-again Inv-loop μ-loop
 loop-again c =
@@ -37,7 +39,7 @@ loop-again c =
       omega arith,
       omega (arith, less),
       simp length-set (inv .2),
-      filling-step _ _ _ _ _ _ (inv .3) (inv .0) (omega (arith, inv .2, less)) (c .entry-at .ensures),
+      filling-step _ _ _ _ _ _ (inv .3) (inv .0) (omega (arith, inv .2, less, t .before .before .before .before .pre .6)) (c .entry-at .ensures),
     )
 
 same-length : tie.Need-same-length Inv-loop μ-loop
@@ -45,7 +47,7 @@ same-length c = let t = c .before in omega (arith, t .loop .inv .2, t .before .b
 
 returns : tie.Need-returns Inv-loop μ-loop
 returns c =
-    let e : c .before .loop .due ≡ room = omega (arith, c .before .loop .inv .1, c .loop-test .left) in
+    let e : c .before .loop .due ≡ c .before .before .before .before .before .args .end = omega (arith, c .before .loop .inv .1, c .loop-test .left) in
     rw (← e) (c .before .loop .inv .3)
 
 pub fill-spec : {M : Type 1} → statement M

@@ -16,6 +16,21 @@ begun f = f .before .before .before .before
 abbrev began : tie.After-painters → tie.Start
 began p = p .before .before .before .before .before .before .before .before
 
+fill-requires : tie.Need-fill-requires
+fill-requires c κs =
+    let p = c .before .before .before in
+    let s = began p in
+    let across = p .before .before .before .before .before .lay .ensures in
+    let down = p .before .before .lay2 .ensures in (
+      across .long,
+      omega (arith, across .few, s .pre .0 .few),
+      down .long,
+      omega (arith, down .few, s .pre .0 .few),
+      simp length-set (s .pre .1),
+      s .pre .2,
+      s .pre .3,
+    )
+
 same-length : tie.Need-same-length
 same-length c = c .before .before .fill .kept .0 ∙ simp length-set
 
@@ -24,7 +39,7 @@ returns c =
     let f = c .before .before in
     let p = begun f in
     let s = began p in
-    sizes-made _ _ (omega (arith, s .pre .0 .few)) _ _ _ _ (p .before .before .before .before .before .lay .ensures) (p .before .before .lay2 .ensures) _ _
+    sizes-made _ _ (omega (arith, s .pre .0 .few)) _ _ _ _ (p .before .before .before .before .before .lay .ensures) (p .before .before .lay2 .ensures) _ _ _
     (getD-set-same (now (s .args .sizes)) 0 (p .painters .result) 0 (omega (arith, s .pre .1)) ∙ p .painters .ensures) (f .fill .ensures)
 
 pub fill-sizes-spec : {M : Type 1} → statement M
@@ -39,6 +54,6 @@ fill-sizes-spec =
     (λ c. search needs)
     (λ c. search needs)
     (λ c. search needs)
-    (λ c κs. search needs)
+    fill-requires
     same-length
     returns)
