@@ -135,6 +135,12 @@ static void size_card(const struct engine *timed, const struct task *task)
     timed->size_card(task->first.at, task->first.length, card, DV_CARD_ENTRIES);
 }
 
+static void why_not(const struct engine *timed, const struct task *task)
+{
+    static uint32_t work[DV_MOST_WORK];
+    timed->why_not(task->first.at, task->first.length, task->second.at, task->second.length, work, DV_MOST_WORK);
+}
+
 static void make(const struct engine *timed, const struct task *task)
 {
     static uint8_t out[DV_LONGEST_BOOK];
@@ -163,6 +169,14 @@ static void measure_derivation(const char *name, const struct family *family, co
     print_figures(name, &task, measure(&task));
 }
 
+static void measure_reason(const char *name, const struct family *family, const struct grid *grid)
+{
+    struct task task = {.call = why_not, .unit = "a call", .units = 1};
+    spell_book(family, &task.first);
+    spell_sheet(grid, &task.second);
+    print_figures(name, &task, measure(&task));
+}
+
 static void measure_house(void)
 {
     struct family family = {.motifs = 3, .start = 0};
@@ -175,6 +189,8 @@ static void measure_house(void)
     add_rule(&family, 1, DV_KIND_COLOUR, 0, 0);
     add_rule(&family, 2, DV_KIND_COLOUR, 1, 0);
     measure_derivation("derivation, 2 by 3, house book", &family, &grid, 1);
+    grid.cell[4] = 0;
+    measure_reason("why not, 2 by 3, house book", &family, &grid);
 }
 
 // The first four rules derive every sheet; the rest are joins by chance, half of them across.
@@ -203,6 +219,26 @@ static void measure_press(unsigned rules)
         grid.cell[i] = chance_below(2);
     snprintf(name, sizeof name, "derivation, 12 by 12, %u rules", rules);
     measure_derivation(name, &family, &grid, trials(&family, &grid));
+}
+
+// The start has the sheets of one colour, and the sheet has a cell of another, so that every reason is looked for. The
+// other rules are joins by chance with other heads.
+static void measure_large_reason(void)
+{
+    struct family family = {.motifs = MOTIFS, .start = 0};
+    struct grid grid = {.rows = DV_MOST_ROWS, .columns = DV_MOST_COLUMNS};
+    add_ink(&family.palette, "Slate C");
+    add_ink(&family.palette, "Slate U");
+    grid.palette = family.palette;
+    add_rule(&family, 0, DV_KIND_COLOUR, 0, 0);
+    add_rule(&family, 1, DV_KIND_COLOUR, 1, 0);
+    add_rule(&family, 0, DV_KIND_ACROSS, 0, 0);
+    add_rule(&family, 0, DV_KIND_DOWN, 0, 0);
+    while (family.rules < DV_MOST_RULES)
+        add_rule(&family, chance_from(1, MOTIFS - 1), family.rules % 2 == 0 ? DV_KIND_ACROSS : DV_KIND_DOWN,
+                 chance_below(MOTIFS), chance_below(MOTIFS));
+    grid.cell[DV_MOST_ROWS / 2 * DV_MOST_COLUMNS + DV_MOST_COLUMNS / 2] = 1;
+    measure_reason("why not, 12 by 12, 200 rules", &family, &grid);
 }
 
 static void measure_card(void)
@@ -309,6 +345,7 @@ int main(int argc, char **argv)
     measure_press(4);
     measure_press(40);
     measure_press(200);
+    measure_large_reason();
     measure_card();
     measure_longest_book();
     measure_stems();

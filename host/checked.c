@@ -40,6 +40,11 @@ static uint64_t size_card(void)
 {
     return dv_size_card(slice[0].at, slice[0].length, (uint32_t *)(void *)slice[1].at, slice[1].length);
 }
+static uint64_t why_not(void)
+{
+    return dv_why_not(slice[0].at, slice[0].length, slice[1].at, slice[1].length, (uint32_t *)(void *)slice[2].at,
+                      slice[2].length);
+}
 #define OF_TWO(name)                                                                                                   \
     static uint64_t name(void)                                                                                         \
     {                                                                                                                  \
@@ -74,6 +79,7 @@ static const struct call calls[] = {
     {"dv_sheet_size", sheet_size, 0, 1, {0}, 0},
     {"dv_derive", derive, 1, 1, {sizeof(uint32_t), sizeof(uint16_t)}, ENDS_EARLY},
     {"dv_size_card", size_card, 1, 0, {sizeof(uint32_t)}, ENDS_EARLY},
+    {"dv_why_not", why_not, 1, 1, {sizeof(uint32_t)}, ENDS_EARLY},
     {"dv_either_of", either_of, 2, 0, {1}, ENDS_EARLY},
     {"dv_beside", beside, 2, 0, {1}, ENDS_EARLY},
     {"dv_above", above, 2, 0, {1}, ENDS_EARLY},

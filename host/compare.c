@@ -19,6 +19,7 @@ int main(int argc, char **argv)
         {"grown", compare_grown},
         {"lookups", compare_lookups},
         {"cards", compare_cards},
+        {"reasons", compare_reasons},
         {"combinations", compare_combinations},
         {"members", compare_members},
     };

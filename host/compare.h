@@ -15,7 +15,7 @@ void comparisons_begin(uint64_t seed);
 // The comparisons that follow are counted under this kind.
 void comparisons_of(const char *kind);
 
-// Says how many were made of each kind. Fails where they met too few of the answers to mean much.
+// Says how many were made of each kind. Fails where they met too few of the answers and reasons to mean much.
 void comparisons_end(void);
 
 // Ends the program: something is wrong with the call last made.
@@ -30,6 +30,7 @@ uint64_t compare_sheet_size(const struct bytes *sheet);
 uint64_t compare_derive(const struct bytes *book, const struct bytes *sheet, size_t work_len, size_t tree_len);
 // The card is put into card, where that is not null and the answer is 0.
 uint64_t compare_size_card(const struct bytes *book, size_t card_len, uint32_t card[DV_CARD_ENTRIES]);
+uint64_t compare_why_not(const struct bytes *book, const struct bytes *sheet, size_t work_len);
 // The new book is put into made, where that is not null and the answer is 0.
 uint64_t compare_combination(enum combination combination, const struct bytes *first, const struct bytes *second,
                              size_t out_len, struct bytes *made);
@@ -48,6 +49,7 @@ void compare_rooms(void);
 void compare_grown(void);
 void compare_lookups(void);
 void compare_cards(void);
+void compare_reasons(void);
 void compare_combinations(void);
 void compare_members(void);
 

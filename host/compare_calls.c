@@ -30,7 +30,7 @@ static struct lent in[SLICES], out[ENGINES][SLICES];
 static uint8_t noise[1 << 16];
 
 static uint64_t seed_of_run;
-static unsigned long met[DV_NO_RULE_FITS + 1];
+static unsigned long met[DV_IN_FAMILY + 1], met_reasons[DV_REASON_NO_PIECE + 1];
 static unsigned kinds;
 static struct {
     const char *name;
@@ -89,16 +89,24 @@ void comparisons_of(const char *name)
     kind[kinds++].name = name;
 }
 
+static void expect_enough(unsigned long count, const char *what, unsigned number)
+{
+    if (count >= ENOUGH)
+        return;
+    fprintf(stderr, "compare: only %lu comparisons met %s %u\n", count, what, number);
+    exit(1);
+}
+
 void comparisons_end(void)
 {
     unsigned long all = 0;
     for (unsigned i = 0; i < kinds; i++)
         all += kind[i].count;
-    for (unsigned i = DV_ACCEPTED; i <= DV_OUT_SHORT; i++)
-        if (met[i] < ENOUGH) {
-            fprintf(stderr, "compare: only %lu comparisons met answer %u\n", met[i], i);
-            exit(1);
-        }
+    for (unsigned i = DV_ACCEPTED; i <= DV_IN_FAMILY; i++)
+        if (i != DV_NO_RULE_FITS)
+            expect_enough(met[i], "answer", i);
+    for (unsigned i = DV_REASON_COLOUR; i <= DV_REASON_NO_PIECE; i++)
+        expect_enough(met_reasons[i], "reason", i);
     printf("compare: %lu comparisons, no difference, seed %llu:", all, (unsigned long long)seed_of_run);
     for (unsigned i = 0; i < kinds; i++)
         printf("%s %s %lu", i == 0 ? "" : ",", kind[i].name, kind[i].count);
@@ -261,6 +269,24 @@ uint64_t compare_size_card(const struct bytes *book, size_t card_len, uint32_t c
     uint64_t answer = met_with(compare());
     if (card != NULL && dv_number(answer) == DV_ACCEPTED)
         memcpy(card, out[0][0].slice, DV_CARD_ENTRIES * sizeof *card);
+    return answer;
+}
+
+static uint64_t ask_why_not(const struct lent *lent)
+{
+    return asked->why_not(in[0].slice, call.input[0]->length, in[1].slice, call.input[1]->length,
+                          (uint32_t *)(void *)lent[0].slice, call.entries[0]);
+}
+
+uint64_t compare_why_not(const struct bytes *book, const struct bytes *sheet, size_t work_len)
+{
+    call = (struct call){.name = "dv_why_not",
+                         .ask = ask_why_not,
+                         .input = {book, sheet},
+                         .entries = {work_len},
+                         .size = {sizeof(uint32_t)}};
+    uint64_t answer = met_with(compare());
+    met_reasons[dv_reason_kind(answer)]++;
     return answer;
 }
 

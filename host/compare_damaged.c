@@ -11,6 +11,7 @@ static void compare_as_book(const struct bytes *book, const struct bytes *sheet,
     compare_rule(book, chance_below(8));
     compare_derive(book, sheet, one_in(4) ? 0 : ROOMY_WORK, one_in(4) ? 0 : ROOMY_TREE);
     compare_size_card(book, one_in(4) ? 0 : DV_CARD_ENTRIES, NULL);
+    compare_why_not(book, sheet, one_in(4) ? 0 : ROOMY_WORK);
     enum combination combination = (enum combination)chance_below(COMBINATIONS);
     if (one_in(2))
         compare_combination(combination, book, other, one_in(4) ? 0 : ROOMY_OUT, NULL);
@@ -23,6 +24,7 @@ static void compare_as_sheet(const struct bytes *book, const struct bytes *sheet
     compare_read_sheet(sheet);
     compare_sheet_size(sheet);
     compare_derive(book, sheet, one_in(4) ? 0 : ROOMY_WORK, one_in(4) ? 0 : ROOMY_TREE);
+    compare_why_not(book, sheet, one_in(4) ? 0 : ROOMY_WORK);
 }
 
 // Every byte as every other, every beginning, every byte dropped or doubled, and bytes that follow the end.

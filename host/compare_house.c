@@ -19,6 +19,8 @@ static const struct bytes sheet_a_slate = BYTES(SLATE_ALONE, 2, 3, 0, 0, 0, 1, 1
 static const struct bytes one_cell = BYTES(SLATES, 1, 1, 0);
 static const struct bytes upright = BYTES(SLATES, 2, 1, 0, 1);
 static const struct bytes lying = BYTES(SLATES, 1, 2, 0, 1);
+static const struct bytes sheet_a_spoilt = BYTES(SLATES, 2, 3, 0, 0, 0, 1, 0, 1);
+static const struct bytes upside_down = BYTES(SLATES, 2, 3, 1, 1, 1, 0, 0, 0);
 
 static const uint32_t table_a[18] = {2, 2, 2, 4, 4, 4, 0, 0, 0, 0, 0, 0, 1, 1, 1, 1, 1, 1};
 static const uint16_t tree_a[22] = {0, 1, 1, 1, 2, 0, 3, 0, 0, 1, 1, 1, 2, 0, 3, 0, 1, 1, 2, 0, 3, 0};
@@ -104,6 +106,23 @@ static void expect_cards(void)
     expect(has_card(&house_transposed, transposed, 12), "the size card transposed");
 }
 
+static uint64_t why_not(const struct bytes *sheet, uint32_t *work)
+{
+    return judged->why_not(house.at, house.length, sheet->at, sheet->length, work, DV_MOST_WORK);
+}
+
+// The upper left cell has a colour that the house book lacks; there is no sheet of one cell; a wrong cell in the middle
+// leaves the first column whole; and upside down no piece is right.
+static void expect_reasons(void)
+{
+    static uint32_t work[DV_MOST_WORK];
+    expect(why_not(&sheet_a, work) == 15 && memcmp(work, table_a, sizeof table_a) == 0, "sheet A in the family");
+    expect(why_not(&sheet_a_slate, work) == UINT64_C(1) << 32, "the colour that no rule names");
+    expect(why_not(&one_cell, work) == UINT64_C(2) << 32 && work[0] == 2, "the size that it has not");
+    expect(why_not(&sheet_a_spoilt, work) == (3 | 2 << 13 | UINT64_C(1) << 18) << 32, "the largest piece");
+    expect(why_not(&upside_down, work) == UINT64_C(4) << 32, "no piece");
+}
+
 static void expect_lookups(void)
 {
     static const uint64_t rules[] = {UINT64_C(0x100000100), UINT64_C(0x102010200), UINT64_C(0x100000001),
@@ -122,6 +141,7 @@ void compare_house(void)
         expect_sheets();
         expect_books();
         expect_cards();
+        expect_reasons();
         expect_lookups();
     }
     if (compare_read_book(&book_and_sheet) != 0 || compare_read_sheet(&book_and_sheet) != 0)
@@ -132,6 +152,8 @@ void compare_house(void)
     if (compare_derive(&house, &sheet_a, 18, 22) != 0 || compare_derive(&house, &sheet_a, 17, 22) != 9 ||
         compare_derive(&house, &sheet_a, 18, 21) != 10)
         wrong("sheet A wants a work slice of 18 and a tree slice of 22");
+    if (compare_why_not(&house, &sheet_a, 18) != 15 || compare_why_not(&house, &sheet_a, 17) != 9)
+        wrong("sheet A wants a work slice of 18");
     if (compare_size_card(&house, 12, NULL) != UINT64_C(12) << 32 || compare_size_card(&house, 11, NULL) != 13)
         wrong("a card wants a slice of 12");
 }

@@ -46,6 +46,7 @@ static void compare_book(const struct family *family)
     compare_sheet_size(&sheet);
     compare_derive(&book, &sheet, dv_work_entries(2, 2), dv_tree_entries(2, 2));
     compare_size_card(&book, DV_CARD_ENTRIES, NULL);
+    compare_why_not(&book, &sheet, dv_work_entries(2, 2));
     compare_combination(RUN, &book, NULL, ROOMY_OUT, NULL);
     compare_combination(TRANSPOSED, &book, NULL, book.length, NULL);
 }
@@ -106,6 +107,8 @@ static void compare_sheets_at_limits(void)
                     compare_sheet_size(&sheet);
                     compare_derive(&book, &sheet, ROOMY_WORK, ROOMY_TREE);
                     compare_derive(&book, &sheet, DV_MOST_WORK - 1, DV_MOST_TREE - 1);
+                    compare_why_not(&book, &sheet, DV_MOST_WORK);
+                    compare_why_not(&book, &sheet, DV_MOST_WORK - 1);
                 }
 }
 

@@ -1,5 +1,5 @@
-// A small RIP: tells which sizes a family has, whether a sheet belongs to it and how that is made up, and joins two
-// families.
+// A small RIP: tells which sizes a family has, whether a sheet belongs to it and how that is made up or why not, and
+// joins two families. Rows and columns are counted from 1, as people do.
 //
 //     example BOOK SHEET [SECOND-BOOK]
 #include <stdio.h>
@@ -13,6 +13,7 @@ static const char *const words[] = {
     "there is no motif or colour of this number", "there is no such kind of rule", "bytes follow the end",
     "the work slice is too short", "the tree slice is too short", "the sheet does not belong to the family",
     "too many colours, motifs or rules", "the output slice is too short", "no rule fits at some node",
+    "the sheet belongs to the family",
 };
 
 // One byte more than the longest that can be accepted is enough to have a longer file refused.
@@ -69,7 +70,7 @@ static const uint16_t *print_panel(const uint16_t *node, size_t rows, size_t col
 {
     uint64_t rule = dv_rule(book, book_len, node[0]);
     size_t k = node[1];
-    printf("rule %u: %zu by %zu at row %zu, column %zu", node[0], rows, columns, top, left);
+    printf("rule %u: %zu by %zu at row %zu, column %zu", node[0], rows, columns, top + 1, left + 1);
     if (dv_rule_kind(rule) == DV_KIND_COLOUR) {
         uint64_t shown = dv_colour(book, book_len, dv_rule_first(rule));
         printf(", %.*s\n", (int)dv_shown_length(shown), (const char *)book + dv_shown_place(shown));
@@ -83,6 +84,37 @@ static const uint16_t *print_panel(const uint16_t *node, size_t rows, size_t col
     return print_panel(print_panel(node + 2, k, columns, top, left), rows - k, columns, top + k, left);
 }
 
+// The largest piece of the family in the sheet.
+static void print_piece(uint64_t reason)
+{
+    size_t top = dv_reason_row(reason), left = dv_reason_column(reason);
+    printf("a piece of it does: rows %zu to %zu of columns %zu to %zu, and no larger one\n", top + 1,
+           top + dv_reason_height(reason), left + 1, left + dv_reason_width(reason));
+}
+
+// What the desk tells the client.
+static void print_reason(void)
+{
+    uint64_t answer = dv_why_not(book, book_len, sheet, sheet_len, work, DV_MOST_WORK);
+    switch (dv_reason_kind(answer)) {
+    case DV_REASON_COLOUR:
+        printf("the cell in row %zu, column %zu has a colour that no rule names\n", dv_reason_row(answer) + 1,
+               dv_reason_column(answer) + 1);
+        break;
+    case DV_REASON_SIZE:
+        printf("the family has no sheet of this size\n");
+        break;
+    case DV_REASON_PIECE:
+        print_piece(answer);
+        break;
+    case DV_REASON_NO_PIECE:
+        printf("the family has sheets of this size, and no piece of this one belongs to it\n");
+        break;
+    default:
+        say("why not", answer);
+    }
+}
+
 static void derive(void)
 {
     uint64_t answer = dv_derive(book, book_len, sheet, sheet_len, work, DV_MOST_WORK, tree, DV_MOST_TREE);
@@ -91,6 +123,8 @@ static void derive(void)
         uint64_t size = dv_sheet_size(sheet, sheet_len);
         print_panel(tree, dv_size_rows(size), dv_size_columns(size), 0, 0);
     }
+    if (dv_number(answer) == DV_NOT_DERIVED)
+        print_reason();
 }
 
 static void join(void)

@@ -17,6 +17,9 @@ uint64_t independent_derive(const uint8_t *book, size_t book_len, const uint8_t 
 
 uint64_t independent_size_card(const uint8_t *book, size_t book_len, uint32_t *card, size_t card_len);
 
+uint64_t independent_why_not(const uint8_t *book, size_t book_len, const uint8_t *sheet, size_t sheet_len,
+                             uint32_t *work, size_t work_len);
+
 uint64_t independent_either_of(const uint8_t *first, size_t first_len, const uint8_t *second, size_t second_len,
                                uint8_t *out, size_t out_len);
 uint64_t independent_beside(const uint8_t *first, size_t first_len, const uint8_t *second, size_t second_len,

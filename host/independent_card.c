@@ -1,5 +1,7 @@
 // The size card. Which motifs have a sheet of some height and width follows from smaller sizes and the rules; no colour
 // is looked at.
+#include "independent_card.h"
+
 #include "independent.h"
 #include "independent_joins.h"
 
@@ -19,13 +21,14 @@ static uint32_t motifs_of_a_cell(const struct book *book)
     return heads;
 }
 
-static void size_up(const struct book *book, struct sizes *sizes)
+// Up to so many rows and columns.
+static void size_up(const struct book *book, struct sizes *sizes, unsigned rows, unsigned columns)
 {
     struct joins across, down;
     split(book, KIND_ACROSS, &across);
     split(book, KIND_DOWN, &down);
-    for (unsigned height = 1; height <= MOST; height++)
-        for (unsigned width = 1; width <= MOST; width++) {
+    for (unsigned height = 1; height <= rows; height++)
+        for (unsigned width = 1; width <= columns; width++) {
             uint32_t heads = height == 1 && width == 1 ? motifs_of_a_cell(book) : 0;
             for (unsigned k = 1; k < width; k++)
                 heads |= joined(&across, sizes->motifs[height][k], sizes->motifs[height][width - k]);
@@ -33,6 +36,13 @@ static void size_up(const struct book *book, struct sizes *sizes)
                 heads |= joined(&down, sizes->motifs[k][width], sizes->motifs[height - k][width]);
             sizes->motifs[height][width] = heads;
         }
+}
+
+bool independent_has_size(const struct book *book, unsigned rows, unsigned columns)
+{
+    struct sizes sizes;
+    size_up(book, &sizes, rows, columns);
+    return sizes.motifs[rows][columns] >> book->start & 1;
 }
 
 uint64_t independent_size_card(const uint8_t *book, size_t book_len, uint32_t *card, size_t card_len)
@@ -44,7 +54,7 @@ uint64_t independent_size_card(const uint8_t *book, size_t book_len, uint32_t *c
         return refusal;
     if (card_len < MOST)
         return independent_answer(13, 0, 0);
-    size_up(&contents, &sizes);
+    size_up(&contents, &sizes, MOST, MOST);
     for (unsigned height = 1; height <= MOST; height++) {
         card[height - 1] = 0;
         for (unsigned width = 1; width <= MOST; width++) {

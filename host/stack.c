@@ -60,6 +60,11 @@ static void size_card(void)
     answer = dv_size_card(book.at, book.length, card, DV_CARD_ENTRIES);
 }
 
+static void why_not(void)
+{
+    answer = dv_why_not(book.at, book.length, sheet.at, sheet.length, work, DV_MOST_WORK);
+}
+
 static void make(void)
 {
     answer = combine(&library, combination, book.at, book.length, second.at, second.length, out, sizeof out);
@@ -98,6 +103,7 @@ static struct kind kinds[] = {
     {"dv_sheet_size", sheet_size, 0},
     {"dv_derive", derive, 0},
     {"dv_size_card", size_card, 0},
+    {"dv_why_not", why_not, 0},
 };
 static size_t most_of[COMBINATIONS];
 
@@ -174,6 +180,8 @@ static void measure_by_chance(void)
         grow_some_family(&f);
         grow_some_family(&g);
         grow_grid(&f, &grid, DV_MOST_ROWS, DV_MOST_COLUMNS);
+        if (one_in(2))
+            spoil_cell(&grid);
         spell_all(&f, &g, &grid);
         measure();
     }

@@ -1,9 +1,9 @@
 // Druvelstek: the C face of the verified library. C99 or later, or C++11 or later.
 //
 // A book is one family of layouts and a sheet is a grid of colours, both spelt byte by byte as docs/RULES.md says. The
-// library tells whether the family derives the sheet, gives the table of pieces and one derivation, tells which sizes
-// the family has, looks up names, rules and sizes, and makes new books of lent ones. Each call is proved to keep what
-// its comment says, on every input.
+// library tells whether the family derives the sheet, and why not where it does not, gives the table of pieces and one
+// derivation, tells which sizes the family has, looks up names, rules and sizes, and makes new books of lent ones. Each
+// call is proved to keep what its comment says, on every input.
 //
 // Nothing in the bytes tells a book from a sheet, and some are both: 2, 1 "a", 1 "b", 4, 1, 1, 0, 0, 0 is a book of
 // four motifs with one rule, and a sheet of four rows and one column. A caller keeps apart which file is which.
@@ -36,7 +36,7 @@ extern "C" {
 
 // The version of rules and calls that this header describes, and the call that tells the archive's. A host compares the
 // two before any other call, so that a header and an archive of two versions are noticed.
-#define DV_VERSION 3
+#define DV_VERSION 4
 uint64_t dv_version(void);
 
 // The greatest sizes.
@@ -49,8 +49,8 @@ uint64_t dv_version(void);
 #define DV_LONGEST_BOOK 3429
 #define DV_LONGEST_SHEET 2771
 
-// Stack that is enough for every call. No theorem says so; measured on the x86-64 code with the deepest input: at most
-// 53 kilobytes, in a derivation of 23 levels, and the rest is margin.
+// Stack that is enough for every call. No theorem says so: host/header measures it on the x86-64 code, with the deepest
+// input, a derivation of 23 levels, and fails where less than 8 kilobytes would be left.
 #define DV_ENOUGH_STACK 65536
 
 // Enough entries of the work slice and of the tree slice for every sheet.
@@ -72,6 +72,11 @@ static inline size_t dv_tree_entries(size_t rows, size_t columns) { return 2 * (
 // The kinds of rules: a cell of one colour; a left and a right part; an upper and a lower part.
 enum dv_kind { DV_KIND_COLOUR = 0, DV_KIND_ACROSS = 1, DV_KIND_DOWN = 2 };
 
+// The reasons why a sheet is not in the family, in the order in which they are looked for: a cell has a colour that no
+// rule names; the family has no sheet of this size; it has, and this is the largest piece that the start motif derives;
+// it has, and the start motif derives no piece.
+enum dv_reason { DV_REASON_COLOUR = 1, DV_REASON_SIZE = 2, DV_REASON_PIECE = 3, DV_REASON_NO_PIECE = 4 };
+
 // The answer numbers. 1 to 8 blame the input in which the fault stands, 1 the first and 2 the second, and have a place
 // in it, counted from 0. All others blame 0, with place 0.
 enum dv_answer_number {
@@ -89,11 +94,12 @@ enum dv_answer_number {
     DV_NOT_DERIVED = 11,    // the start motif does not derive the sheet
     DV_TOO_MANY = 12,       // a combination exceeds 64 colours, 32 motifs or 200 rules
     DV_OUT_SHORT = 13,      // output or card slice shorter than the result
-    DV_NO_RULE_FITS = 14    // a guard: the sheet is derived, yet at some node no rule fits; proved never to come
+    DV_NO_RULE_FITS = 14,   // a guard: the sheet is derived, yet at some node no rule fits; proved never to come
+    DV_IN_FAMILY = 15       // the sheet is in the family, so that there is no reason why not
 };
 
 // An answer is number + 2^8 * blamed + 2^12 * place + 2^32 * count; here it is taken apart. The count is the number of
-// bytes that a combination wrote, or of sizes on a card, 0 on refusal and for every other call.
+// bytes that a combination wrote, or of sizes on a card, or a reason, 0 on refusal and for every other call.
 static inline unsigned dv_number(uint64_t answer) { return (unsigned)(answer & 0xff); }
 static inline unsigned dv_blamed(uint64_t answer) { return (unsigned)(answer >> 8 & 0xf); }
 static inline size_t dv_place(uint64_t answer) { return (size_t)(answer >> 12 & 0xfffff); }
@@ -158,6 +164,29 @@ static inline int dv_has_size(const uint32_t *card, size_t rows, size_t columns)
 {
     return (int)(card[rows - 1] >> (columns - 1) & 1);
 }
+
+// Says why a sheet of m rows and n columns is not in the family, for the desk that got 11. Answers, in this order: 1 to
+// 8 blaming 1, the book; 1 to 8 blaming 2, the sheet; 9; 15 where the sheet is in the family; 0, with a reason as the
+// count, taken apart below. It is the first of these that is true:
+// - DV_REASON_COLOUR, with row and column: a cell whose colour no rule of the book names, the first such cell, row by
+//   row. Each colour rule names its colour, whether the start motif leads to it or not; the book's list names none.
+// - DV_REASON_SIZE: the family has no sheet of m rows and n columns, as its size card says.
+// - DV_REASON_PIECE, with row and column, height and width: the start motif derives this piece of the sheet, none of
+//   greater area, and none of the same area that stands earlier in the table. Row and column are its top and left.
+// - DV_REASON_NO_PIECE: it derives no piece of the sheet.
+//
+// On 0 and 15 the first dv_work_entries(m, n) entries of work hold the table of pieces, as after dv_derive; every other
+// answer writes nothing. Everything else in work is unchanged.
+uint64_t dv_why_not(const uint8_t *book, size_t book_len, const uint8_t *sheet, size_t sheet_len, uint32_t *work,
+                    size_t work_len);
+
+// The kind of the reason in an answer of dv_why_not, or 0 where it has none, and what goes with it, rows and columns
+// counted from 0. What the kind does not name is 0.
+static inline unsigned dv_reason_kind(uint64_t answer) { return (unsigned)(answer >> 32 & 0x7); }
+static inline size_t dv_reason_row(uint64_t answer) { return (size_t)(answer >> 35 & 0x1f); }
+static inline size_t dv_reason_column(uint64_t answer) { return (size_t)(answer >> 40 & 0x1f); }
+static inline size_t dv_reason_height(uint64_t answer) { return (size_t)(answer >> 45 & 0x1f); }
+static inline size_t dv_reason_width(uint64_t answer) { return (size_t)(answer >> 50 & 0x1f); }
 
 // The eight combinations. Each answers, in this order: 1 to 8 blaming 1, the first book; 1 to 8 blaming 2, the second;
 // 12; 13; 0. On 0 the first dv_count bytes of out are the new book. Everything else in out is unchanged.
@@ -260,6 +289,16 @@ static inline uint64_t dv_checked_size_card(const uint8_t *book, size_t book_len
     return dv_size_card(book, book_len, card, card_len);
 }
 
+static inline uint64_t dv_checked_why_not(const uint8_t *book, size_t book_len, const uint8_t *sheet, size_t sheet_len,
+                                          uint32_t *work, size_t work_len)
+{
+    assert(dv_is_lent(book, book_len, 1) && dv_is_lent(sheet, sheet_len, 1));
+    assert(dv_is_lent(work, work_len, sizeof *work));
+    assert(dv_are_apart(work, work_len * sizeof *work, book, book_len));
+    assert(dv_are_apart(work, work_len * sizeof *work, sheet, sheet_len));
+    return dv_why_not(book, book_len, sheet, sheet_len, work, work_len);
+}
+
 // The combinations of two books, and those of one, differ in the call alone.
 #define DV_CHECKED_OF_TWO(name)                                                                                        \
     static inline uint64_t dv_checked_##name(const uint8_t *first, size_t first_len, const uint8_t *second,            \
@@ -294,6 +333,7 @@ DV_CHECKED_OF_ONE(transposed)
 #define dv_sheet_size dv_checked_sheet_size
 #define dv_derive dv_checked_derive
 #define dv_size_card dv_checked_size_card
+#define dv_why_not dv_checked_why_not
 #define dv_either_of dv_checked_either_of
 #define dv_beside dv_checked_beside
 #define dv_above dv_checked_above

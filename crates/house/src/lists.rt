@@ -4,6 +4,7 @@ use crate::cards;
 use crate::limits;
 use crate::palindromes;
 use crate::reading;
+use crate::why;
 
 // What the cases of a list are.
 pub(crate) enum Kind {
@@ -14,6 +15,8 @@ pub(crate) enum Kind {
     BookRead,
     PlainSheet,
     Columns,
+    WhySheet,
+    WhyBook,
 }
 
 // How many bytes of a part follow the place of its length; none past the end.
@@ -41,6 +44,8 @@ fn case(kind: Kind, asked: &[u8], bytes: &[u8]) {
         Kind::BookRead => reading::book(asked, bytes),
         Kind::PlainSheet => limits::plain_sheet(asked, bytes),
         Kind::Columns => palindromes::columns(asked, bytes),
+        Kind::WhySheet => why::sheet(asked, bytes),
+        Kind::WhyBook => why::book(asked, bytes),
     }
 }
 

@@ -12,6 +12,7 @@ mod printing;
 mod reading;
 mod refusals;
 mod slices;
+mod why;
 
 fn main() {
     printing::line(
@@ -39,4 +40,8 @@ fn main() {
     );
     cards::of_slices();
     cards::refusals();
+    printing::line(
+        b"Why not: number, blamed input, place; reason, its row, column, height and width; how much of the work slice was written",
+    );
+    why::run();
 }

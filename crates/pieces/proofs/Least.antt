@@ -1,7 +1,7 @@
 -- The least number that a test accepts: it is accepted where it lies in the range, and no lower one is, since the search passes one number
 -- after the other.
 use Prim.Native.Nat.{ℕ, zero, suc, _+_, _-_, _≤_, _<_}
-use mathlib.Core.Path.{_≡_, refl, _∙_, ap}
+use mathlib.Core.Path.{_≡_, refl, sym, _∙_, ap}
 use mathlib.Core.Bool.{Bool, true, false, true≢false, false≢true}
 use mathlib.Core.Logic.{_⊎_, inl, inr, ⊎-elim}
 use native.Mathlib.Nat.{eq-or-lt-of-le}
@@ -42,6 +42,16 @@ least-is t i (suc n) = go (true-or-false (t i)) (least-is t (suc i) n)
           accepted = λ h. w .accepted (omega arith);
           lower = λ j h g. ⊎-elim (λ (q : i ≡ j). rw (← q) e) (λ (q : i < j). w .lower j q g) (eq-or-lt-of-le h);
         })
+
+-- Two tests that agree have the same least number.
+pub least-same : (s t : ℕ → Bool) (i n : ℕ) → ((j : ℕ) → j < i + n → s j ≡ t j) → least s i n ≡ least t i n
+unfolding least
+least-same s t i zero same = refl
+least-same s t i (suc n) same = go (true-or-false (t i)) (least-same s t (suc i) n (λ j h. same j (omega arith)))
+  where
+    go : (t i ≡ true) ⊎ (t i ≡ false) → least s (suc i) n ≡ least t (suc i) n → least s i (suc n) ≡ least t i (suc n)
+    go (inl e) ih = here s i n (same i (omega arith) ∙ e) ∙ sym (here t i n e)
+    go (inr e) ih = on s i n (same i (omega arith) ∙ e) ∙ ih ∙ sym (on t i n e)
 
 -- The same as a loop makes it, from k up to an end.
 module _ (t : ℕ → Bool) (k end : ℕ) where

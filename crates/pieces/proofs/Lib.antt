@@ -19,6 +19,7 @@ pub mod WholeTable
 pub mod AcceptedInputs
 pub mod TableEntries
 pub mod Least
+pub mod Searching
 pub mod Cutting
 pub mod Fitting
 pub mod Choosing

@@ -9,4 +9,5 @@ pub mod Choice
 pub mod Tree
 pub mod Derivation
 pub mod Asking
+pub mod Largest
 pub mod inner

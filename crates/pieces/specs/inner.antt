@@ -13,3 +13,4 @@ pub mod Settled
 pub mod Verdict
 pub mod Told
 pub mod TreeWrote
+pub mod Larger

@@ -7,11 +7,11 @@ ghost use Rattle.pieces.specs.inner.NextTo.{NextTo};
 ghost use Rattle.pieces.specs.inner.Room.{most, Room};
 
 // So many rows and columns, from a top row and a left column on.
-pub(crate) struct Piece {
-    pub(crate) height: usize,
-    pub(crate) width: usize,
-    pub(crate) top: usize,
-    pub(crate) left: usize,
+pub struct Piece {
+    pub height: usize,
+    pub width: usize,
+    pub top: usize,
+    pub left: usize,
 }
 
 // The rows and the columns of a sheet.

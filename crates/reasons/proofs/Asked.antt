@@ -1,0 +1,173 @@
+-- What asking the book for the sheet tells of the outcome: where it answers 0 the sheet is in the family, 11 calls for the reason, and every other answer stays.
+-- On 11 the work slice holds the table, so that the reason which it shows is the reason.
+use Prim.Native.Nat.{ℕ, _≤_, _<_}
+use mathlib.Core.Path.{_≡_, refl, sym, ap, _∙_}
+use mathlib.Core.Bool.{Bool}
+use mathlib.Core.List.{List}
+use native.Mathlib.Omega.{arith}
+use borrow.Author.Tests.{eq-eqb, ne-eqb, lt-ltb, le-ltb}
+use lib.ListN.{length}
+use Rattle.names.specs.declared.number.Fault.{Fault}
+use Rattle.names.proofs.SpellingNumbers.{Bytes}
+use Rattle.books.specs.Contents.{Contents}
+use Rattle.books.specs.Picture.{Picture}
+use Rattle.books.specs.Derives.{Member}
+use Rattle.books.specs.Answer.{plain, blaming}
+use Rattle.books.specs.declared.answer.Answer.{Answer}
+use Rattle.books.specs.Book.{bookOf}
+use Rattle.books.specs.Sheet.{sheetOf}
+use Rattle.books.proofs.Deciding.{decided, refused as not-derived}
+use Rattle.books.proofs.ReadingBooks.{book-accepted}
+use Rattle.books.proofs.ReadingSheets.{sheet-lies, sheet-refused}
+use Rattle.pieces.specs.Asking.{Asking, unwritten, tabled, asking, Asks}
+use Rattle.pieces.specs.Derivation.{entriesNeeded, filled}
+use Rattle.pieces.specs.Pieces.{total}
+use Rattle.pieces.specs.declared.asking.Asked.{Asked}
+use Rattle.pieces.proofs.Endings.{contents, shown}
+use Rattle.pieces.proofs.Judging.{filled-holds, filled-length}
+use Rattle.sizes.specs.Outcome.{cardHas}
+use Rattle.sizes.proofs.OneSize.{on-card, placed-has}
+use Rattle.reasons.specs.declared.calls.WhyNot.{WhyNot}
+use Rattle.reasons.specs.declared.reason.Reason.{Reason}
+use Rattle.reasons.specs.Why.{Outcome, refused, reasonOf, whyNot, Answers}
+use Rattle.reasons.specs.inner.FromTable.{OfSheet, reasonIn, unexplained}
+use Rattle.reasons.proofs.Endings.{why-not-ends}
+use Rattle.reasons.proofs.FromTables.{reason-shown}
+
+module _ (book sheet entries : List ℕ) where
+  abbrev b : Contents
+  b = contents book
+
+  abbrev p : Picture
+  p = shown sheet
+
+  abbrev explained : Outcome
+  explained = record { answer = plain 0; reason = reasonOf b p; entries = filled b p entries }
+
+  -- ── The ways down of asking ──
+
+  ask-faulty : (sheetOf sheet .fault .number ≡ 0 → ⊥) → asking book sheet entries ≡ unwritten (blaming 2 (sheetOf sheet .fault)) entries
+  unfolding asking
+  ask-faulty n = simp (ne-eqb (sheetOf sheet .fault .number) 0 n)
+
+  module _ (fine : sheetOf sheet .fault .number ≡ 0) where
+    ask-short : length entries < entriesNeeded p → asking book sheet entries ≡ unwritten (plain 9) entries
+    unfolding asking
+    ask-short h = simp (eq-eqb (sheetOf sheet .fault .number) 0 fine, lt-ltb (length entries) (entriesNeeded p) h)
+
+    module _ (room : entriesNeeded p ≤ length entries) where
+      ask-in : Member b p → asking book sheet entries ≡ unwritten (plain 0) (filled b p entries)
+      unfolding asking tabled
+      ask-in x =
+          simp (eq-eqb (sheetOf sheet .fault .number) 0 fine, le-ltb (length entries) (entriesNeeded p) room, decided b (b .start) p .1 x)
+
+      ask-out : (Member b p → ⊥) → asking book sheet entries ≡ unwritten (plain 11) (filled b p entries)
+      unfolding asking tabled
+      ask-out n =
+          simp (eq-eqb (sheetOf sheet .fault .number) 0 fine, le-ltb (length entries) (entriesNeeded p) room, not-derived b (b .start) p .1 n)
+
+  -- ── What follows for the outcome ──
+
+  -- where a reason is called for
+  pub record Called (o : Outcome) (a : Asking) : Type 0 where
+    pub is : o ≡ explained
+    pub holds : a .entries ≡ filled b p entries
+    pub sheet-fine : sheetOf sheet .fault .number ≡ 0
+    pub room : entriesNeeded p ≤ length entries
+
+  pub record Follows (o : Outcome) (a : Asking) : Type 0 where
+    pub zero : a .answer .number ≡ 0 → o ≡ refused (plain 15) (a .entries)
+    pub eleven : a .answer .number ≡ 11 → Called o a
+    pub other : (a .answer .number ≡ 0 → ⊥) → (a .answer .number ≡ 11 → ⊥) → o ≡ refused (a .answer) (a .entries)
+
+  pub follows : bookOf book .fault .number ≡ 0 → Follows (whyNot book sheet entries) (asking book sheet entries)
+  follows book-fine =
+      why-not-ends book sheet entries (λ o. Follows o (asking book sheet entries))
+      (record {
+        in-book = λ n. absurd (n book-fine);
+        in-sheet = λ z n. let f = sheet-refused sheet n .blamed in
+            rw (ask-faulty n, ne-eqb (sheetOf sheet .fault .number) 0 n)
+            (record { zero = λ e. absurd (n e); eleven = λ e. absurd (omega (arith, f .known)); other = λ _ _. refl });
+        short-work = λ fine short.
+            rw (ask-short (fine .sheet-fine) short)
+            (record { zero = λ e. absurd (omega arith); eleven = λ e. absurd (omega arith); other = λ _ _. refl });
+        in-family = λ fine room x.
+            rw (ask-in (fine .sheet-fine) room x)
+            (record { zero = λ _. refl; eleven = λ e. absurd (omega arith); other = λ n _. absurd (n refl) });
+        explained = λ fine room none first.
+            rw (ask-out (fine .sheet-fine) room none)
+            (record {
+              zero = λ e. absurd (omega arith);
+              eleven = λ _. record { is = refl; holds = refl; sheet-fine = fine .sheet-fine; room = room };
+              other = λ _ n. absurd (n refl);
+            });
+      })
+
+-- ── What is told ──
+
+book-first : (book sheet entries : List ℕ) → (bookOf book .fault .number ≡ 0 → ⊥) → whyNot book sheet entries ≡ refused (blaming 1 (bookOf book .fault)) entries
+unfolding whyNot
+book-first book sheet entries n = simp (ne-eqb (bookOf book .fault .number) 0 n)
+
+module _ (book sheet entries : List ℕ) (w : WhyNot) (a : Answer) (told : w ≡ unexplained a) where
+  pub told-faulty : (f : Fault) → f ≡ bookOf book .fault → (f .number ≡ 0 → ⊥) → a ≡ blaming 1 f → Answers (whyNot book sheet entries) w entries
+  told-faulty f read n e =
+      rw (book-first book sheet entries (λ z. n (ap (λ (x : Fault). x .number) read ∙ z)))
+      (record { answers = ap (λ (x : WhyNot). x .answer) told ∙ e ∙ ap (blaming 1) read; reasons = ap (λ (x : WhyNot). x .reason) told; leaves = refl })
+
+  module _ (left : List ℕ) (r : Asked) (asks : Asks book sheet entries r left) (book-fine : bookOf book .fault .number ≡ 0) where
+    number-asked : (n : ℕ) → r .answer .number ≡ n → asking book sheet entries .answer .number ≡ n
+    number-asked n e = sym (ap (λ (x : Answer). x .number) (asks .answers)) ∙ e
+
+    other-number : (n : ℕ) → (r .answer .number ≡ n → ⊥) → asking book sheet entries .answer .number ≡ n → ⊥
+    other-number n none e = none (ap (λ (x : Answer). x .number) (asks .answers) ∙ e)
+
+    pub told-in : r .answer .number ≡ 0 → a ≡ plain 15 → Answers (whyNot book sheet entries) w left
+    told-in z e =
+        rw (follows book sheet entries book-fine .zero (number-asked 0 z))
+        (record { answers = ap (λ (x : WhyNot). x .answer) told ∙ e; reasons = ap (λ (x : WhyNot). x .reason) told; leaves = asks .leaves-work })
+
+    pub told-refused : (r .answer .number ≡ 0 → ⊥) → (r .answer .number ≡ 11 → ⊥) → a ≡ r .answer → Answers (whyNot book sheet entries) w left
+    told-refused n m e =
+        rw (follows book sheet entries book-fine .other (other-number 0 n) (other-number 11 m))
+        (record { answers = ap (λ (x : WhyNot). x .answer) told ∙ e ∙ asks .answers; reasons = ap (λ (x : WhyNot). x .reason) told; leaves = asks .leaves-work })
+
+-- ── The reason that the code finds ──
+
+pub sheet-sizes : (sheet : List ℕ) → sheetOf sheet .fault .number ≡ 0 → OfSheet (shown sheet .rows) (shown sheet .cols)
+sheet-sizes sheet fine =
+    let s = sheet-lies sheet fine in
+    record { rows-some = s .rows-some; rows-few = s .rows-few; cols-some = s .cols-some; cols-few = s .cols-few }
+
+module _ (book sheet entries left : List ℕ) (r : Asked) (asks : Asks book sheet entries r left) (book-fine : bookOf book .fault .number ≡ 0)
+    (eleven : r .answer .number ≡ 11) where
+  called : Called book sheet entries (whyNot book sheet entries) (asking book sheet entries)
+  called = follows book sheet entries book-fine .eleven (sym (ap (λ (x : Answer). x .number) (asks .answers)) ∙ eleven)
+
+  holds : left ≡ filled (contents book) (shown sheet) entries
+  holds = asks .leaves-work ∙ called .holds
+
+  pub sizes-asked : OfSheet (r .rows) (r .cols)
+  sizes-asked = rw (asks .rows, asks .cols) (sheet-sizes sheet (called .sheet-fine))
+
+  pub room-asked : total (r .rows) (r .cols) ≤ length left
+  room-asked = rw (asks .rows, asks .cols, holds, filled-length (contents book) (shown sheet) entries (called .room)) (called .room)
+
+  reason-found : Bytes book
+      → reasonIn (cardHas book (shown sheet .rows) (shown sheet .cols)) left (bookOf book .family .start) (shown sheet .rows) (shown sheet .cols)
+      ≡ reasonOf (contents book) (shown sheet)
+  reason-found bytes =
+      let s = sheet-lies sheet (called .sheet-fine) in
+      let m = shown sheet .rows in
+      let n = shown sheet .cols in
+      let on = on-card m n (record { rows-some = s .rows-some; rows-few = s .rows-few; cols-some = s .cols-some; cols-few = s .cols-few }) in
+      ap (λ (has : Bool). reasonIn has left (bookOf book .family .start) m n) (placed-has book m n book-fine on)
+      ∙ reason-shown (contents book) (shown sheet) (book-accepted book bytes book-fine .keeps .sound)
+      (record { rows-some = s .rows-some; rows-few = omega (arith, s .rows-few); cols-some = s .cols-some; cols-few = omega (arith, s .cols-few) })
+      left (rw holds (filled-holds (contents book) (shown sheet) entries))
+
+  pub told-reason : Bytes book → (start : ℕ) → start ≡ bookOf book .family .start → (a : Answer) → a ≡ plain 0 → (why : Reason)
+      → why ≡ reasonIn (cardHas book (r .rows) (r .cols)) left start (r .rows) (r .cols) → Answers (whyNot book sheet entries) (record { answer = a; reason = why }) left
+  told-reason bytes start es a e why found =
+      rw (called .is)
+      (record { answers = e; reasons = (rw (asks .rows, asks .cols, es) at found) ∙ reason-found bytes; leaves = holds })

@@ -1,0 +1,171 @@
+-- What the call answers, from any bytes and any slice: which number and exactly when, which input it blames and where, what the work slice then holds, and that
+-- with 0 the reason is the first that holds of the lent book and sheet. Stated on the parts of the answer, and for the C host on the number taken apart as the
+-- header does.
+use Prim.Native.Nat.{ℕ, _/_, _%_, _^_, _≤_, _<_}
+use mathlib.Core.Path.{_≡_, refl, ap, _∙_}
+use mathlib.Core.List.{List, _++_}
+use mathlib.Core.Logic.{_↔_, _⊎_, inl, inr}
+use native.Mathlib.Omega.{arith}
+use lib.ListN.{length, drop}
+use Rattle.books.specs.Contents.{Contents}
+use Rattle.books.specs.Picture.{Picture}
+use Rattle.books.specs.Derives.{Member}
+use Rattle.books.proofs.Packing.{apart}
+use Rattle.books.proofs.ReadingBooks.{book-refused}
+use Rattle.books.proofs.ReadingSheets.{sheet-refused}
+use Rattle.pieces.specs.Derivation.{entriesNeeded}
+use Rattle.pieces.specs.Table.{table}
+use Rattle.pieces.proofs.Demand1.{InBook, InSheet}
+use Rattle.pieces.proofs.Endings.{contents, shown, Accepted}
+use Rattle.reasons.specs.declared.calls.WhyNot.{WhyNot}
+use Rattle.reasons.specs.declared.reason.Reason.{Reason}
+use Rattle.reasons.specs.declared.reason.Reason.the-variants.{NoReason}
+use Rattle.reasons.specs.Reason.{packedReason, reasonRead}
+use Rattle.reasons.specs.Holds.{First}
+use Rattle.reasons.specs.Why.{Outcome, whyNot, Answers, Leaves}
+use Rattle.reasons.proofs.Apart.{reason-read, why-not-packs}
+use Rattle.reasons.proofs.Endings.{why-not-ends}
+
+neither : {A B : Type 0} → (A → ⊥) → (B → ⊥) → A ↔ B
+neither f g = (λ a. absurd (f a), λ b. absurd (g b))
+
+together : {A B : Type 0} → A → B → A ↔ B
+together a b = (λ _. b, λ _. a)
+
+-- a number on which nothing is written
+unread : (n : ℕ) → 1 ≤ n → n ≤ 9 → (n ≡ 0) ⊎ (n ≡ 15) → ⊥
+unread n h g (inl e) = omega arith
+unread n h g (inr e) = omega arith
+
+module _ (book sheet work : List ℕ) where
+  abbrev b : Contents
+  b = contents book
+
+  abbrev p : Picture
+  p = shown sheet
+
+  -- both inputs are accepted, and the work slice is long enough
+  abbrev pub Ready : Type 0
+  Ready = Accepted book sheet × (entriesNeeded p ≤ length work)
+
+  -- the table of the lent sheet at the front of the slice, and the slice beyond as it was
+  abbrev pub tabled : List ℕ
+  tabled = table b p ++ drop (entriesNeeded p) work
+
+  -- A call that was lent a book, a sheet and a work slice answers so, with this reason, and leaves the slice so.
+  pub record Answered (number blamed place : ℕ) (reason : Reason) (left : List ℕ) : Type 0 where
+    pub listed : (number ≤ 9) ⊎ (number ≡ 15)
+    pub faulty : ((1 ≤ number) × (number ≤ 8)) ↔ (Accepted book sheet → ⊥)
+    pub nine : (number ≡ 9) ↔ (Accepted book sheet × (length work < entriesNeeded p))
+    pub fifteen : (number ≡ 15) ↔ (Ready × Member b p)
+    pub zero : (number ≡ 0) ↔ (Ready × (Member b p → ⊥))
+    pub faults : 1 ≤ number → number ≤ 8 → InBook book number blamed place ⊎ InSheet book sheet number blamed place
+    pub others : (number ≡ 0) ⊎ (9 ≤ number) → (blamed ≡ 0) × (place ≡ 0)
+    pub first : number ≡ 0 → First b p reason
+    pub no-reason : (number ≡ 0 → ⊥) → reason ≡ NoReason
+    pub unwritten : 1 ≤ number → number ≤ 9 → left ≡ work
+    pub written : (number ≡ 0) ⊎ (number ≡ 15) → left ≡ tabled
+
+  abbrev Obeys : Outcome → Type 0
+  Obeys o = Answered (o .answer .number) (o .answer .blamed) (o .answer .place) (o .reason) (o .entries)
+
+  faulty-input : (n blamed place : ℕ) → 1 ≤ n → n ≤ 8 → (Accepted book sheet → ⊥) → InBook book n blamed place ⊎ InSheet book sheet n blamed place
+      → Answered n blamed place NoReason work
+  faulty-input n blamed place h g bad where-it-is =
+      record {
+        listed = inl (omega arith);
+        faulty = together (h, g) bad;
+        nine = neither (λ e. omega arith) (λ x. bad (x .0));
+        fifteen = neither (λ e. omega arith) (λ x. bad (x .0 .0));
+        zero = neither (λ e. omega arith) (λ x. bad (x .0 .0));
+        faults = λ _ _. where-it-is;
+        others = λ o. absurd (unlisted o);
+        first = λ z. absurd (omega arith);
+        no-reason = λ _. refl;
+        unwritten = λ _ _. refl;
+        written = λ o. absurd (unread n h (omega arith) o);
+      }
+    where
+      unlisted : (n ≡ 0) ⊎ (9 ≤ n) → ⊥
+      unlisted (inl e) = omega arith
+      unlisted (inr e) = omega arith
+
+  pub obeys : Obeys (whyNot book sheet work)
+  obeys =
+      why-not-ends book sheet work Obeys
+      (record {
+        in-book = λ n. let f = book-refused book n .blamed in
+            faulty-input _ _ _ (f .some) (f .known) (λ fine. n (fine .book-fine))
+            (inl (record { number-is = refl; place-is = refl; first = refl; inside = f .inside }));
+        in-sheet = λ z n. let f = sheet-refused sheet n .blamed in
+            faulty-input _ _ _ (f .some) (f .known) (λ fine. n (fine .sheet-fine))
+            (inr (record { book-fine = z; number-is = refl; place-is = refl; second = refl; inside = f .inside }));
+        short-work = λ fine short.
+            record {
+              listed = inl (omega arith);
+              faulty = neither (λ e. omega (arith, e .1)) (λ bad. bad fine);
+              nine = together refl (fine, short);
+              fifteen = neither (λ e. omega arith) (λ x. omega (arith, x .0 .1));
+              zero = neither (λ e. omega arith) (λ x. omega (arith, x .0 .1));
+              faults = λ h g. absurd (omega arith);
+              others = λ o. (refl, refl);
+              first = λ e. absurd (omega arith);
+              no-reason = λ _. refl;
+              unwritten = λ _ _. refl;
+              written = λ o. absurd (unread 9 (omega arith) (omega arith) o);
+            };
+        in-family = λ fine room x.
+            record {
+              listed = inr refl;
+              faulty = neither (λ e. omega (arith, e .1)) (λ bad. bad fine);
+              nine = neither (λ e. omega arith) (λ y. omega (arith, y .1));
+              fifteen = together refl ((fine, room), x);
+              zero = neither (λ e. omega arith) (λ y. y .1 x);
+              faults = λ h g. absurd (omega arith);
+              others = λ o. (refl, refl);
+              first = λ e. absurd (omega arith);
+              no-reason = λ _. refl;
+              unwritten = λ h g. absurd (omega arith);
+              written = λ _. refl;
+            };
+        explained = λ fine room other first.
+            record {
+              listed = inl (omega arith);
+              faulty = neither (λ e. omega (arith, e .0)) (λ bad. bad fine);
+              nine = neither (λ e. omega arith) (λ y. omega (arith, y .1));
+              fifteen = neither (λ e. omega arith) (λ y. other (y .1));
+              zero = together refl ((fine, room), other);
+              faults = λ h g. absurd (omega arith);
+              others = λ o. (refl, refl);
+              first = λ _. first;
+              no-reason = λ n. absurd (n refl);
+              unwritten = λ h g. absurd (omega arith);
+              written = λ _. refl;
+            };
+      })
+
+  -- ── The theorems ──
+
+  -- 1 to 8 exactly where an input is refused, 9 exactly where both are accepted and the work slice is too short, 15 exactly where the family has the sheet, and
+  -- 0 exactly where it has not: then with the first reason that holds
+  pub why-not-answered : (r : WhyNot) (left : List ℕ) → Answers (whyNot book sheet work) r left
+      → Answered (r .answer .number) (r .answer .blamed) (r .answer .place) (r .reason) left
+  why-not-answered r left a = rw (a .answers, a .reasons, a .leaves) obeys
+
+  -- the same of the number that the C host gets, with the reason read off its count
+  pub dv-why-not-answered : (r : ℕ) (left : List ℕ) → Leaves (whyNot book sheet work) r left
+      → Answered (r % 2 ^ 8) (r / 2 ^ 8 % 2 ^ 4) (r / 2 ^ 12 % 2 ^ 20) (reasonRead (r / 2 ^ 32)) left
+  dv-why-not-answered r left l =
+      let o = whyNot book sheet work in
+      let packs = why-not-packs book sheet work in
+      let parts = apart (o .answer) (packedReason (o .reason)) (packs .packs) in
+      rw (l .answers, l .leaves)
+      (rw (parts .number-is, parts .blamed-is, parts .place-is, parts .count-is, reason-read (o .reason) (packs .fits)) obeys)
+
+  -- a refusal's count is 0
+  pub refusal-counts-nothing : (r : ℕ) (left : List ℕ) → Leaves (whyNot book sheet work) r left → (r % 2 ^ 8 ≡ 0 → ⊥) → r / 2 ^ 32 ≡ 0
+  refusal-counts-nothing r left l n =
+      let o = whyNot book sheet work in
+      let parts = apart (o .answer) (packedReason (o .reason)) (why-not-packs book sheet work .packs) in
+      let number : r % 2 ^ 8 ≡ o .answer .number = ap (λ (x : ℕ). x % 2 ^ 8) (l .answers) ∙ parts .number-is in
+      ap (λ (x : ℕ). x / 2 ^ 32) (l .answers) ∙ parts .count-is ∙ ap packedReason (obeys .no-reason (λ z. n (number ∙ z)))

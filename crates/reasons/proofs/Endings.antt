@@ -1,0 +1,64 @@
+-- The five ways in which the call ends: what holds of each holds of every call.
+use Prim.Native.Nat.{ℕ, _≤_, _<_}
+use mathlib.Core.Path.{_≡_}
+use mathlib.Core.List.{List}
+use borrow.Author.Tests.{eqb-true, eqb-false, ltb-true, ltb-false}
+use lib.Dec.{eqb, ltb}
+use lib.ListN.{length}
+use Rattle.names.proofs.Picking.{pick-ind}
+use Rattle.books.specs.Contents.{Contents}
+use Rattle.books.specs.Picture.{Picture}
+use Rattle.books.specs.Derives.{Member}
+use Rattle.books.specs.Decide.{derives?}
+use Rattle.books.specs.Book.{bookOf}
+use Rattle.books.specs.Sheet.{sheetOf}
+use Rattle.books.specs.Answer.{answer, plain}
+use Rattle.books.proofs.Deciding.{decided, refused as not-derived}
+use Rattle.books.proofs.ReadingSheets.{sheet-lies}
+use Rattle.pieces.specs.Derivation.{entriesNeeded, filled}
+use Rattle.pieces.proofs.Endings.{contents, shown, Accepted}
+use Rattle.reasons.specs.Holds.{First}
+use Rattle.reasons.specs.Why.{Outcome, refused, reasonOf, judged, roomed, whyNot}
+use Rattle.reasons.proofs.FirstReason.{reason-first}
+
+module _ (book sheet entries : List ℕ) where
+  abbrev b : Contents
+  b = contents book
+
+  abbrev p : Picture
+  p = shown sheet
+
+  pub record Cases (P : Outcome → Type 0) : Type 0 where
+    pub in-book : (bookOf book .fault .number ≡ 0 → ⊥) → P (refused (answer (bookOf book .fault .number) 1 (bookOf book .fault .place)) entries)
+    pub in-sheet : bookOf book .fault .number ≡ 0 → (sheetOf sheet .fault .number ≡ 0 → ⊥)
+        → P (refused (answer (sheetOf sheet .fault .number) 2 (sheetOf sheet .fault .place)) entries)
+    pub short-work : Accepted book sheet → length entries < entriesNeeded p → P (refused (plain 9) entries)
+    pub in-family : Accepted book sheet → entriesNeeded p ≤ length entries → Member b p → P (refused (plain 15) (filled b p entries))
+    pub explained : Accepted book sheet → entriesNeeded p ≤ length entries → (Member b p → ⊥) → First b p (reasonOf b p)
+        → P (record { answer = plain 0; reason = reasonOf b p; entries = filled b p entries })
+
+  module _ (P : Outcome → Type 0) (cases : Cases P) where
+    by-judging : Accepted book sheet → entriesNeeded p ≤ length entries → P (judged b p entries)
+    unfolding judged
+    by-judging fine room =
+        let s = sheet-lies sheet (fine .sheet-fine) in
+        pick-ind P (derives? b (b .start) p) _ _
+        (λ e. cases .in-family fine room (decided b (b .start) p .0 e))
+        (λ e. let other = not-derived b (b .start) p .0 e in cases .explained fine room other (reason-first b p (s .rows-some) (s .cols-some) other))
+
+    by-room : Accepted book sheet → P (roomed b p entries)
+    unfolding roomed
+    by-room fine =
+        pick-ind P (ltb (length entries) (entriesNeeded p)) _ _
+        (λ e. cases .short-work fine (ltb-true (length entries) (entriesNeeded p) e))
+        (λ e. by-judging fine (ltb-false (length entries) (entriesNeeded p) e))
+
+    pub why-not-ends : P (whyNot book sheet entries)
+    unfolding whyNot
+    why-not-ends =
+        pick-ind P (eqb (bookOf book .fault .number) 0) _ _
+        (λ e. let z = eqb-true (bookOf book .fault .number) 0 e in
+        pick-ind P (eqb (sheetOf sheet .fault .number) 0) _ _
+        (λ f. by-room (record { book-fine = z; sheet-fine = eqb-true (sheetOf sheet .fault .number) 0 f }))
+        (λ f. rw f (cases .in-sheet z (eqb-false (sheetOf sheet .fault .number) 0 f))))
+        (λ e. rw e (cases .in-book (eqb-false (bookOf book .fault .number) 0 e)))

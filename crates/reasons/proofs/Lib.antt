@@ -1,0 +1,11 @@
+pub mod Naming
+pub mod CellNumbers
+pub mod FirstReason
+pub mod OneReason
+pub mod FromTables
+pub mod Keeping
+pub mod Endings
+pub mod Apart
+pub mod Asked
+pub mod Demand1
+pub mod Settled

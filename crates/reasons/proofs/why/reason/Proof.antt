@@ -1,0 +1,54 @@
+-- The cells stand first in the table, so that there is an entry for each; the three tests are made one after the other.
+use Prim.Native.Nat.{_*_, _≤_}
+use mathlib.Core.Path.{sym, ap, _∙_}
+use native.Mathlib.Nat.{mul-le-mul}
+use native.Mathlib.Omega.{arith}
+use Rattle.books.specs.Size.{room}
+use Rattle.pieces.proofs.CellsFirst.{cells-few}
+use Rattle.reasons.specs.Why.{pieceReason}
+use Rattle.reasons.proofs.FromTables.{cell-found, size-found, piece-found}
+use borrow.Author.Needs.{needs}
+use Rattle.reasons.proofs.why.reason.Statement.{statement}
+use Rattle.reasons.proofs.why.reason.Tie as tie
+
+few : (c : tie.Start) → c .args .rows * c .args .cols ≤ room
+few c = mul-le-mul (c .pre .0 .rows-few) (c .pre .0 .cols-few)
+
+mul-cells : tie.Need-mul-cells
+mul-cells c = omega (arith, few (c .before .before))
+
+first-bare-requires : tie.Need-first-bare-requires
+first-bare-requires c κs =
+    let s = c .before .before in
+    (few s, omega (arith, cells-few (s .args .rows) (s .args .cols) (s .pre .0 .rows-some) (s .pre .0 .cols-some), s .pre .1))
+
+returns : tie.Need-returns
+returns c = cell-found _ _ _ _ _ _ (c .before .first-bare .ensures) (c .if1 .taken)
+
+returns-2 : tie.Need-returns-2
+returns-2 c =
+    let h = c .before .before .before in
+    let f = h .before .before in
+    c .of-piece .ensures ∙ ap pieceReason (c .before .largest .ensures)
+    ∙ piece-found _ _ _ _ _ _ (f .first-bare .ensures) (h .before .if1 .left) (sym (h .has-size .ensures) ∙ c .before .before .if2 .taken)
+
+returns-3 : tie.Need-returns-3
+returns-3 c =
+    let h = c .before in
+    let f = h .before .before in
+    size-found _ _ _ _ _ _ (f .first-bare .ensures) (h .before .if1 .left) (sym (h .has-size .ensures) ∙ c .if2 .left)
+
+pub reason-spec : {M : Type 1} → statement M
+reason-spec =
+    tie.close
+    (tie.spec
+    mul-cells
+    first-bare-requires
+    (λ c. search needs)
+    (λ c. search needs)
+    returns
+    (λ c κs. search needs)
+    (λ c κs. search needs)
+    (λ c κs. search needs)
+    returns-2
+    returns-3)

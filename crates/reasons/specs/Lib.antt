@@ -1,0 +1,4 @@
+pub mod Reason
+pub mod Holds
+pub mod Why
+pub mod inner

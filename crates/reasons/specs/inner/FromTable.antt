@@ -1,0 +1,41 @@
+-- The reason as the code finds it, from a slice that holds the table of a picture.
+use Prim.Native.Nat.{ℕ, _*_, _≤_}
+use mathlib.Core.Bool.{Bool}
+use mathlib.Core.List.{List}
+use lib.Dec.{eqb, ltb}
+use lib.ListN.{getD}
+use Rattle.names.specs.Pick.{pick}
+use Rattle.books.specs.Decide.{andThen}
+use Rattle.books.specs.Size.{greatest}
+use Rattle.books.specs.declared.answer.Answer.{Answer}
+use Rattle.pieces.specs.Choice.{least}
+use Rattle.pieces.specs.Largest.{largestIn}
+use Rattle.reasons.specs.declared.calls.WhyNot.{WhyNot}
+use Rattle.reasons.specs.declared.reason.Reason.{Reason}
+use Rattle.reasons.specs.declared.reason.Reason.the-variants.{NoReason, NoSuchSize}
+use Rattle.reasons.specs.Why.{cellReason, pieceReason}
+
+-- rows and columns that a sheet may have
+pub record OfSheet (m n : ℕ) : Type 0 where
+  pub rows-some : 1 ≤ m
+  pub rows-few : m ≤ greatest
+  pub cols-some : 1 ≤ n
+  pub cols-few : n ≤ greatest
+
+-- no motif derives the piece at a slot
+unfoldable pub bare : List ℕ → ℕ → Bool
+bare work i = eqb (getD work i 0) 0
+
+-- what is found with the entry at i: the first bare one is kept, and `cells` means that none was found yet
+unfoldable pub keptFirst : ℕ → ℕ → ℕ → ℕ → ℕ
+keptFirst found cells i entry = pick (andThen (eqb found cells) (λ _. eqb entry 0)) i found
+
+-- an answer with no reason
+abbrev pub unexplained : Answer → WhyNot
+unexplained a = record { answer = a; reason = NoReason }
+
+-- of a sheet of m rows and n columns: the first bare cell, then that the size card has not its size, then the largest piece
+unfoldable pub reasonIn : Bool → List ℕ → ℕ → ℕ → ℕ → Reason
+reasonIn has work start m n =
+    pick (ltb (least (bare work) 0 (m * n)) (m * n)) (cellReason n (least (bare work) 0 (m * n)))
+    (pick has (pieceReason (largestIn work start m n)) NoSuchSize)
