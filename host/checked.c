@@ -15,7 +15,7 @@
 
 #define SLATES 2, 7, 'S', 'l', 'a', 't', 'e', ' ', 'C', 7, 'S', 'l', 'a', 't', 'e', ' ', 'U'
 static const uint8_t house[] = {SLATES, 3, 0, 4, 0, 1, 0, 0, 0, 2, 1, 2, 1, 0, 0, 2, 0, 1};
-static const uint8_t sheet_a[] = {SLATES, 2, 3, 0, 0, 0, 1, 1, 1};
+static const uint8_t sheet_a[] = {SLATES, 0, 2, 3, 0, 0, 0, 1, 1, 1};
 
 enum { SLICES = 4, WRITTEN = 2, ROOM = 128, ENDS_EARLY = DV_ENDS_EARLY | 1 << 8 };
 

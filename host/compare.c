@@ -14,6 +14,7 @@ int main(int argc, char **argv)
         {"palindromes", compare_palindromes},
         {"limits", compare_limits},
         {"blanks", compare_blanks},
+        {"numbers", compare_numbers},
         {"damaged", compare_damaged},
         {"rooms", compare_rooms},
         {"grown", compare_grown},

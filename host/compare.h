@@ -44,6 +44,7 @@ void compare_house(void);
 void compare_palindromes(void);
 void compare_limits(void);
 void compare_blanks(void);
+void compare_numbers(void);
 void compare_damaged(void);
 void compare_rooms(void);
 void compare_grown(void);

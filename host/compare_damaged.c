@@ -51,6 +51,8 @@ static void damage_throughout(const struct bytes *good, void (*compare_it)(const
             bytes.at[at] |= 128;
             insert_byte(&bytes, at + 1, (uint8_t)high);
             compare_it(&bytes);
+            insert_byte(&bytes, at + 1, (uint8_t)(128 + chance_below(128)));
+            compare_it(&bytes);
         }
     }
     for (unsigned byte = 0; byte < 256; byte += 5) {

@@ -21,8 +21,8 @@ static void compare_grid(const struct bytes *book, const struct grid *grid, bool
 {
     struct bytes sheet;
     spell_sheet(grid, &sheet);
-    if (compare_read_sheet(&sheet) != 0)
-        wrong("a sheet that keeps the rules is refused");
+    if (compare_read_sheet(&sheet) != (uint64_t)grid->ticket << 32)
+        wrong("a sheet that keeps the rules is refused, or read with another ticket");
     size_t work = some_room(dv_work_entries(grid->rows, grid->columns), ROOMY_WORK);
     size_t tree = some_room(dv_tree_entries(grid->rows, grid->columns), ROOMY_TREE);
     if (compare_derive(book, &sheet, work, tree) == DV_NOT_DERIVED && derived)

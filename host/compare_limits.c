@@ -96,7 +96,7 @@ static void compare_sheets_at_limits(void)
         for (int b = 0; b < 6; b++)
             for (int c = 0; c < 3; c++)
                 for (unsigned more = 0; more < 3; more++) {
-                    struct grid grid = {.rows = sides[a], .columns = sides[b]};
+                    struct grid grid = {.ticket = more * 9000, .rows = sides[a], .columns = sides[b]};
                     plain_palette(&grid.palette, colours[c], 40, 0);
                     for (unsigned i = 0; i < grid.rows * grid.columns; i++)
                         grid.cell[i] = chance_below(3) % grid.palette.count;
@@ -110,6 +110,20 @@ static void compare_sheets_at_limits(void)
                     compare_why_not(&book, &sheet, DV_MOST_WORK);
                     compare_why_not(&book, &sheet, DV_MOST_WORK - 1);
                 }
+}
+
+// The longest sheet, and one byte more.
+static void compare_longest_sheet(void)
+{
+    struct grid grid = {.ticket = DV_GREATEST_TICKET, .rows = DV_MOST_ROWS, .columns = DV_MOST_COLUMNS};
+    struct bytes sheet;
+    plain_palette(&grid.palette, DV_MOST_COLOURS, DV_LONGEST_NAME, 0);
+    spell_sheet(&grid, &sheet);
+    if (sheet.length != DV_LONGEST_SHEET || compare_read_sheet(&sheet) != (uint64_t)DV_GREATEST_TICKET << 32)
+        wrong("the longest sheet has another length, or is refused");
+    sheet.at[sheet.length++] = 0;
+    if (compare_read_sheet(&sheet) != (DV_BYTES_FOLLOW | 1 << 8 | (uint64_t)DV_LONGEST_SHEET << 12))
+        wrong("a byte that follows the longest sheet is not refused");
 }
 
 // Two books whose colours, motifs and rules come to about the limits together, or in the first book alone.
@@ -167,6 +181,7 @@ void compare_limits(void)
     compare_books_at_limits();
     compare_numbers_past_counts();
     compare_sheets_at_limits();
+    compare_longest_sheet();
     compare_combinations_at_limits();
     compare_copies_at_limits();
 }

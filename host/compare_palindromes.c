@@ -2,6 +2,7 @@
 // held to that as well.
 #include "chance.h"
 #include "compare.h"
+#include "grow.h"
 
 static bool columns_are_palindromes(const struct grid *grid)
 {
@@ -58,6 +59,7 @@ static void compare_all(const struct bytes *book, struct grid *grid)
 
 static void compare_large(const struct bytes *book, struct grid *grid)
 {
+    grid->ticket = some_ticket();
     grid->rows = chance_from(1, DV_MOST_ROWS);
     grid->columns = chance_from(1, DV_MOST_COLUMNS);
     for (unsigned row = 0; row < grid->rows; row++)

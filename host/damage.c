@@ -44,5 +44,7 @@ void damage(struct bytes *bytes)
     default:
         bytes->at[at] |= 128;
         insert_byte(bytes, at + 1, one_in(2) ? 0 : (uint8_t)chance_bits());
+        if (one_in(3))
+            insert_byte(bytes, at + 1, (uint8_t)(128 + chance_below(128)));
     }
 }

@@ -1,5 +1,5 @@
-// A small RIP: tells which sizes a family has, whether a sheet belongs to it and how that is made up or why not, and
-// joins two families. Rows and columns are counted from 1, as people do.
+// A small RIP: tells which sizes a family has, a sheet's job ticket, whether the sheet belongs to the family and how
+// that is made up or why not, and joins two families. Rows and columns are counted from 1, as people do.
 //
 //     example BOOK SHEET [SECOND-BOOK]
 #include <stdio.h>
@@ -115,6 +115,13 @@ static void print_reason(void)
     }
 }
 
+static void print_ticket(void)
+{
+    uint64_t answer = dv_read_sheet(sheet, sheet_len);
+    if (dv_number(answer) == DV_ACCEPTED)
+        printf("job ticket %u\n", (unsigned)dv_ticket(answer));
+}
+
 static void derive(void)
 {
     uint64_t answer = dv_derive(book, book_len, sheet, sheet_len, work, DV_MOST_WORK, tree, DV_MOST_TREE);
@@ -149,6 +156,7 @@ int main(int argc, char **argv)
     sheet_len = load(argv[2], sheet, sizeof sheet);
     second_len = load(argv[argc == 4 ? 3 : 1], second, sizeof second);
     print_sizes();
+    print_ticket();
     derive();
     join();
     return 0;

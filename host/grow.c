@@ -206,10 +206,17 @@ static bool pick_size(const struct family *family, const struct sizes *sizes, st
     return found;
 }
 
+unsigned some_ticket(void)
+{
+    static const unsigned telling[] = {0, 1, 127, 128, 16383, 16384, DV_GREATEST_TICKET};
+    return one_in(2) ? telling[chance_below(sizeof telling / sizeof *telling)] : chance_from(0, DV_GREATEST_TICKET);
+}
+
 bool grow_grid(const struct family *family, struct grid *grid, unsigned most_rows, unsigned most_columns)
 {
     struct sizes sizes;
     grid->palette = family->palette;
+    grid->ticket = some_ticket();
     size_up(family, &sizes, most_rows, most_columns);
     if (pick_size(family, &sizes, grid, most_rows, most_columns)) {
         grow_piece(family, &sizes, grid, family->start, grid->rows, grid->columns, 0, 0);

@@ -17,8 +17,11 @@ void grow_family(struct family *family, unsigned colours, unsigned motifs, unsig
 // A family of a size that is most often small, now and then as large as a book can be.
 void grow_some_family(struct family *family);
 
-// A grid within these numbers that the family derives, coloured by the family's own list. False where it has none; the
-// grid is then coloured by chance.
+// The ticket of a job, often one where the spelling grows longer.
+unsigned some_ticket(void);
+
+// A grid within these numbers that the family derives, coloured by the family's own list, with some ticket. False where
+// it has none; the grid is then coloured by chance.
 bool grow_grid(const struct family *family, struct grid *grid, unsigned most_rows, unsigned most_columns);
 
 // Lists the grid's colours in another order, leaves out some that it does not use, and adds some that the family lacks.

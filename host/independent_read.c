@@ -6,6 +6,8 @@
 
 #include "independent.h"
 
+enum { GREATEST_TICKET = 128 * 128 * 128 - 1 };
+
 // The bytes, how far they are read, and the first fault.
 struct reader {
     const uint8_t *bytes;
@@ -26,20 +28,36 @@ static bool refuse(struct reader *in, unsigned number, size_t place)
     return false;
 }
 
-// A number from least to most; outside these the refusal is the one given.
-static bool read_number(struct reader *in, unsigned least, unsigned most, unsigned refusal, unsigned *number)
+// The second group of a number and the third, after a first byte with 128 added. The last of them is not 0, and has no
+// 128 added.
+static bool read_groups(struct reader *in, unsigned *number)
+{
+    size_t place = in->at - 1;
+    for (unsigned group = 1; group < 3; group++) {
+        if (in->at == in->length)
+            return refuse(in, 1, in->length);
+        unsigned byte = in->bytes[in->at++];
+        if (byte == 0)
+            break;
+        *number += byte % 128 << 7 * group;
+        if (byte < 128)
+            return true;
+    }
+    return refuse(in, 2, place);
+}
+
+// A number from least to most; outside these the refusal is the one given. It has one to three groups of seven bits,
+// the lowest first, and as few as will do; almost all have one.
+static inline bool read_number(struct reader *in, unsigned least, unsigned most, unsigned refusal, unsigned *number)
 {
     size_t place = in->at;
     if (in->at == in->length)
         return refuse(in, 1, in->length);
     unsigned value = in->bytes[in->at++];
     if (value > 127) {
-        if (in->at == in->length)
-            return refuse(in, 1, in->length);
-        unsigned high = in->bytes[in->at++];
-        if (high == 0 || high > 127)
-            return refuse(in, 2, place);
-        value = value - 128 + 128 * high;
+        value -= 128;
+        if (!read_groups(in, &value))
+            return false;
     }
     if (value < least || value > most)
         return refuse(in, refusal, place);
@@ -136,8 +154,8 @@ static bool read_book(struct reader *in, struct book *book)
 
 static bool read_sheet(struct reader *in, struct sheet *sheet)
 {
-    if (!read_colours(in, &sheet->colours) || !read_range(in, 1, 12, &sheet->rows) ||
-        !read_range(in, 1, 12, &sheet->columns))
+    if (!read_colours(in, &sheet->colours) || !read_range(in, 0, GREATEST_TICKET, &sheet->ticket) ||
+        !read_range(in, 1, 12, &sheet->rows) || !read_range(in, 1, 12, &sheet->columns))
         return false;
     for (unsigned i = 0; i < sheet->rows * sheet->columns; i++) {
         unsigned colour;
@@ -182,7 +200,8 @@ uint64_t independent_read_book(const uint8_t *book, size_t book_len)
 uint64_t independent_read_sheet(const uint8_t *sheet, size_t sheet_len)
 {
     struct sheet contents;
-    return independent_sheet_of(&contents, sheet, sheet_len, 1);
+    uint64_t refusal = independent_sheet_of(&contents, sheet, sheet_len, 1);
+    return refusal != 0 ? refusal : (uint64_t)contents.ticket << 32;
 }
 
 uint64_t independent_colour(const uint8_t *book, size_t book_len, size_t number)

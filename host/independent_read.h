@@ -33,7 +33,7 @@ struct book {
 
 struct sheet {
     struct colours colours;
-    unsigned rows, columns;
+    unsigned ticket, rows, columns;
     uint8_t cell[12 * 12];
 };
 

@@ -154,7 +154,7 @@ static void order_by_chance(void)
 static void write_plain_orders(const char *folder)
 {
     struct family family = {.motifs = 1};
-    struct grid grid = {.rows = DV_MOST_ROWS, .columns = DV_MOST_COLUMNS};
+    struct grid grid = {.ticket = DV_GREATEST_TICKET, .rows = DV_MOST_ROWS, .columns = DV_MOST_COLUMNS};
     grow_palette(&family.palette, DV_MOST_COLOURS);
     for (int i = 0; i < DV_MOST_COLOURS; i++) {
         memset(family.palette.ink[i].name, '!' + i, DV_LONGEST_NAME);

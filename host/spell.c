@@ -16,9 +16,9 @@ void add_rule(struct family *family, unsigned head, unsigned kind, unsigned firs
 
 static void spell(struct bytes *out, unsigned number)
 {
-    if (number > 127)
+    for (; number > 127; number /= 128)
         out->at[out->length++] = (uint8_t)(number % 128 + 128);
-    out->at[out->length++] = (uint8_t)(number > 127 ? number / 128 : number);
+    out->at[out->length++] = (uint8_t)number;
 }
 
 static void spell_palette(const struct palette *palette, struct bytes *out)
@@ -53,6 +53,7 @@ void spell_sheet(const struct grid *grid, struct bytes *sheet)
 {
     sheet->length = 0;
     spell_palette(&grid->palette, sheet);
+    spell(sheet, grid->ticket);
     spell(sheet, grid->rows);
     spell(sheet, grid->columns);
     for (unsigned i = 0; i < grid->rows * grid->columns; i++)

@@ -36,7 +36,7 @@ struct family {
 
 struct grid {
     struct palette palette;
-    unsigned rows, columns;
+    unsigned ticket, rows, columns;
     unsigned cell[(DV_MOST_ROWS + 1) * (DV_MOST_COLUMNS + 1)];
 };
 

@@ -1,12 +1,13 @@
 // Druvelstek: the C face of the verified library. C99 or later, or C++11 or later.
 //
-// A book is one family of layouts and a sheet is a grid of colours, both spelt byte by byte as docs/RULES.md says. The
-// library tells whether the family derives the sheet, and why not where it does not, gives the table of pieces and one
-// derivation, tells which sizes the family has, looks up names, rules and sizes, and makes new books of lent ones. Each
-// call is proved to keep what its comment says, on every input.
+// A book is one family of layouts and a sheet is a grid of colours with its job ticket, both spelt byte by byte as
+// docs/RULES.md says. The library tells whether the family derives the sheet, and why not where it does not, gives the
+// table of pieces and one derivation, tells which sizes the family has, looks up names, rules, sizes and tickets, and
+// makes new books of lent ones. Each call is proved to keep what its comment says, on every input.
 //
-// Nothing in the bytes tells a book from a sheet, and some are both: 2, 1 "a", 1 "b", 4, 1, 1, 0, 0, 0 is a book of
-// four motifs with one rule, and a sheet of four rows and one column. A caller keeps apart which file is which.
+// Nothing in the bytes tells a book from a sheet, and some are both: 2, 1 "a", 1 "b", 4, 3, 1, 0, 0, 0 is a book of
+// four motifs with one rule, and a sheet of three rows and one column for job 4. A caller keeps apart which file is
+// which.
 //
 // What a caller sees to, for every call:
 // - A slice is a pointer and then its length, in elements. The pointer is valid for that many elements, and aligned for
@@ -36,7 +37,7 @@ extern "C" {
 
 // The version of rules and calls that this header describes, and the call that tells the archive's. A host compares the
 // two before any other call, so that a header and an archive of two versions are noticed.
-#define DV_VERSION 4
+#define DV_VERSION 5
 uint64_t dv_version(void);
 
 // The greatest sizes.
@@ -47,7 +48,8 @@ uint64_t dv_version(void);
 #define DV_MOST_ROWS 12
 #define DV_MOST_COLUMNS 12
 #define DV_LONGEST_BOOK 3429
-#define DV_LONGEST_SHEET 2771
+#define DV_LONGEST_SHEET 2774
+#define DV_GREATEST_TICKET 2097151
 
 // Stack that is enough for every call. No theorem says so: host/header measures it on the x86-64 code, with the deepest
 // input, a derivation of 23 levels, and fails where less than 8 kilobytes would be left.
@@ -82,7 +84,7 @@ enum dv_reason { DV_REASON_COLOUR = 1, DV_REASON_SIZE = 2, DV_REASON_PIECE = 3, 
 enum dv_answer_number {
     DV_ACCEPTED = 0,
     DV_ENDS_EARLY = 1,      // input ends inside or before something due; place: its length
-    DV_MISSPELT = 2,        // second byte of a number is 0 or above 127; place: number's first byte
+    DV_MISSPELT = 2,        // last group of a longer number is 0, or third byte above 127; place: its first byte
     DV_OUT_OF_RANGE = 3,    // a count, length, rows or columns outside its range; place: number's first byte
     DV_NAME_BYTE = 4,       // name byte below 32 or above 126, or 32 as the name's first or last; place: that byte
     DV_NAME_TWICE = 5,      // name already in this list; place: first byte of the later name
@@ -99,7 +101,8 @@ enum dv_answer_number {
 };
 
 // An answer is number + 2^8 * blamed + 2^12 * place + 2^32 * count; here it is taken apart. The count is the number of
-// bytes that a combination wrote, or of sizes on a card, or a reason, 0 on refusal and for every other call.
+// bytes that a combination wrote, or of sizes on a card, or a sheet's ticket, or a reason, 0 on refusal and for every
+// other call.
 static inline unsigned dv_number(uint64_t answer) { return (unsigned)(answer & 0xff); }
 static inline unsigned dv_blamed(uint64_t answer) { return (unsigned)(answer >> 8 & 0xf); }
 static inline size_t dv_place(uint64_t answer) { return (size_t)(answer >> 12 & 0xfffff); }
@@ -109,8 +112,12 @@ static inline size_t dv_count(uint64_t answer) { return (size_t)(answer >> 32); 
 // fault from the left.
 uint64_t dv_read_book(const uint8_t *book, size_t book_len);
 
-// Reads a sheet, and answers like dv_read_book.
+// Reads a sheet, and answers like dv_read_book. On 0 the count is the number of its job ticket, which has no part in
+// whether a family derives the sheet.
 uint64_t dv_read_sheet(const uint8_t *sheet, size_t sheet_len);
+
+// The ticket in an answer of dv_read_sheet.
+static inline uint32_t dv_ticket(uint64_t answer) { return (uint32_t)(answer >> 32); }
 
 // The look-ups, so that a host never reads the bytes of a book or a sheet itself. They have no answer number: 0 says
 // that there is nothing to show. Each reads its input whole each time.

@@ -1,4 +1,4 @@
--- Reading the first 8,192 bytes of a file is enough: a book is read or refused within 5,164 bytes and a sheet within 3,193, so that what follows changes nothing. Where a
+-- Reading the first 8,192 bytes of a file is enough: a book is read or refused within 5,164 bytes and a sheet within 3,196, so that what follows changes nothing. Where a
 -- longer file is cut off, both are refused, at the same fault: the cut is farther on than any reader looks.
 use Prim.Native.Nat.{ℕ, zero, suc, _+_, _*_, _<_, _≤_}
 use mathlib.Core.Path.{_≡_, refl, sym, ap, _∙_}
@@ -9,15 +9,15 @@ use borrow.Author.Tests.{eqb-true, eqb-false, lt-ltb}
 use lib.Dec.{eqb}
 use lib.ListN.{length, take, drop, set, length-append, take-append-drop}
 use lib.Seq.{length-take-le, take-all}
-use Rattle.names.specs.Onward.{ending}
-use Rattle.names.specs.Number.{numberIn, numberBelow}
+use Rattle.names.specs.Onward.{onward, ending}
+use Rattle.names.specs.Number.{numberAt, numberIn, numberBelow}
 use Rattle.names.specs.Colours.{coloursOf}
 use Rattle.names.specs.declared.number.Fault.{Fault}
 use Rattle.names.specs.declared.colours.Colours.{Colours}
 use Rattle.names.proofs.Tests.{true-or-false, lt-or-le}
-use Rattle.names.proofs.ReadingNumbers.{number-in, number-below}
+use Rattle.names.proofs.ReadingNumbers.{number-lies, number-in, number-below}
 use Rattle.names.proofs.ReadingColours.{Places, places-none, colours-lie}
-use Rattle.names.proofs.FarBytes.{onward-same, faultless-same, number-in-far, number-below-far, names-in-far, colours-far}
+use Rattle.names.proofs.FarBytes.{onward-same, faultless-same, number-far, number-in-far, number-below-far, names-in-far, colours-far}
 use Rattle.books.specs.ContentsIn.{contentsIn, gridIn}
 use Rattle.books.specs.Rules.{colourNumberAt, joinAt, bodyAt, ruleAt, refusedRules, afterRule, rulesFrom, rulesAt}
 use Rattle.books.specs.Book.{refusedBook, figuresAt, afterFigures, ruledAt, figuredAt, bookOf}
@@ -64,20 +64,24 @@ module _ {ℓ} {A : Type ℓ} (refuse : Fault → A) where
   ending-same : (t u : List ℕ) (at : ℕ) (x y : A) → at < length t → ending refuse (t ++ u) at x ≡ ending refuse t at y
   ending-same t u at x y h = simp (lt-ltb at (length (t ++ u)) (omega (arith, length-append t u)), lt-ltb at (length t) h)
 
+-- what follows a ticket
+abbrev sized : List ℕ → Colours → ℕ → ℕ → SheetRead
+sized s c ticket at = afterSize refusedSheet (sizeAt s at greatest) (λ rows cols next. filledAt s c ticket rows cols (cellsOf s (c .count) next (rows * cols)))
+
 module _ (t u : List ℕ) where
   -- ── Rules ──
 
-  colour-number-far : (at colours : ℕ) → at + 1 < length t → colourNumberAt (t ++ u) at colours ≡ colourNumberAt t at colours
+  colour-number-far : (at colours : ℕ) → at + 2 < length t → colourNumberAt (t ++ u) at colours ≡ colourNumberAt t at colours
   unfolding colourNumberAt
   colour-number-far at colours h = rw (number-below-far t u at colours 6 h)
 
-  join-far : (at kind motifs : ℕ) → at + 4 < length t → joinAt (t ++ u) at kind motifs ≡ joinAt t at kind motifs
+  join-far : (at kind motifs : ℕ) → at + 5 < length t → joinAt (t ++ u) at kind motifs ≡ joinAt t at kind motifs
   unfolding joinAt
   join-far at kind motifs h =
       onward-same RefusedBody (numberBelow (t ++ u) at motifs 6) (numberBelow t at motifs 6) _ _ (number-below-far t u at motifs 6 (omega arith))
       (λ first next e. rw (number-below-far t u next motifs 6 (omega (arith, number-below t at motifs 6 first next e .near))))
 
-  body-far : (at motifs colours : ℕ) → at + 7 < length t → bodyAt (t ++ u) at motifs colours ≡ bodyAt t at motifs colours
+  body-far : (at motifs colours : ℕ) → at + 8 < length t → bodyAt (t ++ u) at motifs colours ≡ bodyAt t at motifs colours
   unfolding bodyAt
   body-far at motifs colours h =
       onward-same RefusedBody (numberBelow (t ++ u) at 3 7) (numberBelow t at 3 7) _ _ (number-below-far t u at 3 7 (omega arith))
@@ -85,7 +89,7 @@ module _ (t u : List ℕ) where
       let g = number-below t at 3 7 kind next e in
       rw (colour-number-far next colours (omega (arith, g .near)), join-far next kind motifs (omega (arith, g .near))))
 
-  rule-far : (at motifs colours : ℕ) → at + 10 < length t → ruleAt (t ++ u) at motifs colours ≡ ruleAt t at motifs colours
+  rule-far : (at motifs colours : ℕ) → at + 11 < length t → ruleAt (t ++ u) at motifs colours ≡ ruleAt t at motifs colours
   unfolding ruleAt
   rule-far at motifs colours h =
       onward-same RefusedRule (numberBelow (t ++ u) at motifs 6) (numberBelow t at motifs 6) _ _ (number-below-far t u at motifs 6 (omega arith))
@@ -104,7 +108,7 @@ module _ (t u : List ℕ) where
 
   -- ── Books ──
 
-  figures-far : (at : ℕ) → at + 7 < length t → figuresAt (t ++ u) at ≡ figuresAt t at
+  figures-far : (at : ℕ) → at + 8 < length t → figuresAt (t ++ u) at ≡ figuresAt t at
   unfolding figuresAt
   figures-far at h =
       onward-same RefusedFigures (numberIn (t ++ u) at 1 32) (numberIn t at 1 32) _ _ (number-in-far t u at 1 32 (omega arith))
@@ -139,7 +143,7 @@ module _ (t u : List ℕ) where
 
   -- ── Sheets ──
 
-  size-far : (at most : ℕ) → at + 4 < length t → sizeAt (t ++ u) at most ≡ sizeAt t at most
+  size-far : (at most : ℕ) → at + 5 < length t → sizeAt (t ++ u) at most ≡ sizeAt t at most
   unfolding sizeAt
   size-far at most h =
       onward-same RefusedSize (numberIn (t ++ u) at 1 most) (numberIn t at 1 most) _ _ (number-in-far t u at 1 most (omega arith))
@@ -156,30 +160,33 @@ module _ (t u : List ℕ) where
   cells-far colours at count h = cells-from-far colours count _ 0 at h
 
   -- the cells are the same, and bytes follow them in both
-  filled-far : (c : Colours) (rows cols at : ℕ) → at ≤ length t → at + 3 * (rows * cols) < length t
-      → filledAt (t ++ u) c rows cols (cellsOf t (c .count) at (rows * cols)) ≡ filledAt t c rows cols (cellsOf t (c .count) at (rows * cols))
+  filled-far : (c : Colours) (ticket rows cols at : ℕ) → at ≤ length t → at + 3 * (rows * cols) < length t
+      → filledAt (t ++ u) c ticket rows cols (cellsOf t (c .count) at (rows * cols)) ≡ filledAt t c ticket rows cols (cellsOf t (c .count) at (rows * cols))
   unfolding filledAt
-  filled-far c rows cols at inside h =
+  filled-far c ticket rows cols at inside h =
       let r = cellsOf t (c .count) at (rows * cols) in
       faultless-same refusedSheet (r .fault) _ _
       (λ z. ending-same refusedSheet t u (r .next) _ _ (omega (arith, cells-lie t (c .count) (at + 3 * (rows * cols)) at (rows * cols) inside (omega arith) z .near)))
 
-  sized-far : (c : Colours) (at : ℕ) → at + 438 < length t
-      → afterSize refusedSheet (sizeAt (t ++ u) at greatest) (λ rows cols next. filledAt (t ++ u) c rows cols (cellsOf (t ++ u) (c .count) next (rows * cols)))
-      ≡ afterSize refusedSheet (sizeAt t at greatest) (λ rows cols next. filledAt t c rows cols (cellsOf t (c .count) next (rows * cols)))
-  sized-far c at h =
+  sized-far : (c : Colours) (ticket at : ℕ) → at + 438 < length t → sized (t ++ u) c ticket at ≡ sized t c ticket at
+  sized-far c ticket at h =
       after-size-same refusedSheet (sizeAt (t ++ u) at greatest) (sizeAt t at greatest) _ _ (size-far at greatest (omega arith))
       (λ rows cols next e.
       let l = size-lies t at greatest rows cols next e in
       let few = area rows cols greatest (l .rows-few) (l .cols-few) in
       let near : next + 3 * (rows * cols) < length t = omega (arith, l .near) in
-      rw (cells-far (c .count) next (rows * cols) near) (filled-far c rows cols next (l .inside) near))
+      rw (cells-far (c .count) next (rows * cols) near) (filled-far c ticket rows cols next (l .inside) near))
+
+  ticketed-far : (c : Colours) (at : ℕ) → at + 441 < length t → onward refusedSheet (numberAt (t ++ u) at) (sized (t ++ u) c) ≡ onward refusedSheet (numberAt t at) (sized t c)
+  ticketed-far c at h =
+      onward-same refusedSheet (numberAt (t ++ u) at) (numberAt t at) _ _ (number-far t u at (omega arith))
+      (λ ticket then e. sized-far c ticket then (omega (arith, number-lies t at ticket then e .near)))
 
   pub sheet-far : farthest < length t → sheetOf (t ++ u) ≡ sheetOf t
   unfolding sheetOf
   sheet-far h =
       rw (colours-far t u (omega arith))
-      (faultless-same refusedSheet (coloursOf t .fault) _ _ (λ z. sized-far (coloursOf t .colours) (coloursOf t .next) (omega (arith, colours-lie t z .near))))
+      (faultless-same refusedSheet (coloursOf t .fault) _ _ (λ z. ticketed-far (coloursOf t .colours) (coloursOf t .next) (omega (arith, colours-lie t z .near))))
 
 -- ── The front of a file ──
 

@@ -18,6 +18,7 @@ pub mod ReadingCells
 pub mod ReadingSheets
 pub mod SpellingSheets
 pub mod LongestSheet
+pub mod Tickets
 pub mod InARow
 pub mod SpellingOn
 pub mod SpellingDrafts

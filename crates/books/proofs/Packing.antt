@@ -13,9 +13,10 @@ use Rattle.names.proofs.ReadingNumbers.{Blamed}
 use Rattle.books.specs.Answer.{answer, plain, blaming, packed, Packs}
 use Rattle.books.specs.Book.{bookOf}
 use Rattle.books.specs.Sheet.{sheetOf}
+use Rattle.books.specs.Calls.{sheetAnswer, ticketOf}
 use Rattle.books.specs.declared.answer.Answer.{Answer}
 use Rattle.books.proofs.ReadingBooks.{book-refused}
-use Rattle.books.proofs.ReadingSheets.{sheet-refused}
+use Rattle.books.proofs.ReadingSheets.{sheet-refused, sheet-ticket}
 
 -- the parts of a packed answer
 pub record Apart (a : Answer) (count n : ℕ) : Type 0 where
@@ -53,5 +54,13 @@ fault-placed s input limit f h g b =
 pub book-placed : (s : List ℕ) (input : ℕ) → input < 2 ^ 4 → Placed s (blaming input (bookOf s .fault))
 book-placed s input h = fault-placed s input 5164 (bookOf s .fault) h (omega arith) (λ n. book-refused s n .blamed)
 
+-- an answer packs with a count that fits
+pub packs-with : {a : Answer} {n : ℕ} (count : ℕ) → Packs a n → count < 2 ^ 32 → Packs a count
+packs-with count p h = record { number-fits = p .number-fits; blamed-fits = p .blamed-fits; place-fits = p .place-fits; count-fits = h }
+
 pub sheet-placed : (s : List ℕ) (input : ℕ) → input < 2 ^ 4 → Placed s (blaming input (sheetOf s .fault))
 sheet-placed s input h = fault-placed s input _ (sheetOf s .fault) h (omega arith) (λ n. sheet-refused s n .blamed)
+
+-- a sheet's ticket fits the count
+pub ticket-packs : (s : List ℕ) → Packs (sheetAnswer s) (ticketOf s)
+ticket-packs s = packs-with (ticketOf s) (sheet-placed s 1 (omega arith) .packs) (omega (arith, sheet-ticket s))

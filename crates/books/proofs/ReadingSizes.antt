@@ -29,7 +29,7 @@ pub record SizeLies (s : List ℕ) (at most rows cols next : ℕ) : Type 0 where
 module _ (s : List ℕ) (at most : ℕ) where
   abbrev Found : SizeRead → Type 0
   Found (By rows cols next) = SizeLies s at most rows cols next
-  Found (RefusedSize f) = Blamed s (at + 4) f
+  Found (RefusedSize f) = Blamed s (at + 5) f
 
   found : Found (sizeAt s at most)
   unfolding sizeAt
@@ -57,5 +57,5 @@ module _ (s : List ℕ) (at most : ℕ) where
   pub size-lies : (rows cols next : ℕ) → sizeAt s at most ≡ By rows cols next → SizeLies s at most rows cols next
   size-lies rows cols next e = subst Found e found
 
-  pub size-refused : (f : Fault) → sizeAt s at most ≡ RefusedSize f → Blamed s (at + 4) f
+  pub size-refused : (f : Fault) → sizeAt s at most ≡ RefusedSize f → Blamed s (at + 5) f
   size-refused f e = subst Found e found

@@ -12,7 +12,7 @@ use Rattle.books.specs.Book.{noFamily, bookOf}
 use Rattle.books.specs.Sheet.{sheetOf}
 use Rattle.books.specs.Order.{numberedSheet, orderOf}
 use Rattle.books.specs.Answer.{plain, blaming, packed}
-use Rattle.books.specs.Calls.{bookAnswer, sheetAnswer, shown, shownStart, shownPlace}
+use Rattle.books.specs.Calls.{bookAnswer, sheetAnswer, ticketOf, shown, shownStart, shownPlace}
 use Rattle.books.specs.Draft.{WroteDraft}
 use Rattle.books.specs.declared.answer.Answer.{Answer}
 use Rattle.books.specs.declared.draft.Draft.{Draft}
@@ -51,7 +51,7 @@ read-order-settled book sheet = settles _
 pub dv-read-book-settled : (s : List ℕ) → Settles (packed (bookAnswer s) 0)
 dv-read-book-settled s = settles _
 
-pub dv-read-sheet-settled : (s : List ℕ) → Settles (packed (sheetAnswer s) 0)
+pub dv-read-sheet-settled : (s : List ℕ) → Settles (packed (sheetAnswer s) (ticketOf s))
 dv-read-sheet-settled s = settles _
 
 pub colour-settled : (book : RefT (List ℕ)) (k : ℕ) → SettlesPart (Part book (shownStart (now book) k) (shown (now book) k))

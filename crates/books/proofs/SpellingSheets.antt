@@ -1,6 +1,6 @@
--- All contents of a sheet that keep the rules have exactly one accepted spelling, and reading it gives them back: colours, rows, columns and
--- cells are spelled one after the other, and each is read back at its place.
-use Prim.Native.Nat.{ℕ, suc, _+_, _<_, _≤_}
+-- All contents of a sheet that keep the rules have exactly one accepted spelling, and reading it gives them back: colours, ticket, rows, columns
+-- and cells are spelled one after the other, and each is read back at its place.
+use Prim.Native.Nat.{ℕ, suc, _+_, _≤_}
 use mathlib.Core.Path.{_≡_, refl, sym, ap, ap₂, _∙_}
 use mathlib.Core.List.{List, [], _∷_, _++_, append-assoc, append-nil}
 use native.Mathlib.Omega.{arith}
@@ -10,13 +10,13 @@ use borrow.Author.Tests.{le-ltb}
 use lib.ListN.{length, drop, set, length-append, length-drop, drop-of-length-le}
 use lib.Seq.{sets, drop-append-seam}
 use Rattle.names.specs.Pick.{fault}
-use Rattle.names.specs.Number.{numberIn, spellNumber}
+use Rattle.names.specs.Number.{greatestNumber, numberIn, spellNumber}
 use Rattle.names.specs.Name.{Name}
 use Rattle.names.specs.Colours.{coloursOf}
 use Rattle.names.specs.Spelling.{spellColours}
 use Rattle.names.specs.declared.number.Fault.{Fault}
 use Rattle.names.specs.declared.number.Read.the-variants.{Value}
-use Rattle.names.proofs.ReadingNumbers.{number-there, number-in-range, number-below-count}
+use Rattle.names.proofs.ReadingNumbers.{number-there, number-most, number-in-range, number-below-count}
 use Rattle.names.proofs.SpellingNumbers.{Bytes, number-spelled, number-reads-at}
 use Rattle.names.proofs.ReadingColours.{names-count}
 use Rattle.names.proofs.SpellingColours.{colours-accepted, colours-read-back, drop-past, past-inside}
@@ -46,12 +46,14 @@ module _ (s : List ℕ) (bytes : Bytes s) (z : sheetOf s .fault .number ≡ 0) w
       let c = colours-accepted s bytes (ap (λ (f : Fault). f .number) (g .listed .fine)) in
       let size = g .sized in
       let stand = staged-cells s (sheetOf s) g in
+      let ticket = number-spelled s bytes _ _ _ (g .ticketed) in
       let rows = number-spelled s bytes _ _ _ (number-there s _ 1 greatest _ _ (size .rows-there)) in
       let cols = number-spelled s bytes _ _ _ (number-there s _ 1 greatest _ _ (size .cols-there)) in
       let cells : drop (g .at) s ≡ spellCells (g .filled .new) = g .filled .spelled bytes ∙ (rw (drop-of-length-le s (g .ended)) (append-nil _)) in
       record {
         keeps = record {
           colours-ok = rw (g .colours) (c .ok);
+          ticket-few = number-most s _ _ _ (g .ticketed);
           rows-some = size .rows-some;
           rows-few = size .rows-few;
           cols-some = size .cols-some;
@@ -59,7 +61,7 @@ module _ (s : List ℕ) (bytes : Bytes s) (z : sheetOf s .fault .number ≡ 0) w
           cells-all = rw stand (g .filled .count);
           cells-fit = rw (stand, g .colours, names-count s (coloursOf s .colours)) (g .filled .fit);
         };
-        spelled = rw (stand, g .colours, ← cells, ← cols, ← rows) (c .spelled);
+        spelled = rw (stand, g .colours, ← cells, ← cols, ← rows, ← ticket) (c .spelled);
       }
 
 -- two accepted inputs with the same contents are the same input
@@ -71,12 +73,12 @@ one-spelling s t bs bt zs zt e = sheet-accepted s bs zs .spelled ∙ (ap spellSh
 
 module _ (s : List ℕ) where
   -- a number in its range
-  range-read : (most at n : ℕ) (b : List ℕ) → most < 16384 → at ≤ length s → 1 ≤ n → n ≤ most → drop at s ≡ spellNumber n ++ b
+  range-read : (most at n : ℕ) (b : List ℕ) → most ≤ greatestNumber → at ≤ length s → 1 ≤ n → n ≤ most → drop at s ≡ spellNumber n ++ b
       → numberIn s at 1 most ≡ Value n (at + length (spellNumber n))
   range-read most at n b small h low high e =
       number-in-range s at 1 most n _ (number-reads-at s b at n h (omega arith) e) low high
 
-  size-read : (most at rows cols : ℕ) (b : List ℕ) → most < 16384 → at ≤ length s → 1 ≤ rows → rows ≤ most → 1 ≤ cols → cols ≤ most
+  size-read : (most at rows cols : ℕ) (b : List ℕ) → most ≤ greatestNumber → at ≤ length s → 1 ≤ rows → rows ≤ most → 1 ≤ cols → cols ≤ most
       → drop at s ≡ spellNumber rows ++ (spellNumber cols ++ b)
       → sizeAt s at most ≡ By rows cols ((at + length (spellNumber rows)) + length (spellNumber cols))
   unfolding sizeAt
@@ -86,7 +88,7 @@ module _ (s : List ℕ) where
       simp (range-read most at rows (spellNumber cols ++ b) small h rl rh e, range-read most (at + length (spellNumber rows)) cols b small inside cl ch next)
 
   -- so many numbers, stored from the i-th cell on
-  cells-read : (colours : ℕ) → colours ≤ 16384 → (vs cells : List ℕ) (i at : ℕ) (b : List ℕ) → at ≤ length s → Fit colours vs
+  cells-read : (colours : ℕ) → colours ≤ greatestNumber → (vs cells : List ℕ) (i at : ℕ) (b : List ℕ) → at ≤ length s → Fit colours vs
       → drop at s ≡ spellCells vs ++ b
       → cellsFrom s colours cells i at (length vs) ≡ record { fault = fault 0 0; cells = sets cells i vs; next = at + length (spellCells vs) }
   cells-read colours small [] cells i at b h fit e = rw add-zero
@@ -102,7 +104,7 @@ module _ (s : List ℕ) where
 
 -- the sheet that contents are read back as
 abbrev pub sheetFor : Grid → Sheet
-sheetFor g = record { colours = coloursOf (spellSheet g) .colours; rows = g .rows; cols = g .cols; cells = sets noCells 0 (g .cells) }
+sheetFor g = record { colours = coloursOf (spellSheet g) .colours; ticket = g .ticket; rows = g .rows; cols = g .cols; cells = sets noCells 0 (g .cells) }
 
 module _ (g : Grid) (k : GridKeeps g) where
   sheet-read : sheetOf (spellSheet g) ≡ record { fault = fault 0 0; sheet = sheetFor g }
@@ -110,33 +112,38 @@ module _ (g : Grid) (k : GridKeeps g) where
   sheet-read =
       let s = spellSheet g in
       let colours = spellColours (g .colours) in
+      let ticket = spellNumber (g .ticket) in
       let rows = spellNumber (g .rows) in
       let cols = spellNumber (g .cols) in
       let cells = spellCells (g .cells) in
-      let names = colours-read-back (g .colours) (rows ++ (cols ++ cells)) (k .colours-ok) in
+      let names = colours-read-back (g .colours) (ticket ++ (rows ++ (cols ++ cells))) (k .colours-ok) in
       let count : coloursOf s .colours .count ≡ length (g .colours) = sym (names-count s (coloursOf s .colours)) ∙ ap length (names .names) in
-      let few : length (g .colours) ≤ 16384 = omega (arith, k .colours-ok .few) in
-      let at-rows = length colours in
+      let few : length (g .colours) ≤ greatestNumber = omega (arith, k .colours-ok .few) in
+      let at-ticket = length colours in
+      let at-rows = at-ticket + length ticket in
       let at-cols = at-rows + length rows in
       let at-cells = at-cols + length cols in
-      let rows-there : drop at-rows s ≡ rows ++ (cols ++ cells) = drop-append-seam colours _ in
+      let ticket-there : drop at-ticket s ≡ ticket ++ (rows ++ (cols ++ cells)) = drop-append-seam colours _ in
+      let rows-there = drop-past s ticket (rows ++ (cols ++ cells)) at-ticket ticket-there in
       let cols-there = drop-past s rows (cols ++ cells) at-rows rows-there in
       let cells-there : drop at-cells s ≡ cells ++ [] = drop-past s cols cells at-cols cols-there ∙ sym (append-nil cells) in
-      let rows-inside : at-rows ≤ length s = omega (arith, length-append colours (rows ++ (cols ++ cells))) in
+      let ticket-inside : at-ticket ≤ length s = omega (arith, length-append colours (ticket ++ (rows ++ (cols ++ cells)))) in
+      let rows-inside = past-inside s ticket (rows ++ (cols ++ cells)) at-ticket ticket-inside ticket-there in
       let cols-inside = past-inside s rows (cols ++ cells) at-rows rows-inside rows-there in
       let cells-inside = past-inside s cols cells at-cols cols-inside cols-there in
+      let job = number-reads-at s (rows ++ (cols ++ cells)) at-ticket (g .ticket) ticket-inside (k .ticket-few) ticket-there in
       let size = size-read s greatest at-rows (g .rows) (g .cols) cells (omega arith) rows-inside (k .rows-some) (k .rows-few) (k .cols-some) (k .cols-few) rows-there in
       let filled = cells-read s (length (g .colours)) few (g .cells) noCells 0 at-cells [] cells-inside (k .cells-fit) cells-there in
       let end : length s ≤ at-cells + length cells =
       omega (arith, length-drop (at-cells + length cells) s, ap (λ (x : List ℕ). length x) (drop-past s cells [] at-cells cells-there)) in
-      simp (names .fine, names .next, size, count, ← k .cells-all, filled, le-ltb (at-cells + length cells) (length s) end)
+      simp (names .fine, names .next, job, size, count, ← k .cells-all, filled, le-ltb (at-cells + length cells) (length s) end)
 
   -- its contents
   sheet-contents : gridIn (spellSheet g) (sheetFor g) ≡ g
   sheet-contents =
-      let names = colours-read-back (g .colours) (spellNumber (g .rows) ++ (spellNumber (g .cols) ++ spellCells (g .cells))) (k .colours-ok) in
+      let names = colours-read-back (g .colours) (spellNumber (g .ticket) ++ (spellNumber (g .rows) ++ (spellNumber (g .cols) ++ spellCells (g .cells)))) (k .colours-ok) in
       let few : length (g .cells) ≤ length noCells = omega (arith, k .cells-all, area (g .rows) (g .cols) greatest (k .rows-few) (k .cols-few)) in
-      ap₂ (λ (x : List Name) (y : List ℕ). record { colours = x; rows = g .rows; cols = g .cols; cells = y })
+      ap₂ (λ (x : List Name) (y : List ℕ). record { colours = x; ticket = g .ticket; rows = g .rows; cols = g .cols; cells = y })
       (names .names) (rw (← k .cells-all) (stored-first noCells (g .cells) few))
 
   pub sheet-read-back : (sheetOf (spellSheet g) .fault ≡ fault 0 0) × (gridIn (spellSheet g) (sheetOf (spellSheet g) .sheet) ≡ g)

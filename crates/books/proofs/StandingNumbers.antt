@@ -3,9 +3,8 @@
 use Prim.Native.Nat.{ℕ, _+_, _<_, _≤_}
 use mathlib.Core.Path.{_≡_, sym, ap, _∙_}
 use mathlib.Core.List.{List, _++_, append-assoc}
-use native.Mathlib.Omega.{arith}
 use lib.ListN.{length, drop}
-use Rattle.names.specs.Number.{numberIn, numberBelow, spellNumber}
+use Rattle.names.specs.Number.{greatestNumber, numberIn, numberBelow, spellNumber}
 use Rattle.names.specs.declared.number.Read.the-variants.{Value}
 use Rattle.names.proofs.ReadingNumbers.{number-there, number-in-range, number-below-there, number-below-count}
 use Rattle.names.proofs.SpellingNumbers.{Bytes, number-spelled, number-reads-at}
@@ -41,12 +40,12 @@ module _ {s : List ℕ} {at : ℕ} where
   pub past-stands : (a b : List ℕ) → Stands s at (a ++ b) → Stands s (at + length a) b
   past-stands a b h = record { inside = past-inside s a b at (h .inside) (h .there); there = drop-past s a b at (h .there) }
 
-  pub in-read : (least most v : ℕ) (rest : List ℕ) → Stands s at (spellNumber v ++ rest) → least ≤ v → v ≤ most → v < 16384
+  pub in-read : (least most v : ℕ) (rest : List ℕ) → Stands s at (spellNumber v ++ rest) → least ≤ v → v ≤ most → v ≤ greatestNumber
       → numberIn s at least most ≡ Value v (at + length (spellNumber v))
   in-read least most v rest h low high small =
-      number-in-range s at least most v (at + length (spellNumber v)) (number-reads-at s rest at v (h .inside) (omega arith) (h .there)) low high
+      number-in-range s at least most v (at + length (spellNumber v)) (number-reads-at s rest at v (h .inside) small (h .there)) low high
 
-  pub below-read : (count refusal v : ℕ) (rest : List ℕ) → Stands s at (spellNumber v ++ rest) → v < count → v < 16384
+  pub below-read : (count refusal v : ℕ) (rest : List ℕ) → Stands s at (spellNumber v ++ rest) → v < count → v ≤ greatestNumber
       → numberBelow s at count refusal ≡ Value v (at + length (spellNumber v))
   below-read count refusal v rest h low small =
-      number-below-count s at count refusal v (at + length (spellNumber v)) (number-reads-at s rest at v (h .inside) (omega arith) (h .there)) low
+      number-below-count s at count refusal v (at + length (spellNumber v)) (number-reads-at s rest at v (h .inside) small (h .there)) low

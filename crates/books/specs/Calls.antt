@@ -18,6 +18,10 @@ bookAnswer s = blaming 1 (bookOf s .fault)
 abbrev pub sheetAnswer : List ℕ → Answer
 sheetAnswer s = blaming 1 (sheetOf s .fault)
 
+-- the ticket of a sheet: a refused one has 0
+abbrev pub ticketOf : List ℕ → ℕ
+ticketOf s = sheetOf s .sheet .ticket
+
 -- the name of a colour of the book, and nothing where there is no such colour: a refused book has none
 abbrev pub shown : List ℕ → ℕ → Name
 shown s k = name (contentsIn s (bookOf s .family)) k

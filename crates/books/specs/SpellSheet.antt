@@ -1,4 +1,4 @@
--- How the contents of a sheet are spelled: colours, rows, columns, then the cells, row by row.
+-- How the contents of a sheet are spelled: colours, the ticket, rows, columns, then the cells, row by row.
 use Prim.Native.Nat.{ℕ}
 use mathlib.Core.List.{List, [], _∷_, _++_}
 use Rattle.names.specs.Number.{spellNumber}
@@ -10,4 +10,5 @@ spellCells [] = []
 spellCells (v ∷ vs) = spellNumber v ++ spellCells vs
 
 abbrev pub spellSheet : Grid → List ℕ
-spellSheet g = spellColours (g .colours) ++ (spellNumber (g .rows) ++ (spellNumber (g .cols) ++ spellCells (g .cells)))
+spellSheet g =
+    spellColours (g .colours) ++ (spellNumber (g .ticket) ++ (spellNumber (g .rows) ++ (spellNumber (g .cols) ++ spellCells (g .cells))))

@@ -5,7 +5,7 @@ use crate::sheet;
 ghost use mathlib.Core.Path.{_≡_};
 ghost use Rattle.names.specs.Part.{Part};
 ghost use Rattle.books.specs.Answer.{packed};
-ghost use Rattle.books.specs.Calls.{bookAnswer, sheetAnswer, shown, shownStart, shownPlace};
+ghost use Rattle.books.specs.Calls.{bookAnswer, sheetAnswer, ticketOf, shown, shownStart, shownPlace};
 
 // Whether these bytes are a book; the answer blames input 1.
 #[no_mangle]
@@ -17,14 +17,14 @@ pub extern "C" fn dv_read_book(book: &[u8]) -> u64
     answer::pack(answer::blame(1, f), 0)
 }
 
-// Whether these bytes are a sheet; the answer blames input 1.
+// Whether these bytes are a sheet; the answer blames input 1, and its count is the sheet's ticket.
 #[no_mangle]
 pub extern "C" fn dv_read_sheet(sheet: &[u8]) -> u64
-    ensures { λ r. ⌜ r ≡ packed (sheetAnswer (now (sheet .entry))) 0 ⌝ }
+    ensures { λ r. ⌜ r ≡ packed (sheetAnswer (now (sheet .entry))) (ticketOf (now (sheet .entry))) ⌝ }
 {
     let r = sheet::read_sheet(sheet);
     let f = r.fault;
-    answer::pack(answer::blame(1, f), 0)
+    answer::pack(answer::blame(1, f), r.sheet.ticket)
 }
 
 // A colour's name, as the part of the lent book that holds it. A refused book has no colours, so that it shows an empty part too.

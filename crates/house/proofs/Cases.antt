@@ -5,7 +5,7 @@ use mathlib.Core.Path.{_≡_, refl}
 use mathlib.Core.List.{List, [], _∷_}
 use lib.ListN.{length, replicate}
 use Rattle.names.specs.Pick.{fault}
-use Rattle.names.specs.Number.{numberAt, numberIn, numberBelow, spellNumber}
+use Rattle.names.specs.Number.{lastGroup, longerAt, numberAt, numberIn, numberBelow, spellNumber}
 use Rattle.names.specs.Name.{leastAt, nameOf, sameName, listed}
 use Rattle.names.specs.Colours.{findName, colourAt, coloursOf}
 use Rattle.names.specs.Put.{put}
@@ -63,7 +63,7 @@ pub record Cases : Type 0 where
   pub P12-rules : length (contentsOf eitherOfBook .rules) ≡ 12
 
 pub cases : Cases
-unfolding numberAt numberIn numberBelow spellNumber leastAt nameOf sameName listed findName colourAt coloursOf put
+unfolding numberAt longerAt lastGroup numberIn numberBelow spellNumber leastAt nameOf sameName listed findName colourAt coloursOf put
     colourNumberAt joinAt bodyAt ruleAt rulesAt figuresAt ruledAt figuredAt bookOf sizeAt cellsOf filledAt sheetOf
     andThen orElse called? anyCut fitsBody anyRule derivesIn derives?
     each pieces bits entry table reach front back least works cutOf covers fits takes taken lowest chosen choose both treeWithin treeOf

@@ -40,29 +40,29 @@ houseContents =
       rules = record { head = 0; body = Across 0 0 } ∷ record { head = 0; body = Down 1 2 } ∷ record { head = 1; body = Colour 0 } ∷ record { head = 2; body = Colour 1 } ∷ [];
     }
 
--- two rows of three columns, Slate C over Slate U
+-- two rows of three columns, Slate C over Slate U; like all of these sheets it has the ticket 0
 abbrev pub sheetA : List ℕ
-sheetA = twoColours ++ (2 ∷ 3 ∷ 0 ∷ 0 ∷ 0 ∷ 1 ∷ 1 ∷ 1 ∷ [])
+sheetA = twoColours ++ (0 ∷ 2 ∷ 3 ∷ 0 ∷ 0 ∷ 0 ∷ 1 ∷ 1 ∷ 1 ∷ [])
 
 -- sheet A with its two colours listed in the other order, and the cells renumbered
 abbrev pub sheetAReordered : List ℕ
-sheetAReordered = 2 ∷ 7 ∷ slateU ++ (7 ∷ slateC ++ (2 ∷ 3 ∷ 1 ∷ 1 ∷ 1 ∷ 0 ∷ 0 ∷ 0 ∷ []))
+sheetAReordered = 2 ∷ 7 ∷ slateU ++ (7 ∷ slateC ++ (0 ∷ 2 ∷ 3 ∷ 1 ∷ 1 ∷ 1 ∷ 0 ∷ 0 ∷ 0 ∷ []))
 
 -- sheet A with "Slate" for "Slate C"
 abbrev pub sheetASlate : List ℕ
-sheetASlate = 2 ∷ 5 ∷ slate ++ (7 ∷ slateU ++ (2 ∷ 3 ∷ 0 ∷ 0 ∷ 0 ∷ 1 ∷ 1 ∷ 1 ∷ []))
+sheetASlate = 2 ∷ 5 ∷ slate ++ (7 ∷ slateU ++ (0 ∷ 2 ∷ 3 ∷ 0 ∷ 0 ∷ 0 ∷ 1 ∷ 1 ∷ 1 ∷ []))
 
 -- one cell of Slate C
 abbrev pub oneCell : List ℕ
-oneCell = twoColours ++ (1 ∷ 1 ∷ 0 ∷ [])
+oneCell = twoColours ++ (0 ∷ 1 ∷ 1 ∷ 0 ∷ [])
 
 -- 2 by 1, Slate C over Slate U
 abbrev pub oneColumn : List ℕ
-oneColumn = twoColours ++ (2 ∷ 1 ∷ 0 ∷ 1 ∷ [])
+oneColumn = twoColours ++ (0 ∷ 2 ∷ 1 ∷ 0 ∷ 1 ∷ [])
 
 -- 1 by 2, Slate C then Slate U
 abbrev pub oneRow : List ℕ
-oneRow = twoColours ++ (1 ∷ 2 ∷ 0 ∷ 1 ∷ [])
+oneRow = twoColours ++ (0 ∷ 1 ∷ 2 ∷ 0 ∷ 1 ∷ [])
 
 -- the house book transposed: kinds 1 and 2 exchanged
 abbrev pub transposedBook : List ℕ

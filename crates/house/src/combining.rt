@@ -25,12 +25,12 @@ fn transposed(house: &[u8]) {
     asking::ask_with_room(
         b"asked for 1 by 2",
         &out,
-        b"\x02\x07Slate C\x07Slate U\x01\x02\x00\x01",
+        b"\x02\x07Slate C\x07Slate U\x00\x01\x02\x00\x01",
     );
     asking::ask_with_room(
         b"asked for sheet A",
         &out,
-        b"\x02\x07Slate C\x07Slate U\x02\x03\x00\x00\x00\x01\x01\x01",
+        b"\x02\x07Slate C\x07Slate U\x00\x02\x03\x00\x00\x00\x01\x01\x01",
     );
 }
 
@@ -42,12 +42,12 @@ fn beside(house: &[u8]) {
     asking::ask_with_room(
         b"asked for 2 by 1",
         &out,
-        b"\x02\x07Slate C\x07Slate U\x02\x01\x00\x01",
+        b"\x02\x07Slate C\x07Slate U\x00\x02\x01\x00\x01",
     );
     asking::ask_with_room(
         b"asked for sheet A",
         &out,
-        b"\x02\x07Slate C\x07Slate U\x02\x03\x00\x00\x00\x01\x01\x01",
+        b"\x02\x07Slate C\x07Slate U\x00\x02\x03\x00\x00\x00\x01\x01\x01",
     );
 }
 

@@ -7,6 +7,7 @@ mod combining;
 mod lent;
 mod limits;
 mod lists;
+mod numbers;
 mod palindromes;
 mod printing;
 mod reading;
@@ -28,6 +29,10 @@ fn main() {
     limits::of_sheets();
     limits::of_books();
     palindromes::run();
+    printing::line(b"Sheets read: number, blamed input, place; ticket");
+    numbers::in_a_sheet();
+    printing::line(b"Books read: number, blamed input, place");
+    numbers::in_a_book();
     printing::line(
         b"Combined: number, blamed input, place; bytes of the new book; how much of the output slice was written",
     );

@@ -1,17 +1,17 @@
 -- Each answer is given exactly when its row says: reading a number or a name ends in one of the ways of `Reads`, and whatever ends in that way is
 -- what reading finds, since the tests on the bytes shut each other out.
-use Prim.Native.Nat.{ℕ, zero, suc, _+_, _<_, _≤_}
+use Prim.Native.Nat.{ℕ, zero, suc, _+_, _%_, _<_, _≤_}
 use mathlib.Core.Path.{_≡_, refl, sym, _∙_, ap, subst}
 use mathlib.Core.List.{List}
-use mathlib.Core.Logic.{_↔_, _⊎_, inl, inr, ⊎-elim}
+use mathlib.Core.Logic.{_↔_, inl, inr, ⊎-elim}
 use native.Mathlib.Omega.{arith}
 use borrow.Author.Tests.{ltb-true, ltb-false, leb-true, leb-false, eqb-true, eqb-false, lt-ltb, le-ltb, lt-leb, le-leb, eq-eqb, ne-eqb}
 use borrow.Author.Count.{below-none, below-more}
 use lib.ListN.{length, getD}
 use lib.Dec.{ltb, leb, eqb}
-use Rattle.names.specs.Number.{numberAt, numberIn, numberBelow}
+use Rattle.names.specs.Number.{lastGroup, longerAt, numberAt, numberIn, numberBelow}
 use Rattle.names.specs.Name.{leastAt, Shown, nameFrom, nameOf}
-use Rattle.names.specs.Reads.{Reads, nothing-there, ends-inside, misspelt, one-byte, two-bytes, ReadsIn, in-range, out-of-range, no-number, ReadsBelow, below-count, not-below, none-below, AllShown, ReadsName, whole, ends, bad}
+use Rattle.names.specs.Reads.{Reads, nothing-there, ends-after-one, ends-after-two, second-zero, third-misspelt, one-byte, two-bytes, three-bytes, ReadsIn, in-range, out-of-range, no-number, ReadsBelow, below-count, not-below, none-below, AllShown, ReadsName, whole, ends, bad}
 use Rattle.names.specs.declared.number.Read.{Read}
 use Rattle.names.specs.declared.number.Read.the-variants.{Value, Refused}
 use Rattle.names.specs.declared.name.NameRead.{NameRead}
@@ -22,36 +22,65 @@ use Rattle.names.proofs.Tests.{lt-or-le}
 -- ── Numbers ──
 
 reads : (s : List ℕ) (at : ℕ) → Reads s at (numberAt s at)
-unfolding numberAt
+unfolding numberAt longerAt lastGroup
 reads s at =
     pick-ind (Reads s at) (leb (length s) at) _ _ (λ a. nothing-there (leb-true _ _ a) refl)
     (λ a. pick-ind (Reads s at) (ltb (getD s at 0) 128) _ _ (λ b. one-byte (leb-false _ _ a) (ltb-true _ _ b) refl)
     (λ b. pick-ind (Reads s at) (leb (length s) (at + 1)) _ _
-    (λ d. ends-inside (omega (arith, leb-false (length s) at a, leb-true (length s) (at + 1) d)) (ltb-false _ _ b) refl)
-    (λ d. pick-ind (Reads s at) (eqb (getD s (at + 1) 0) 0) _ _
-    (λ e. misspelt (leb-false _ _ d) (ltb-false _ _ b) (inl (eqb-true _ _ e)) refl)
-    (λ e. pick-ind (Reads s at) (ltb (getD s (at + 1) 0) 128) _ _
-    (λ f. two-bytes (leb-false _ _ d) (ltb-false _ _ b) (omega (arith, eqb-false (getD s (at + 1) 0) 0 e)) (ltb-true _ _ f) refl)
-    (λ f. misspelt (leb-false _ _ d) (ltb-false _ _ b) (inr (ltb-false _ _ f)) refl)))))
+    (λ d. ends-after-one (omega (arith, leb-false (length s) at a, leb-true (length s) (at + 1) d)) (ltb-false _ _ b) refl)
+    (λ d. pick-ind (Reads s at) (ltb (getD s (at + 1) 0) 128) _ _
+    (λ f. pick-ind (Reads s at) (eqb (getD s (at + 1) 0) 0) _ _
+    (λ e. second-zero (leb-false _ _ d) (ltb-false _ _ b) (eqb-true _ _ e) refl)
+    (λ e. two-bytes (leb-false _ _ d) (ltb-false _ _ b) (omega (arith, eqb-false (getD s (at + 1) 0) 0 e)) (ltb-true _ _ f) refl))
+    (λ f. pick-ind (Reads s at) (leb (length s) (at + 2)) _ _
+    (λ g. ends-after-two (omega (arith, leb-false (length s) (at + 1) d, leb-true (length s) (at + 2) g)) (ltb-false _ _ b) (ltb-false _ _ f) refl)
+    (λ g. pick-ind (Reads s at) (ltb (getD s (at + 2) 0) 128) _ _
+    (λ h. pick-ind (Reads s at) (eqb (getD s (at + 2) 0) 0) _ _
+    (λ e. third-misspelt (leb-false _ _ g) (ltb-false _ _ b) (ltb-false _ _ f) (inl (eqb-true _ _ e)) refl)
+    (λ e. three-bytes (leb-false _ _ g) (ltb-false _ _ b) (ltb-false _ _ f) (omega (arith, eqb-false (getD s (at + 2) 0) 0 e)) (ltb-true _ _ h) refl))
+    (λ h. third-misspelt (leb-false _ _ g) (ltb-false _ _ b) (ltb-false _ _ f) (inr (ltb-false _ _ h)) refl))))))
+
+-- a first group that is not the last leaves the number to those after it
+longer : (s : List ℕ) (at : ℕ) → at < length s → 128 ≤ getD s at 0 → numberAt s at ≡ longerAt s at (getD s at 0 % 128)
+unfolding numberAt
+longer s at h b = simp (lt-leb (length s) at h, le-ltb (getD s at 0) 128 b)
 
 reads-is : (s : List ℕ) (at : ℕ) (r : Read) → Reads s at r → numberAt s at ≡ r
-unfolding numberAt
+unfolding numberAt longerAt lastGroup
 reads-is s at r (nothing-there h e) = simp (le-leb (length s) at h) (sym e)
-reads-is s at r (ends-inside h b e) =
-    let here : at < length s = omega arith in
+reads-is s at r (ends-after-one h b e) =
     let last : length s ≤ at + 1 = omega arith in
-    simp (lt-leb (length s) at here, le-ltb (getD s at 0) 128 b, le-leb (length s) (at + 1) last) (sym e)
-reads-is s at r (misspelt h b m e) =
-    let here : at < length s = omega arith in
-    simp (lt-leb (length s) at here, le-ltb (getD s at 0) 128 b, lt-leb (length s) (at + 1) h)
+    longer s at (omega arith) b ∙ simp (le-leb (length s) (at + 1) last) (sym e)
+reads-is s at r (ends-after-two h b m e) =
+    let two : at + 1 < length s = omega arith in
+    let last : length s ≤ at + 2 = omega arith in
+    longer s at (omega arith) b ∙ simp (lt-leb (length s) (at + 1) two, le-ltb (getD s (at + 1) 0) 128 m, le-leb (length s) (at + 2) last) (sym e)
+reads-is s at r (second-zero h b z e) =
+    let low : getD s (at + 1) 0 < 128 = omega arith in
+    longer s at (omega arith) b ∙ simp (lt-leb (length s) (at + 1) h, lt-ltb (getD s (at + 1) 0) 128 low, eq-eqb (getD s (at + 1) 0) 0 z) (sym e)
+reads-is s at r (third-misspelt h b m t e) =
+    let two : at + 1 < length s = omega arith in
+    longer s at (omega arith) b
+    ∙ simp (lt-leb (length s) (at + 1) two, le-ltb (getD s (at + 1) 0) 128 m, lt-leb (length s) (at + 2) h)
     (⊎-elim
-    (λ z. simp (eq-eqb (getD s (at + 1) 0) 0 z) (sym e))
-    (λ z. simp (ne-eqb (getD s (at + 1) 0) 0 (λ q. omega arith), le-ltb (getD s (at + 1) 0) 128 z) (sym e))
-    m)
+    (λ (z : getD s (at + 2) 0 ≡ 0). let low : getD s (at + 2) 0 < 128 = omega arith in
+    simp (lt-ltb (getD s (at + 2) 0) 128 low, eq-eqb (getD s (at + 2) 0) 0 z) (sym e))
+    (λ z. simp (le-ltb (getD s (at + 2) 0) 128 z) (sym e))
+    t)
 reads-is s at r (one-byte h b e) = simp (lt-leb (length s) at h, lt-ltb (getD s at 0) 128 b) (sym e)
 reads-is s at r (two-bytes h b l m e) =
-    let here : at < length s = omega arith in
-    simp (lt-leb (length s) at here, le-ltb (getD s at 0) 128 b, lt-leb (length s) (at + 1) h, ne-eqb (getD s (at + 1) 0) 0 (λ q. omega arith), lt-ltb (getD s (at + 1) 0) 128 m) (sym e)
+    longer s at (omega arith) b
+    ∙ simp (lt-leb (length s) (at + 1) h, lt-ltb (getD s (at + 1) 0) 128 m, ne-eqb (getD s (at + 1) 0) 0 (λ q. omega arith)) (sym e)
+reads-is s at r (three-bytes h b m l t e) =
+    let two : at + 1 < length s = omega arith in
+    longer s at (omega arith) b
+    ∙ simp (
+      lt-leb (length s) (at + 1) two,
+      le-ltb (getD s (at + 1) 0) 128 m,
+      lt-leb (length s) (at + 2) h,
+      lt-ltb (getD s (at + 2) 0) 128 t,
+      ne-eqb (getD s (at + 2) 0) 0 (λ q. omega arith),
+    ) (sym e)
 
 pub number-exactly : (s : List ℕ) (at : ℕ) (r : Read) → (numberAt s at ≡ r) ↔ Reads s at r
 number-exactly s at r = (λ e. subst (Reads s at) e (reads s at), reads-is s at r)

@@ -1,9 +1,9 @@
 -- Numbers at their limits and colour lists of the house book, computed from the definitions.
-use Prim.Native.Nat.{ℕ}
+use Prim.Native.Nat.{ℕ, _+_}
 use mathlib.Core.Path.{_≡_, refl}
 use mathlib.Core.List.{List, [], _∷_, _++_}
 use Rattle.names.specs.Pick.{fault}
-use Rattle.names.specs.Number.{numberAt, numberIn, spellNumber}
+use Rattle.names.specs.Number.{greatestNumber, lastGroup, longerAt, numberAt, numberIn, spellNumber}
 use Rattle.names.specs.Name.{Name, leastAt, nameOf, sameName, listed}
 use Rattle.names.specs.Colours.{namesIn, findName, colourAt, coloursOf}
 use Rattle.names.specs.declared.number.Read.the-variants.{Value, Refused}
@@ -15,13 +15,21 @@ pub record Numbers : Type 0 where
   pub least : spellNumber 0 ≡ 0 ∷ []
   pub one-byte : spellNumber 127 ≡ 127 ∷ []
   pub two-bytes : spellNumber 128 ≡ 128 ∷ 1 ∷ []
-  pub greatest : spellNumber 16383 ≡ 255 ∷ 127 ∷ []
-  pub greatest-read : numberAt (255 ∷ 127 ∷ []) 0 ≡ Value 16383 2
-  pub too-long : numberAt (255 ∷ 128 ∷ []) 0 ≡ Refused (fault 2 0)
+  pub greatest-of-two : spellNumber 16383 ≡ 255 ∷ 127 ∷ []
+  pub three-bytes : spellNumber 16384 ≡ 128 ∷ 128 ∷ 1 ∷ []
+  pub greatest : spellNumber greatestNumber ≡ 255 ∷ 255 ∷ 127 ∷ []
+  pub none-greater : spellNumber (greatestNumber + 1) ≡ []
+  pub two-read : numberAt (255 ∷ 127 ∷ []) 0 ≡ Value 16383 2
+  pub three-read : numberAt (128 ∷ 128 ∷ 1 ∷ []) 0 ≡ Value 16384 3
+  pub greatest-read : numberAt (255 ∷ 255 ∷ 127 ∷ []) 0 ≡ Value greatestNumber 3
+  pub last-zero : numberAt (128 ∷ 128 ∷ 0 ∷ []) 0 ≡ Refused (fault 2 0)
+  pub too-long : numberAt (128 ∷ 128 ∷ 128 ∷ []) 0 ≡ Refused (fault 2 0)
   pub ends : numberAt (128 ∷ []) 0 ≡ Refused (fault 1 1)
+  pub ends-later : numberAt (128 ∷ 128 ∷ []) 0 ≡ Refused (fault 1 2)
+  pub over-large : numberIn (255 ∷ 255 ∷ 127 ∷ []) 0 1 40 ≡ Refused (fault 3 0)
 
 pub numbers : Numbers
-unfolding numberAt spellNumber
+unfolding numberAt longerAt lastGroup numberIn spellNumber
 numbers =
     record {
       P7 = refl;
@@ -29,10 +37,18 @@ numbers =
       least = refl;
       one-byte = refl;
       two-bytes = refl;
+      greatest-of-two = refl;
+      three-bytes = refl;
       greatest = refl;
+      none-greater = refl;
+      two-read = refl;
+      three-read = refl;
       greatest-read = refl;
+      last-zero = refl;
       too-long = refl;
       ends = refl;
+      ends-later = refl;
+      over-large = refl;
     }
 
 -- the colour list of the house book, with what follows it

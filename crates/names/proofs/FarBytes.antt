@@ -11,7 +11,7 @@ use lib.ListN.{length, take, drop, length-append, length-drop, List·getD-append
 use lib.Seq.{take-append-le, drop-append-le}
 use Rattle.names.specs.Pick.{pick}
 use Rattle.names.specs.Onward.{onward, faultless}
-use Rattle.names.specs.Number.{numberAt, numberIn, numberBelow}
+use Rattle.names.specs.Number.{longerAt, numberAt, numberIn, numberBelow}
 use Rattle.names.specs.Name.{Name, nameFrom, nameOf}
 use Rattle.names.specs.Colours.{nameIn, namesFrom, namesIn, findName, namedAt, colourAt, afterColour, noColours, refusedColours, withColour, coloursFrom, coloursOf}
 use Rattle.names.specs.declared.number.Fault.{Fault}
@@ -47,24 +47,27 @@ after-colour-same refuse r (RefusedColour f) go to e g = rw e
 module _ (t u : List ℕ) where
   -- ── Numbers ──
 
-  number-far : (at : ℕ) → at + 1 < length t → numberAt (t ++ u) at ≡ numberAt t at
-  unfolding numberAt
+  pub number-far : (at : ℕ) → at + 2 < length t → numberAt (t ++ u) at ≡ numberAt t at
+  unfolding numberAt longerAt
   number-far at h =
       let sum = length-append t u in
       simp (
         lt-leb (length (t ++ u)) at (omega arith),
         lt-leb (length (t ++ u)) (at + 1) (omega arith),
+        lt-leb (length (t ++ u)) (at + 2) (omega arith),
         lt-leb (length t) at (omega arith),
         lt-leb (length t) (at + 1) (omega arith),
+        lt-leb (length t) (at + 2) h,
         List·getD-append t u 0 at (omega arith),
-        List·getD-append t u 0 (at + 1) h,
+        List·getD-append t u 0 (at + 1) (omega arith),
+        List·getD-append t u 0 (at + 2) h,
       )
 
-  pub number-in-far : (at least most : ℕ) → at + 1 < length t → numberIn (t ++ u) at least most ≡ numberIn t at least most
+  pub number-in-far : (at least most : ℕ) → at + 2 < length t → numberIn (t ++ u) at least most ≡ numberIn t at least most
   unfolding numberIn
   number-in-far at least most h = rw (number-far at h)
 
-  pub number-below-far : (at count refusal : ℕ) → at + 1 < length t → numberBelow (t ++ u) at count refusal ≡ numberBelow t at count refusal
+  pub number-below-far : (at count refusal : ℕ) → at + 2 < length t → numberBelow (t ++ u) at count refusal ≡ numberBelow t at count refusal
   unfolding numberBelow
   number-below-far at count refusal h = rw (number-far at h)
 

@@ -1,5 +1,5 @@
 -- Bytes written at a place: where they fit the slice keeps its length and all else, and two writings in a row are one.
-use Prim.Native.Nat.{ℕ, _+_, _<_, _≤_}
+use Prim.Native.Nat.{ℕ, suc, _+_, _<_, _≤_}
 use mathlib.Core.Path.{_≡_, refl, sym, ap, _∙_}
 use mathlib.Core.List.{List, [], _∷_, _++_, append-assoc}
 use native.Mathlib.Omega.{arith}
@@ -47,7 +47,7 @@ pub past-nil : (out : List ℕ) (at : ℕ) → past out at [] ≡ at
 unfolding past
 past-nil out at = pick-ind (λ (x : ℕ). x ≡ at) (leb (at + 0) (length out)) _ _ (λ _. omega arith) (λ _. refl)
 
--- one store, and two
+-- one store, two and three
 pub put-one : (out : List ℕ) (at a : ℕ) → at < length out → set out at a ≡ put out at (a ∷ [])
 put-one out at a h = let room : at + 1 ≤ length out = omega arith in sets-eq (a ∷ []) out at room ∙ sym (put-in out at (a ∷ []) room)
 
@@ -55,6 +55,12 @@ pub put-two : (out : List ℕ) (at a b : ℕ) → at + 1 < length out → set (s
 put-two out at a b h =
     let room : at + 2 ≤ length out = omega arith in
     rw add-one (sets-eq (a ∷ b ∷ []) out at room ∙ sym (put-in out at (a ∷ b ∷ []) room))
+
+pub put-three : (out : List ℕ) (at a b c : ℕ) → at + 2 < length out → set (set (set out at a) (at + 1) b) (at + 2) c ≡ put out at (a ∷ b ∷ c ∷ [])
+put-three out at a b c h =
+    let room : at + 3 ≤ length out = omega arith in
+    let two : at + 2 ≡ suc (suc at) = omega arith in
+    rw (add-one, two) (sets-eq (a ∷ b ∷ c ∷ []) out at room ∙ sym (put-in out at (a ∷ b ∷ c ∷ []) room))
 
 -- a copy of all of a list
 pub put-paste : (out : List ℕ) (at : ℕ) (l : List ℕ) → at + length l ≤ length out → paste out at l (length l) ≡ put out at l

@@ -6,10 +6,10 @@ use mathlib.Core.List.{List, [], _∷_, _++_, List·Memᴰ, List·Memᴰ·head, 
 use native.Mathlib.Omega.{arith}
 use lib.ListN.{length, getD, length-append, List·getD-eq-default}
 use Rattle.names.specs.Name.{Name}
-use Rattle.names.specs.Number.{spellNumber}
+use Rattle.names.specs.Number.{greatestNumber, spellNumber}
 use Rattle.names.specs.Spelling.{NameOk, ColoursOk, spellNames, spellColours}
 use Rattle.names.proofs.Tests.{lt-or-le}
-use Rattle.names.proofs.SpellingNumbers.{Bytes, spell-one, spell-two, spell-short, spell-length}
+use Rattle.names.proofs.SpellingNumbers.{Bytes, spell-one, spell-two, spell-three, spell-short}
 
 -- at most so many, each a byte
 pub record FewBytes (l : List ℕ) (most : ℕ) : Type 0 where
@@ -45,8 +45,21 @@ number-one v h = record { few = omega (arith, spell-short v h); bytes = rw (spel
 pub number-two : (v : ℕ) → v < 16384 → FewBytes (spellNumber v) 2
 number-two v h =
     ⊎-elim (λ (l : v < 128). fewer (omega arith) (number-one v l))
-    (λ (l : 128 ≤ v). record { few = spell-length v h .1; bytes = rw (spell-two v l h) (bytes-more (128 + v % 128) (v / 128 ∷ []) (omega arith) (bytes-more (v / 128) [] (omega arith) bytes-none)) })
+    (λ (l : 128 ≤ v). rw (spell-two v l h) (record {
+      few = omega arith;
+      bytes = bytes-more (128 + v % 128) (v / 128 ∷ []) (omega arith) (bytes-more (v / 128) [] (omega arith) bytes-none);
+    }))
     (lt-or-le v 128)
+
+pub number-three : (v : ℕ) → v ≤ greatestNumber → FewBytes (spellNumber v) 3
+number-three v h =
+    ⊎-elim (λ (l : v < 16384). fewer (omega arith) (number-two v l))
+    (λ (l : 16384 ≤ v). rw (spell-three v l h) (record {
+      few = omega arith;
+      bytes = bytes-more (128 + v % 128) ((128 + v / 128 % 128) ∷ v / 16384 ∷ []) (omega arith)
+          (bytes-more (128 + v / 128 % 128) (v / 16384 ∷ []) (omega arith) (bytes-more (v / 16384) [] (omega arith) bytes-none));
+    }))
+    (lt-or-le v 16384)
 
 -- ── Colours ──
 

@@ -12,14 +12,19 @@ use Rattle.names.specs.declared.number.Read.the-variants.{Value, Refused
 use Rattle.names.specs.declared.name.NameRead.{NameRead}
 use Rattle.names.specs.declared.name.NameRead.the-variants.{Whole, Ends, Bad}
 
--- a number that is due at a place
+-- a number that is due at a place: a byte above 127 asks for another group, and there are three at most
 pub data Reads (s : List ℕ) (at : ℕ) (r : Read) : Type 0 where
   nothing-there : length s ≤ at → r ≡ Refused (fault 1 (length s)) → Reads s at r
-  ends-inside : at + 1 ≡ length s → 128 ≤ getD s at 0 → r ≡ Refused (fault 1 (length s)) → Reads s at r
-  misspelt : at + 1 < length s → 128 ≤ getD s at 0 → (getD s (at + 1) 0 ≡ 0) ⊎ (128 ≤ getD s (at + 1) 0) → r ≡ Refused (fault 2 at) → Reads s at r
+  ends-after-one : at + 1 ≡ length s → 128 ≤ getD s at 0 → r ≡ Refused (fault 1 (length s)) → Reads s at r
+  ends-after-two : at + 2 ≡ length s → 128 ≤ getD s at 0 → 128 ≤ getD s (at + 1) 0 → r ≡ Refused (fault 1 (length s)) → Reads s at r
+  second-zero : at + 1 < length s → 128 ≤ getD s at 0 → getD s (at + 1) 0 ≡ 0 → r ≡ Refused (fault 2 at) → Reads s at r
+  third-misspelt : at + 2 < length s → 128 ≤ getD s at 0 → 128 ≤ getD s (at + 1) 0 → (getD s (at + 2) 0 ≡ 0) ⊎ (128 ≤ getD s (at + 2) 0)
+      → r ≡ Refused (fault 2 at) → Reads s at r
   one-byte : at < length s → getD s at 0 < 128 → r ≡ Value (getD s at 0) (at + 1) → Reads s at r
   two-bytes : at + 1 < length s → 128 ≤ getD s at 0 → 1 ≤ getD s (at + 1) 0 → getD s (at + 1) 0 < 128
       → r ≡ Value (getD s at 0 % 128 + 128 * getD s (at + 1) 0) (at + 2) → Reads s at r
+  three-bytes : at + 2 < length s → 128 ≤ getD s at 0 → 128 ≤ getD s (at + 1) 0 → 1 ≤ getD s (at + 2) 0 → getD s (at + 2) 0 < 128
+      → r ≡ Value (getD s at 0 % 128 + 128 * (getD s (at + 1) 0 % 128) + 16384 * getD s (at + 2) 0) (at + 3) → Reads s at r
 
 -- a count, a length, rows or columns: 3 at its first byte where it is well spelt and outside its range
 pub data ReadsIn (s : List ℕ) (at least most : ℕ) (r : Read) : Type 0 where

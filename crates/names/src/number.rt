@@ -1,8 +1,12 @@
-// A number is one or two bytes, seven bits each, lowest group first, in its shortest form.
+// A number is one to three bytes, seven bits each, lowest group first, in its shortest form.
 ghost use mathlib.Core.Path.{_≡_};
+ghost use Prim.Native.Nat.{_<_};
 ghost use lib.ListN.{length};
-ghost use Rattle.names.specs.Number.{numberAt, numberIn, numberBelow, spellNumber};
+ghost use Rattle.names.specs.Number.{lastGroup, longerAt, numberAt, numberIn, numberBelow, spellNumber};
 ghost use Rattle.names.specs.Put.{Puts};
+
+// Three groups of ones.
+pub const GREATEST_NUMBER: usize = 2097151;
 
 // An answer number with its place; 0 at 0 is no fault.
 pub struct Fault {
@@ -16,6 +20,55 @@ pub enum Read {
     Refused(Fault),
 }
 
+// A number that ends in this group. A last group of 0 adds nothing: the number has a shorter form, and is refused at its first byte.
+fn last_group(at: usize, group: usize, v: usize, next: usize) -> Read
+    ensures { λ r. ⌜ r ≡ lastGroup at group v next ⌝ }
+{
+    if group == 0 {
+        return Read::Refused(Fault {
+            number: 2,
+            place: at,
+        });
+    }
+    Read::Value(v, next)
+}
+
+// The number at a place whose first group, low, is not its last.
+fn read_longer(s: &[u8], at: usize, low: usize) -> Read
+    requires { ⌜ (at < length (now s)) × (low < 128) ⌝ }
+    ensures { λ r. ⌜ r ≡ longerAt (now (s .entry)) at low ⌝ }
+{
+    if s.len() <= at + 1 {
+        return Read::Refused(Fault {
+            number: 1,
+            place: s.len(),
+        });
+    }
+    let second = s[at + 1] as usize;
+    if second < 128 {
+        return last_group(at, second, low + 128 * second, at + 2);
+    }
+    if s.len() <= at + 2 {
+        return Read::Refused(Fault {
+            number: 1,
+            place: s.len(),
+        });
+    }
+    let third = s[at + 2] as usize;
+    if third < 128 {
+        return last_group(
+            at,
+            third,
+            low + 128 * (second % 128) + 16384 * third,
+            at + 3,
+        );
+    }
+    Read::Refused(Fault {
+        number: 2,
+        place: at,
+    })
+}
+
 // The number that stands at a place.
 pub fn read_number(s: &[u8], at: usize) -> Read
     ensures { λ r. ⌜ r ≡ numberAt (now (s .entry)) at ⌝ }
@@ -26,31 +79,11 @@ pub fn read_number(s: &[u8], at: usize) -> Read
             place: s.len(),
         });
     }
-    let low = s[at] as usize;
-    if low < 128 {
-        return Read::Value(low, at + 1);
+    let first = s[at] as usize;
+    if first < 128 {
+        return Read::Value(first, at + 1);
     }
-    if s.len() <= at + 1 {
-        return Read::Refused(Fault {
-            number: 1,
-            place: s.len(),
-        });
-    }
-    let high = s[at + 1] as usize;
-    if high == 0 {
-        return Read::Refused(Fault {
-            number: 2,
-            place: at,
-        });
-    }
-    if high < 128 {
-        Read::Value(low % 128 + 128 * high, at + 2)
-    } else {
-        Read::Refused(Fault {
-            number: 2,
-            place: at,
-        })
-    }
+    read_longer(s, at, first % 128)
 }
 
 // A count, a length, rows or columns: a number from least to most.
@@ -106,6 +139,8 @@ pub fn spelled_len(v: usize) -> usize
         1
     } else if v < 16384 {
         2
+    } else if v <= GREATEST_NUMBER {
+        3
     } else {
         0
     }
@@ -115,23 +150,25 @@ pub fn spelled_len(v: usize) -> usize
 pub fn write_number(out: &mut [u8], at: usize, v: usize) -> usize
     ensures { λ r. ⌜ Puts (now (out .entry)) at (spellNumber v) r (now (out .exit)) ⌝ }
 {
+    if GREATEST_NUMBER < v {
+        return at;
+    }
+    if out.len() < at {
+        return at;
+    }
+    if out.len() - at < spelled_len(v) {
+        return at;
+    }
     if v < 128 {
-        if out.len() <= at {
-            return at;
-        }
         out[at] = v as u8;
         return at + 1;
     }
-    if 16384 <= v {
-        return at;
-    }
-    if out.len() < 2 {
-        return at;
-    }
-    if out.len() - 2 < at {
-        return at;
-    }
     out[at] = (128 + v % 128) as u8;
-    out[at + 1] = (v / 128) as u8;
-    at + 2
+    if v < 16384 {
+        out[at + 1] = (v / 128) as u8;
+        return at + 2;
+    }
+    out[at + 1] = (128 + v / 128 % 128) as u8;
+    out[at + 2] = (v / 16384) as u8;
+    at + 3
 }

@@ -36,6 +36,7 @@ pub mod Judging
 pub mod DerivationAnswers
 pub mod AskingAnswers
 pub mod AskingSheets
+pub mod Tickets
 pub mod Orders
 pub mod Demand1
 pub mod Demand2
