@@ -16,10 +16,14 @@
 #define SLATES 2, 7, 'S', 'l', 'a', 't', 'e', ' ', 'C', 7, 'S', 'l', 'a', 't', 'e', ' ', 'U'
 static const uint8_t house[] = {SLATES, 3, 0, 4, 0, 1, 0, 0, 0, 2, 1, 2, 1, 0, 0, 2, 0, 1};
 static const uint8_t sheet_a[] = {SLATES, 0, 2, 3, 0, 0, 0, 1, 1, 1};
+static const uint8_t run_of_a[] = {26, SLATES, 0, 2, 3, 0, 0, 0, 1, 1, 1};
 
-enum { SLICES = 4, WRITTEN = 2, ROOM = 128, ENDS_EARLY = DV_ENDS_EARLY | 1 << 8 };
+// The bytes of a slice that is written, enough for each call to do its work.
+enum { ROOM = DV_MOST_WORK * 4 };
 
-// The slices of a call: books, then sheets, then those that it may write.
+enum { SLICES = 4, WRITTEN = 2, ENDS_EARLY = DV_ENDS_EARLY | 1 << 8 };
+
+// The slices of a call: books, then sheets or a run, then those that it may write.
 struct slice {
     uint8_t *at;
     size_t length, size;
@@ -45,6 +49,11 @@ static uint64_t why_not(void)
     return dv_why_not(slice[0].at, slice[0].length, slice[1].at, slice[1].length, (uint32_t *)(void *)slice[2].at,
                       slice[2].length);
 }
+static uint64_t run_report(void)
+{
+    return dv_run_report(slice[0].at, slice[0].length, slice[1].at, slice[1].length, (uint32_t *)(void *)slice[2].at,
+                         slice[2].length, (uint32_t *)(void *)slice[3].at, slice[3].length);
+}
 #define OF_TWO(name)                                                                                                   \
     static uint64_t name(void)                                                                                         \
     {                                                                                                                  \
@@ -61,8 +70,8 @@ OF_ONE(mirrored)
 OF_ONE(flipped)
 OF_ONE(transposed)
 
-// How many books and sheets a call takes, the bytes of an entry of each slice that it may write, and what it answers
-// where all of them are empty.
+// How many books and sheets, or runs, a call takes, the bytes of an entry of each slice that it may write, and what it
+// answers where all of them are empty.
 struct call {
     const char *name;
     uint64_t (*make)(void);
@@ -80,6 +89,7 @@ static const struct call calls[] = {
     {"dv_derive", derive, 1, 1, {sizeof(uint32_t), sizeof(uint16_t)}, ENDS_EARLY},
     {"dv_size_card", size_card, 1, 0, {sizeof(uint32_t)}, ENDS_EARLY},
     {"dv_why_not", why_not, 1, 1, {sizeof(uint32_t)}, ENDS_EARLY},
+    {"dv_run_report", run_report, 1, 1, {sizeof(uint32_t), sizeof(uint32_t)}, DV_OUT_SHORT},
     {"dv_either_of", either_of, 2, 0, {1}, ENDS_EARLY},
     {"dv_beside", beside, 2, 0, {1}, ENDS_EARLY},
     {"dv_above", above, 2, 0, {1}, ENDS_EARLY},
@@ -119,11 +129,11 @@ static void lend(const struct call *call)
     // What is read goes from here on down, so that what is written after it is aligned.
     uint8_t *begin = at;
     for (int i = read; i-- > 0;) {
-        bool book = i < call->books;
-        size_t length = book ? sizeof house : sizeof sheet_a;
+        bool book = i < call->books, run = call->make == run_report;
+        size_t length = book ? sizeof house : run ? sizeof run_of_a : sizeof sheet_a;
         begin -= length;
         slice[i] = (struct slice){begin, length, 1};
-        memcpy(begin, book ? house : sheet_a, length);
+        memcpy(begin, book ? house : run ? run_of_a : sheet_a, length);
     }
     for (int i = read; i < slices_of(call); i++) {
         size_t size = call->written[i - read];

@@ -21,6 +21,7 @@ int main(int argc, char **argv)
         {"lookups", compare_lookups},
         {"cards", compare_cards},
         {"reasons", compare_reasons},
+        {"runs", compare_runs},
         {"combinations", compare_combinations},
         {"members", compare_members},
     };

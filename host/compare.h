@@ -31,6 +31,9 @@ uint64_t compare_derive(const struct bytes *book, const struct bytes *sheet, siz
 // The card is put into card, where that is not null and the answer is 0.
 uint64_t compare_size_card(const struct bytes *book, size_t card_len, uint32_t card[DV_CARD_ENTRIES]);
 uint64_t compare_why_not(const struct bytes *book, const struct bytes *sheet, size_t work_len);
+// The figures are put into figures, where that is not null and the answer is 0.
+uint64_t compare_run_report(const struct bytes *book, const struct run *run, size_t work_len, size_t figures_len,
+                            uint32_t figures[DV_REPORT_ENTRIES]);
 // The new book is put into made, where that is not null and the answer is 0.
 uint64_t compare_combination(enum combination combination, const struct bytes *first, const struct bytes *second,
                              size_t out_len, struct bytes *made);
@@ -51,6 +54,7 @@ void compare_grown(void);
 void compare_lookups(void);
 void compare_cards(void);
 void compare_reasons(void);
+void compare_runs(void);
 void compare_combinations(void);
 void compare_members(void);
 

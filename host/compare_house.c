@@ -123,6 +123,23 @@ static void expect_reasons(void)
     expect(why_not(&upside_down, work) == UINT64_C(4) << 32, "no piece");
 }
 
+// Sheet A for job 7, the sheet of P4, one with no bytes, and that of P6 for job 3.
+static void expect_report(void)
+{
+    static const struct bytes run = BYTES(26, SLATES, 7, 2, 3, 0, 0, 0, 1, 1, 1, 24, SLATE_ALONE, 0, 2, 3, 0, 0, 0, 1,
+                                          1, 1, 0, 22, SLATES, 3, 2, 1, 0, 1);
+    static const uint32_t expected[DV_REPORT_ENTRIES] = {
+        [DV_FIGURE_SHEETS] = 4,      [DV_FIGURE_ANSWERED] = 2, [DV_FIGURE_ANSWERED + 1] = 1,
+        [DV_FIGURE_NOT_DERIVED] = 1, [DV_FIGURE_CELLS] = 4,    [DV_FIGURE_CELLS + 1] = 4,
+        [DV_FIGURE_ACCEPTED] = 1,    [DV_FIGURE_LEAST] = 3,    [DV_FIGURE_GREATEST] = 7};
+    static uint32_t work[DV_MOST_WORK];
+    uint32_t figures[DV_REPORT_ENTRIES];
+    expect(judged->run_report(house.at, house.length, run.at, run.length, work, DV_MOST_WORK, figures,
+                              DV_REPORT_ENTRIES) == 0 &&
+               memcmp(figures, expected, sizeof figures) == 0,
+           "the report of a run");
+}
+
 static void expect_lookups(void)
 {
     static const uint64_t rules[] = {UINT64_C(0x100000100), UINT64_C(0x102010200), UINT64_C(0x100000001),
@@ -142,6 +159,7 @@ void compare_house(void)
         expect_books();
         expect_cards();
         expect_reasons();
+        expect_report();
         expect_lookups();
     }
     if (compare_read_book(&book_and_sheet) != 0 || compare_read_sheet(&book_and_sheet) != UINT64_C(4) << 32)

@@ -13,6 +13,7 @@ const struct engine library = {
     dv_derive,
     dv_size_card,
     dv_why_not,
+    dv_run_report,
     {dv_either_of, dv_beside, dv_above},
     {dv_run, dv_stack, dv_mirrored, dv_flipped, dv_transposed},
 };
@@ -27,6 +28,7 @@ const struct engine independent = {
     independent_derive,
     independent_size_card,
     independent_why_not,
+    independent_run_report,
     {independent_either_of, independent_beside, independent_above},
     {independent_run, independent_stack, independent_mirrored, independent_flipped, independent_transposed},
 };

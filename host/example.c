@@ -3,46 +3,16 @@
 //
 //     example BOOK SHEET [SECOND-BOOK]
 #include <stdio.h>
-#include <stdlib.h>
 
 #include "../include/druvelstek.h"
+#include "say.h"
 
-static const char *const words[] = {
-    "accepted", "the input ends too early", "a number is misspelt", "a count, length, rows or columns is out of range",
-    "a name has a byte that cannot stand there, ASCII 32 to 126 only and no blank at either end", "a name stands twice",
-    "there is no motif or colour of this number", "there is no such kind of rule", "bytes follow the end",
-    "the work slice is too short", "the tree slice is too short", "the sheet does not belong to the family",
-    "too many colours, motifs or rules", "the output slice is too short", "no rule fits at some node",
-    "the sheet belongs to the family",
-};
-
-// One byte more than the longest that can be accepted is enough to have a longer file refused.
 static uint8_t book[DV_LONGEST_BOOK + 1], second[DV_LONGEST_BOOK + 1], sheet[DV_LONGEST_SHEET + 1];
 static size_t book_len, second_len, sheet_len;
 static uint8_t joined[DV_LONGEST_BOOK];
 static uint32_t work[DV_MOST_WORK];
 static uint16_t tree[DV_MOST_TREE];
 static uint32_t card[DV_CARD_ENTRIES];
-
-static size_t load(const char *path, uint8_t *bytes, size_t most)
-{
-    FILE *file = fopen(path, "rb");
-    size_t length = file == NULL ? 0 : fread(bytes, 1, most, file);
-    if (file == NULL || ferror(file)) {
-        perror(path);
-        exit(2);
-    }
-    fclose(file);
-    return length;
-}
-
-static void say(const char *what, uint64_t answer)
-{
-    printf("%s: %s", what, words[dv_number(answer)]);
-    if (dv_blamed(answer) != 0)
-        printf(", at byte %zu of input %u", dv_place(answer), dv_blamed(answer));
-    printf("\n");
-}
 
 // What order entry offers; all else is greyed out.
 static void print_sizes(void)
@@ -148,10 +118,7 @@ int main(int argc, char **argv)
         fprintf(stderr, "usage: example BOOK SHEET [SECOND-BOOK]\n");
         return 2;
     }
-    if (dv_version() != DV_VERSION) {
-        fprintf(stderr, "example: the archive has version %d, the header version %d\n", (int)dv_version(), DV_VERSION);
-        return 2;
-    }
+    expect_version("example");
     book_len = load(argv[1], book, sizeof book);
     sheet_len = load(argv[2], sheet, sizeof sheet);
     second_len = load(argv[argc == 4 ? 3 : 1], second, sizeof second);

@@ -65,6 +65,7 @@ uint64_t independent_derive(const uint8_t *book, size_t book_len, const uint8_t 
                             uint32_t *work, size_t work_len, uint16_t *tree, size_t tree_len)
 {
     struct job job;
+    struct rules rules;
     uint64_t refusal = independent_order_of(&job.order, book, book_len, sheet, sheet_len);
     if (refusal != 0)
         return refusal;
@@ -74,7 +75,8 @@ uint64_t independent_derive(const uint8_t *book, size_t book_len, const uint8_t 
         return independent_answer(9, 0, 0);
     if (tree_len < numbers)
         return independent_answer(10, 0, 0);
-    independent_fill(&job.table, &job.order, work);
+    independent_split(&rules, &job.order.book);
+    independent_fill(&job.table, &rules, &job.order, work);
     if (!has(&job.table, job.order.book.start, m, n, 0, 0))
         return independent_answer(11, 0, 0);
     job.tree = tree;

@@ -20,6 +20,9 @@ uint64_t independent_size_card(const uint8_t *book, size_t book_len, uint32_t *c
 uint64_t independent_why_not(const uint8_t *book, size_t book_len, const uint8_t *sheet, size_t sheet_len,
                              uint32_t *work, size_t work_len);
 
+uint64_t independent_run_report(const uint8_t *book, size_t book_len, const uint8_t *run, size_t run_len,
+                                uint32_t *work, size_t work_len, uint32_t *figures, size_t figures_len);
+
 uint64_t independent_either_of(const uint8_t *first, size_t first_len, const uint8_t *second, size_t second_len,
                                uint8_t *out, size_t out_len);
 uint64_t independent_beside(const uint8_t *first, size_t first_len, const uint8_t *second, size_t second_len,

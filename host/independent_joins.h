@@ -23,13 +23,14 @@ static inline void split(const struct book *book, unsigned kind, struct joins *j
     }
 }
 
-// The heads of the rules that join a part with the first motifs to one with the second.
+// The heads of the rules that join a part with the first motifs to one with the second. Each head is loaded, needed or
+// not, so that the compiler may take several rules at a time.
 static inline uint32_t joined(const struct joins *joins, uint32_t first, uint32_t second)
 {
     uint32_t heads = 0;
     for (unsigned i = 0; i < joins->count; i++) {
         uint32_t lacking = (~first & joins->first[i]) | (~second & joins->second[i]);
-        heads |= lacking == 0 ? joins->head[i] : 0;
+        heads |= joins->head[i] & (lacking == 0 ? UINT32_MAX : 0);
     }
     return heads;
 }

@@ -6,7 +6,8 @@
 
 #include "independent.h"
 
-enum { GREATEST_TICKET = 128 * 128 * 128 - 1 };
+// The greatest number, and so the greatest ticket.
+enum { GREATEST = 128 * 128 * 128 - 1 };
 
 // The bytes, how far they are read, and the first fault.
 struct reader {
@@ -154,7 +155,7 @@ static bool read_book(struct reader *in, struct book *book)
 
 static bool read_sheet(struct reader *in, struct sheet *sheet)
 {
-    if (!read_colours(in, &sheet->colours) || !read_range(in, 0, GREATEST_TICKET, &sheet->ticket) ||
+    if (!read_colours(in, &sheet->colours) || !read_range(in, 0, GREATEST, &sheet->ticket) ||
         !read_range(in, 1, 12, &sheet->rows) || !read_range(in, 1, 12, &sheet->columns))
         return false;
     for (unsigned i = 0; i < sheet->rows * sheet->columns; i++) {
@@ -178,17 +179,29 @@ uint64_t independent_sheet_of(struct sheet *sheet, const uint8_t *bytes, size_t 
     return read_sheet(&in, sheet) ? 0 : independent_answer(in.number, blamed, in.place);
 }
 
-uint64_t independent_order_of(struct order *order, const uint8_t *book, size_t book_len, const uint8_t *sheet,
-                              size_t sheet_len)
+uint64_t independent_number_at(unsigned *number, const uint8_t *bytes, size_t length, size_t *at, unsigned blamed)
 {
-    uint64_t refusal = independent_book_of(&order->book, book, book_len, 1);
-    if (refusal == 0)
-        refusal = independent_sheet_of(&order->sheet, sheet, sheet_len, 2);
+    struct reader in = {bytes, length, *at, 0, 0};
+    bool read = read_range(&in, 0, GREATEST, number);
+    *at = in.at;
+    return read ? 0 : independent_answer(in.number, blamed, in.place);
+}
+
+uint64_t independent_sheet_under(struct order *order, const uint8_t *sheet, size_t sheet_len)
+{
+    uint64_t refusal = independent_sheet_of(&order->sheet, sheet, sheet_len, 2);
     if (refusal != 0)
         return refusal;
     for (unsigned i = 0; i < order->sheet.colours.count; i++)
         order->colour[i] = (uint8_t)independent_colour_named(&order->book.colours, order->sheet.colours.name[i]);
     return 0;
+}
+
+uint64_t independent_order_of(struct order *order, const uint8_t *book, size_t book_len, const uint8_t *sheet,
+                              size_t sheet_len)
+{
+    uint64_t refusal = independent_book_of(&order->book, book, book_len, 1);
+    return refusal != 0 ? refusal : independent_sheet_under(order, sheet, sheet_len);
 }
 
 uint64_t independent_read_book(const uint8_t *book, size_t book_len)

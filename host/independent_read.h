@@ -55,7 +55,14 @@ unsigned independent_colour_named(const struct colours *colours, struct name nam
 uint64_t independent_book_of(struct book *book, const uint8_t *bytes, size_t length, unsigned blamed);
 uint64_t independent_sheet_of(struct sheet *sheet, const uint8_t *bytes, size_t length, unsigned blamed);
 
-// Reads both, the book as the first input and the sheet as the second, and finds the sheet's colours in the book.
+// Reads the number at a place of an input, of any value, and moves the place past it. Answers 0, or 1 or 2 blaming the
+// input of that number.
+uint64_t independent_number_at(unsigned *number, const uint8_t *bytes, size_t length, size_t *at, unsigned blamed);
+
+// Reads a sheet, as the second input, under the book that was read, and finds its colours there.
+uint64_t independent_sheet_under(struct order *order, const uint8_t *sheet, size_t sheet_len);
+
+// Reads both, the book as the first input.
 uint64_t independent_order_of(struct order *order, const uint8_t *book, size_t book_len, const uint8_t *sheet,
                               size_t sheet_len);
 

@@ -45,6 +45,7 @@ uint64_t independent_why_not(const uint8_t *book, size_t book_len, const uint8_t
                              uint32_t *work, size_t work_len)
 {
     struct order order;
+    struct rules rules;
     struct table table;
     uint64_t refusal = independent_order_of(&order, book, book_len, sheet, sheet_len);
     if (refusal != 0)
@@ -52,7 +53,8 @@ uint64_t independent_why_not(const uint8_t *book, size_t book_len, const uint8_t
     unsigned rows = order.sheet.rows, columns = order.sheet.columns;
     if (work_len < independent_entries(&order.sheet))
         return independent_answer(9, 0, 0);
-    independent_fill(&table, &order, work);
+    independent_split(&rules, &order.book);
+    independent_fill(&table, &rules, &order, work);
     if (has(&table, order.book.start, rows, columns, 0, 0))
         return independent_answer(15, 0, 0);
     unsigned cell = first_not_named(&order);

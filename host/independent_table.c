@@ -1,6 +1,6 @@
 #include "independent_table.h"
 
-#include "independent_joins.h"
+#include <string.h>
 
 size_t independent_entries(const struct sheet *sheet)
 {
@@ -18,27 +18,25 @@ static void number_slots(struct table *table)
         }
 }
 
-static void fill_cells(const struct order *order, uint32_t *work)
+void independent_split(struct rules *rules, const struct book *book)
 {
-    uint32_t heads[65] = {0};
-    for (unsigned i = 0; i < order->book.rules; i++)
-        if (order->book.rule[i].kind == KIND_COLOUR)
-            heads[order->book.rule[i].first] |= UINT32_C(1) << order->book.rule[i].head;
-    for (unsigned i = 0; i < order->sheet.rows * order->sheet.columns; i++)
-        work[i] = heads[order->colour[order->sheet.cell[i]]];
+    memset(rules->heads, 0, sizeof rules->heads);
+    for (unsigned i = 0; i < book->rules; i++)
+        if (book->rule[i].kind == KIND_COLOUR)
+            rules->heads[book->rule[i].first] |= UINT32_C(1) << book->rule[i].head;
+    split(book, KIND_ACROSS, &rules->across);
+    split(book, KIND_DOWN, &rules->down);
 }
 
-void independent_fill(struct table *table, const struct order *order, uint32_t *work)
+void independent_fill(struct table *table, const struct rules *rules, const struct order *order, uint32_t *work)
 {
     unsigned rows = order->sheet.rows, columns = order->sheet.columns;
-    struct joins across, down;
-    split(&order->book, KIND_ACROSS, &across);
-    split(&order->book, KIND_DOWN, &down);
     table->rows = rows;
     table->columns = columns;
     table->entry = work;
     number_slots(table);
-    fill_cells(order, work);
+    for (unsigned i = 0; i < rows * columns; i++)
+        work[i] = rules->heads[order->colour[order->sheet.cell[i]]];
     // Pieces go by slot, so the parts of a piece are there before it.
     uint32_t *next = work;
     for (unsigned height = 1; height <= rows; height++)
@@ -47,10 +45,10 @@ void independent_fill(struct table *table, const struct order *order, uint32_t *
                 for (unsigned left = 0; left + width <= columns; left++) {
                     uint32_t heads = height == 1 && width == 1 ? *next : 0;
                     for (unsigned k = 1; k < width; k++)
-                        heads |= joined(&across, entry(table, height, k, top, left),
+                        heads |= joined(&rules->across, entry(table, height, k, top, left),
                                         entry(table, height, width - k, top, left + k));
                     for (unsigned k = 1; k < height; k++)
-                        heads |= joined(&down, entry(table, k, width, top, left),
+                        heads |= joined(&rules->down, entry(table, k, width, top, left),
                                         entry(table, height - k, width, top + k, left));
                     *next++ = heads;
                 }

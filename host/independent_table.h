@@ -4,7 +4,14 @@
 
 #include <stdbool.h>
 
-#include "independent_read.h"
+#include "independent_joins.h"
+
+// The rules of a book, split once for every sheet under it: the heads of each colour's rules, none for the number of a
+// colour that the book lacks, and the joins.
+struct rules {
+    uint32_t heads[65];
+    struct joins across, down;
+};
 
 struct table {
     unsigned rows, columns;
@@ -16,8 +23,10 @@ struct table {
 // The entries of a sheet's table.
 size_t independent_entries(const struct sheet *sheet);
 
-// Fills the work slice with the table of the sheet under the book.
-void independent_fill(struct table *table, const struct order *order, uint32_t *work);
+void independent_split(struct rules *rules, const struct book *book);
+
+// Fills the work slice with the table of the sheet under the book with these rules.
+void independent_fill(struct table *table, const struct rules *rules, const struct order *order, uint32_t *work);
 
 static inline uint32_t entry(const struct table *table, unsigned height, unsigned width, unsigned top, unsigned left)
 {

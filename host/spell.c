@@ -59,3 +59,13 @@ void spell_sheet(const struct grid *grid, struct bytes *sheet)
     for (unsigned i = 0; i < grid->rows * grid->columns; i++)
         spell(sheet, grid->cell[i]);
 }
+
+void add_sheet(struct run *run, const uint8_t *sheet, size_t length)
+{
+    struct bytes spelt = {0, {0}};
+    spell(&spelt, (unsigned)length);
+    memcpy(run->at + run->length, spelt.at, spelt.length);
+    run->length += spelt.length;
+    memcpy(run->at + run->length, sheet, length);
+    run->length += length;
+}

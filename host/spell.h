@@ -40,10 +40,19 @@ struct grid {
     unsigned cell[(DV_MOST_ROWS + 1) * (DV_MOST_COLUMNS + 1)];
 };
 
+// Room for a run that is too long.
+struct run {
+    size_t length;
+    uint8_t at[DV_LONGEST_RUN + 64];
+};
+
 void add_ink(struct palette *palette, const char *name);
 void add_rule(struct family *family, unsigned head, unsigned kind, unsigned first, unsigned second);
 
 void spell_book(const struct family *family, struct bytes *book);
 void spell_sheet(const struct grid *grid, struct bytes *sheet);
+
+// Adds a sheet to a run, of so many bytes, after its length.
+void add_sheet(struct run *run, const uint8_t *sheet, size_t length);
 
 #endif

@@ -13,10 +13,11 @@
 enum { ROOM = 1 << 18, PAINT = 0xa5, MARGIN = 8192, BY_CHANCE = 60 };
 
 static struct bytes book, second, sheet;
+static struct run run;
 static enum combination combination;
 static uint32_t work[DV_MOST_WORK];
 static uint16_t tree[DV_MOST_TREE];
-static uint32_t card[DV_CARD_ENTRIES];
+static uint32_t card[DV_CARD_ENTRIES], figures[DV_REPORT_ENTRIES];
 static uint8_t out[DV_LONGEST_BOOK];
 static uint64_t answer;
 
@@ -65,6 +66,11 @@ static void why_not(void)
     answer = dv_why_not(book.at, book.length, sheet.at, sheet.length, work, DV_MOST_WORK);
 }
 
+static void run_report(void)
+{
+    answer = dv_run_report(book.at, book.length, run.at, run.length, work, DV_MOST_WORK, figures, DV_REPORT_ENTRIES);
+}
+
 static void make(void)
 {
     answer = combine(&library, combination, book.at, book.length, second.at, second.length, out, sizeof out);
@@ -104,6 +110,7 @@ static struct kind kinds[] = {
     {"dv_derive", derive, 0},
     {"dv_size_card", size_card, 0},
     {"dv_why_not", why_not, 0},
+    {"dv_run_report", run_report, 0},
 };
 static size_t most_of[COMBINATIONS];
 
@@ -130,6 +137,8 @@ static void spell_all(const struct family *f, const struct family *g, const stru
     spell_book(f, &book);
     spell_book(g, &second);
     spell_sheet(grid, &sheet);
+    run.length = 0;
+    add_sheet(&run, sheet.at, sheet.length);
 }
 
 // A sheet of one colour, as large as can be, whose derivation takes off one column and then one row at a time: 23

@@ -2,8 +2,9 @@
 //
 // A book is one family of layouts and a sheet is a grid of colours with its job ticket, both spelt byte by byte as
 // docs/RULES.md says. The library tells whether the family derives the sheet, and why not where it does not, gives the
-// table of pieces and one derivation, tells which sizes the family has, looks up names, rules, sizes and tickets, and
-// makes new books of lent ones. Each call is proved to keep what its comment says, on every input.
+// table of pieces and one derivation, tells which sizes the family has, reports on a whole run of sheets, looks up
+// names, rules, sizes and tickets, and makes new books of lent ones. Each call is proved to keep what its comment says,
+// on every input.
 //
 // Nothing in the bytes tells a book from a sheet, and some are both: 2, 1 "a", 1 "b", 4, 3, 1, 0, 0, 0 is a book of
 // four motifs with one rule, and a sheet of three rows and one column for job 4. A caller keeps apart which file is
@@ -12,10 +13,10 @@
 // What a caller sees to, for every call:
 // - A slice is a pointer and then its length, in elements. The pointer is valid for that many elements, and aligned for
 //   their type, until the call returns. With length 0 it may be null, as that of an empty std::vector may be.
-// - A slice that the call may write (work, tree, card, out) overlaps no other slice of the same call. Nothing tells
-//   when it does. dv_beside(f, f_len, g, g_len, g, room) reads names of g that it has written over: with the one colour
-//   "Navy" in f and "Red" in g it answers 0, and the new book has the inks "Navy" and "Nav". Slices that are only read
-//   may overlap: the same book may be given twice.
+// - A slice that the call may write (work, tree, card, figures, out) overlaps no other slice of the same call. Nothing
+//   tells when it does. dv_beside(f, f_len, g, g_len, g, room) reads names of g that it has written over: with the one
+//   colour "Navy" in f and "Red" in g it answers 0, and the new book has the inks "Navy" and "Nav". Slices that are
+//   only read may overlap: the same book may be given twice.
 // - The stack has room for DV_ENOUGH_STACK bytes.
 // With DV_CHECKED defined before this header is included, each call tests null, alignment and overlap by assert, which
 // NDEBUG takes out again.
@@ -37,7 +38,7 @@ extern "C" {
 
 // The version of rules and calls that this header describes, and the call that tells the archive's. A host compares the
 // two before any other call, so that a header and an archive of two versions are noticed.
-#define DV_VERSION 5
+#define DV_VERSION 6
 uint64_t dv_version(void);
 
 // The greatest sizes.
@@ -50,6 +51,7 @@ uint64_t dv_version(void);
 #define DV_LONGEST_BOOK 3429
 #define DV_LONGEST_SHEET 2774
 #define DV_GREATEST_TICKET 2097151
+#define DV_LONGEST_RUN 65536
 
 // Stack that is enough for every call. No theorem says so: host/header measures it on the x86-64 code, with the deepest
 // input, a derivation of 23 levels, and fails where less than 8 kilobytes would be left.
@@ -61,6 +63,18 @@ uint64_t dv_version(void);
 
 // Entries of a size card.
 #define DV_CARD_ENTRIES 12
+
+// Entries of a run report, and where each figure stands among them.
+#define DV_REPORT_ENTRIES 78
+enum dv_figure {
+    DV_FIGURE_SHEETS = 0,       // the sheets of the run
+    DV_FIGURE_ANSWERED = 1,     // the sheets that got answer 0; those that got 1 to 8 stand after it
+    DV_FIGURE_NOT_DERIVED = 10, // the sheets that got answer 11
+    DV_FIGURE_CELLS = 11,       // the cells of book colour 0 in accepted sheets; those of 1 to 63 stand after it
+    DV_FIGURE_ACCEPTED = 75,    // 1 where some sheet was accepted, else 0
+    DV_FIGURE_LEAST = 76,       // the least ticket among accepted sheets; 0 where none was
+    DV_FIGURE_GREATEST = 77     // the greatest; likewise
+};
 
 // Entries of the work slice for a sheet of so many rows and columns, from 1 on: one for each of its pieces.
 static inline size_t dv_work_entries(size_t rows, size_t columns)
@@ -95,7 +109,7 @@ enum dv_answer_number {
     DV_TREE_SHORT = 10,     // tree slice shorter than needed
     DV_NOT_DERIVED = 11,    // the start motif does not derive the sheet
     DV_TOO_MANY = 12,       // a combination exceeds 64 colours, 32 motifs or 200 rules
-    DV_OUT_SHORT = 13,      // output or card slice shorter than the result
+    DV_OUT_SHORT = 13,      // output, card or figures slice shorter than the result
     DV_NO_RULE_FITS = 14,   // a guard: the sheet is derived, yet at some node no rule fits; proved never to come
     DV_IN_FAMILY = 15       // the sheet is in the family, so that there is no reason why not
 };
@@ -194,6 +208,22 @@ static inline size_t dv_reason_row(uint64_t answer) { return (size_t)(answer >> 
 static inline size_t dv_reason_column(uint64_t answer) { return (size_t)(answer >> 40 & 0x1f); }
 static inline size_t dv_reason_height(uint64_t answer) { return (size_t)(answer >> 45 & 0x1f); }
 static inline size_t dv_reason_width(uint64_t answer) { return (size_t)(answer >> 50 & 0x1f); }
+
+// Reports on a run of sheets against one book, for planning. A run is at most DV_LONGEST_RUN bytes: sheets one after
+// another, each preceded by its length, a number spelt as in a book. A length of 0 is a sheet that answers 1; an empty
+// run has no sheets. What a sheet answers is what dv_derive does with room enough: 0 to 8 or 11. The figures are those
+// of enum dv_figure; what they say of cells and tickets is of accepted sheets alone.
+//
+// Answers, in this order: 13 where the figures slice has fewer than DV_REPORT_ENTRIES entries; 1 to 8 blaming 1, the
+// book; then, blaming 2, with a place in the run: 3 at 0 for a longer run; 1 or 2 for the first length that ends early
+// or is misspelt, and 1, at the run's length, for one that passes the end; 9 where work has fewer than DV_MOST_WORK
+// entries; 0. The lengths of the whole run are judged before its first sheet.
+//
+// On 13 nothing is written. On 0 the first DV_REPORT_ENTRIES entries of figures are the figures and the first
+// DV_MOST_WORK entries of work are 0. On every other answer all these figures are 0, and work is unchanged. Everything
+// else in figures and work is unchanged.
+uint64_t dv_run_report(const uint8_t *book, size_t book_len, const uint8_t *run, size_t run_len, uint32_t *work,
+                       size_t work_len, uint32_t *figures, size_t figures_len);
 
 // The eight combinations. Each answers, in this order: 1 to 8 blaming 1, the first book; 1 to 8 blaming 2, the second;
 // 12; 13; 0. On 0 the first dv_count bytes of out are the new book. Everything else in out is unchanged.
@@ -306,6 +336,19 @@ static inline uint64_t dv_checked_why_not(const uint8_t *book, size_t book_len, 
     return dv_why_not(book, book_len, sheet, sheet_len, work, work_len);
 }
 
+static inline uint64_t dv_checked_run_report(const uint8_t *book, size_t book_len, const uint8_t *run, size_t run_len,
+                                             uint32_t *work, size_t work_len, uint32_t *figures, size_t figures_len)
+{
+    assert(dv_is_lent(book, book_len, 1) && dv_is_lent(run, run_len, 1));
+    assert(dv_is_lent(work, work_len, sizeof *work) && dv_is_lent(figures, figures_len, sizeof *figures));
+    assert(dv_are_apart(work, work_len * sizeof *work, book, book_len));
+    assert(dv_are_apart(work, work_len * sizeof *work, run, run_len));
+    assert(dv_are_apart(work, work_len * sizeof *work, figures, figures_len * sizeof *figures));
+    assert(dv_are_apart(figures, figures_len * sizeof *figures, book, book_len));
+    assert(dv_are_apart(figures, figures_len * sizeof *figures, run, run_len));
+    return dv_run_report(book, book_len, run, run_len, work, work_len, figures, figures_len);
+}
+
 // The combinations of two books, and those of one, differ in the call alone.
 #define DV_CHECKED_OF_TWO(name)                                                                                        \
     static inline uint64_t dv_checked_##name(const uint8_t *first, size_t first_len, const uint8_t *second,            \
@@ -341,6 +384,7 @@ DV_CHECKED_OF_ONE(transposed)
 #define dv_derive dv_checked_derive
 #define dv_size_card dv_checked_size_card
 #define dv_why_not dv_checked_why_not
+#define dv_run_report dv_checked_run_report
 #define dv_either_of dv_checked_either_of
 #define dv_beside dv_checked_beside
 #define dv_above dv_checked_above

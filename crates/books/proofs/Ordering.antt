@@ -151,7 +151,7 @@ numbers-for book c sheet g few = rw (le-ltb 64 (c .count) few)
 
 -- a numbered sheet is made of a sheet that was read and of its cells' numbers
 pub sheet-made : (book : List ℕ) (c : Colours) (sheet : List ℕ) (s : SheetRead) (cells : List ℕ) → s ≡ sheetOf sheet → cells ≡ numbersFor book c sheet (s .sheet)
-    → _≡_ {A = NumberedSheet} (record { fault = s .fault; rows = s .sheet .rows; cols = s .sheet .cols; cells = cells }) (numberedSheet book c sheet)
+    → _≡_ {A = NumberedSheet} (record { fault = s .fault; ticket = s .sheet .ticket; rows = s .sheet .rows; cols = s .sheet .cols; cells = cells }) (numberedSheet book c sheet)
 unfolding numberedSheet
 sheet-made book c sheet s cells seen numbered = rw (numbered, seen)
 

@@ -35,6 +35,7 @@ unfoldable pub numberedSheet : List ℕ → Colours → List ℕ → NumberedShe
 numberedSheet book c sheet =
     record {
       fault = sheetOf sheet .fault;
+      ticket = sheetOf sheet .sheet .ticket;
       rows = sheetOf sheet .sheet .rows;
       cols = sheetOf sheet .sheet .cols;
       cells = numbersFor book c sheet (sheetOf sheet .sheet);

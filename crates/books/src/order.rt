@@ -28,10 +28,11 @@ pub struct Order {
     pub cells: [u8; ROOM],
 }
 
-// A sheet as a book's colours number it: the fault of a refused one; else 0, rows and columns, and the cells, row by row, each with the number of its
+// A sheet as a book's colours number it: the fault of a refused one; else 0, the ticket, rows and columns, and the cells, row by row, each with the number of its
 // colour among them, or their count where the book lacks it.
 pub struct NumberedSheet {
     pub fault: Fault,
+    pub ticket: usize,
     pub rows: usize,
     pub cols: usize,
     pub cells: [u8; ROOM],
@@ -90,6 +91,7 @@ pub fn number_sheet(book: &[u8], colours: Colours, sheet: &[u8]) -> NumberedShee
     let cells = number_cells(book, colours, sheet, g);
     NumberedSheet {
         fault,
+        ticket: g.ticket,
         rows: g.rows,
         cols: g.cols,
         cells,

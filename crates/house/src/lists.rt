@@ -4,6 +4,7 @@ use crate::cards;
 use crate::limits;
 use crate::palindromes;
 use crate::reading;
+use crate::reports;
 use crate::why;
 
 // What the cases of a list are.
@@ -18,6 +19,7 @@ pub(crate) enum Kind {
     Columns,
     WhySheet,
     WhyBook,
+    Run,
 }
 
 // How many bytes of a part follow the place of its length; none past the end.
@@ -48,6 +50,7 @@ fn case(kind: Kind, asked: &[u8], bytes: &[u8]) {
         Kind::Columns => palindromes::columns(asked, bytes),
         Kind::WhySheet => why::sheet(asked, bytes),
         Kind::WhyBook => why::book(asked, bytes),
+        Kind::Run => reports::run(asked, bytes),
     }
 }
 

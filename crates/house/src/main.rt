@@ -12,6 +12,7 @@ mod palindromes;
 mod printing;
 mod reading;
 mod refusals;
+mod reports;
 mod slices;
 mod why;
 
@@ -49,4 +50,8 @@ fn main() {
         b"Why not: number, blamed input, place; reason, its row, column, height and width; how much of the work slice was written",
     );
     why::run();
+    printing::line(
+        b"Reports: number, blamed input, place; how much of the work slice was written; sheets, answers 0 to 8 and 11, cells of two colours",
+    );
+    reports::of_the_house();
 }

@@ -41,6 +41,22 @@ pub(crate) fn entries(before: &[u8], work: &[u32]) {
     text(b"\n");
 }
 
+// An entry, where there is one.
+fn entry_at(work: &[u32], i: usize) {
+    if i < work.len() {
+        entry(work[i]);
+    }
+}
+
+// The entries from a place up to another.
+pub(crate) fn some_entries(before: &[u8], work: &[u32], from: usize, to: usize) {
+    text(before);
+    for i in from..to {
+        entry_at(work, i);
+    }
+    text(b"\n");
+}
+
 // The numbers of a tree, in order.
 pub(crate) fn numbers(before: &[u8], tree: &[u16]) {
     text(before);

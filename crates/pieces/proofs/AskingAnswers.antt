@@ -127,6 +127,7 @@ pub ask-sheet-settled : (book sheet entries : List ℕ) {r q : Asked} {w v : Lis
 ask-sheet-settled book sheet entries x y = (
   λ z. record {
     answer = (x .answers ∙ sym (y .answers)) z;
+    ticket = (x .ticket ∙ sym (y .ticket)) z;
     rows = (x .rows ∙ sym (y .rows)) z;
     cols = (x .cols ∙ sym (y .cols)) z;
     cells = (x .cells ∙ sym (y .cells)) z;

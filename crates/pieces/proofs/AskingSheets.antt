@@ -180,13 +180,14 @@ module _ (book sheet : List ℕ) (bytes-book : Bytes book) (bytes-sheet : Bytes 
 
   pub sheet-asked : {s : NumberedSheet} {r : Answer} {after : List ℕ} → s ≡ numberedSheet book (split .colours) sheet
       → Told s (split .start) (split .joins) masks before r after
-      → Asks book sheet before (record { answer = r; rows = s .rows; cols = s .cols; cells = s .cells }) after
+      → Asks book sheet before (record { answer = r; ticket = s .ticket; rows = s .rows; cols = s .cols; cells = s .cells }) after
   unfolding numberedSheet
   sheet-asked {s} {r} {after} is told =
       let numbered : s ≡ numberedSheet book (f .colours) sheet = is ∙ ap (λ (c : Colours). numberedSheet book c sheet) (from .colours) in
       let e = by-case (subst (λ (x : NumberedSheet). Told x (split .start) (split .joins) masks before r after) numbered told) in
       record {
         answers = ap (λ (a : Asking). a .answer) e;
+        ticket = ap (λ (x : NumberedSheet). x .ticket) numbered;
         rows = ap (λ (x : NumberedSheet). x .rows) numbered;
         cols = ap (λ (x : NumberedSheet). x .cols) numbered;
         cells = ap (λ (x : NumberedSheet). x .cells) numbered ∙ numbers-for book (f .colours) sheet g (book-places book .few);

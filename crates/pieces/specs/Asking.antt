@@ -68,6 +68,7 @@ asking book sheet entries =
 -- what is answered, and the work slice as the call leaves it, are those of asking; the cells have the numbers of their colours in the book
 pub record Asks (book sheet entries : List ℕ) (r : Asked) (left : List ℕ) : Type 0 where
   pub answers : r .answer ≡ asking book sheet entries .answer
+  pub ticket : r .ticket ≡ sheetOf sheet .sheet .ticket
   pub rows : r .rows ≡ sheetOf sheet .sheet .rows
   pub cols : r .cols ≡ sheetOf sheet .sheet .cols
   pub cells : r .cells ≡ numbersOf book (bookOf book .family .colours) sheet (sheetOf sheet .sheet)

@@ -33,9 +33,10 @@ pub struct Split {
     pub joins: Joins,
 }
 
-// The answer of one sheet, with its cells by the numbers that their colours have in the book; a refused sheet has no rows and no columns.
+// The answer of one sheet, with its ticket and its cells by the numbers that their colours have in the book; a refused sheet has the ticket 0, no rows and no columns.
 pub struct Asked {
     pub answer: Answer,
+    pub ticket: usize,
     pub rows: usize,
     pub cols: usize,
     pub cells: [u8; ROOM],
@@ -138,6 +139,7 @@ pub fn ask_sheet(book: &[u8], split: Split, masks: &[u32], sheet: &[u8], work: &
     let cells = s.cells;
     Asked {
         answer,
+        ticket: s.ticket,
         rows: s.rows,
         cols: s.cols,
         cells,

@@ -1,0 +1,141 @@
+-- The cells of an accepted sheet have colours of the book: a derivation ends in cells that colour rules paint. So how many show a colour's full name is how many
+-- have its number.
+use Prim.Native.Nat.{ℕ, _+_, _-_, _*_, _/_, _%_, _<_}
+use mathlib.Core.Path.{_≡_, refl, sym, ap, _∙_, subst}
+use mathlib.Core.Bool.{Bool, true, false}
+use mathlib.Core.List.{List, [], map, List·Memᴰ, Memᴰ·cast}
+use mathlib.Core.Logic.{⊎-elim}
+use native.Mathlib.Nat.{mod-lt, div-add-mod', div-lt-iff-lt-mul}
+use native.Mathlib.Omega.{arith}
+use borrow.Author.Tests.{eq-eqb, eqb-true}
+use lib.Dec.{eqb}
+use lib.ListN.{length, getD, take, drop, length-map}
+use lib.Seq.{getD-take, length-take-le, take-at}
+use Rattle.names.specs.Name.{Name, listed}
+use Rattle.names.specs.Colours.{namesIn}
+use Rattle.names.specs.Spelling.{Distinct}
+use Rattle.names.proofs.Finding.{find-listed}
+use Rattle.names.proofs.Listing.{getD-mem, listed-found, listed-own}
+use Rattle.names.proofs.ReadingColours.{names-count, name-at}
+use Rattle.names.proofs.SpellingNumbers.{Bytes}
+use Rattle.names.proofs.Tests.{lt-or-le}
+use Rattle.books.specs.Book.{bookOf}
+use Rattle.books.specs.Cells.{noCells}
+use Rattle.books.specs.Contents.{Contents, Called}
+use Rattle.books.specs.ContentsIn.{contentsIn}
+use Rattle.books.specs.Decide.{called?}
+use Rattle.books.specs.Derives.{Derives, Member, paint, join}
+use Rattle.books.specs.Order.{numberOf, numbersOf}
+use Rattle.books.specs.Picture.{Picture, across, down}
+use Rattle.books.specs.Sheet.{sheetOf}
+use Rattle.books.specs.declared.family.Family.{Family}
+use Rattle.books.specs.declared.sheet.Sheet.{Sheet}
+use Rattle.books.proofs.Deciding.{called}
+use Rattle.books.proofs.Ordering.{number-at}
+use Rattle.books.proofs.ReadingBooks.{book-accepted}
+use Rattle.books.proofs.ReadingSheets.{SheetLies, sheet-lies}
+use Rattle.pieces.proofs.Endings.{shown, Accepted}
+use Rattle.runs.specs.Figures.{showing, mostColours}
+use Rattle.runs.specs.Lists.{howMany}
+use Rattle.runs.proofs.CountingLists.{how-many-same}
+
+-- ── A derived picture ──
+
+pub cells-called : {b : Contents} {a : ℕ} {p : Picture} → Derives b a p → (i j : ℕ) → i < p .rows → j < p .cols → (c : ℕ) × Called b c (p .cell i j)
+cells-called (paint c h hr hc e) i j hi hj =
+    let x : i ≡ 0 = omega arith in
+    let y : j ≡ 0 = omega arith in
+    (c, rw (x, y) e)
+cells-called {b} {p = p} (join across l r k h hk hs x y) i j hi hj =
+    ⊎-elim
+    (λ g. cells-called x i j hi g)
+    (λ g. let e : k + (j - k) ≡ j = omega arith in subst (λ (m : ℕ). (c : ℕ) × Called b c (p .cell i m)) e (cells-called y i (j - k) hi (omega arith)))
+    (lt-or-le j k)
+cells-called {b} {p = p} (join down l r k h hk hs x y) i j hi hj =
+    ⊎-elim
+    (λ g. cells-called x i j g hj)
+    (λ g. let e : k + (i - k) ≡ i = omega arith in subst (λ (m : ℕ). (c : ℕ) × Called b c (p .cell m j)) e (cells-called y (i - k) j (omega arith) hj))
+    (lt-or-le i k)
+
+-- ── A name by its number ──
+
+same-test : (s t : Bool) → (s ≡ true → t ≡ true) → (t ≡ true → s ≡ true) → s ≡ t
+same-test true t f g = sym (f refl)
+same-test false true f g = g refl
+same-test false false f g = refl
+
+-- a listed name is that of the colour that has its number, and of no other, since no name stands twice
+called-number : (b : Contents) → Distinct (b .colours) → (n : Name) → List·Memᴰ n (b .colours) → (c : ℕ) → called? b c n ≡ eqb (listed (b .colours) n) c
+called-number b apart n m c =
+    same-test (called? b c n) (eqb (listed (b .colours) n) c)
+    (λ t. let (low, is) = called b c n .0 t in eq-eqb (listed (b .colours) n) c (ap (listed (b .colours)) is ∙ listed-own (b .colours) c apart low))
+    (λ t.
+    let e = eqb-true (listed (b .colours) n) c t in
+    let (low, is) = listed-found (b .colours) n m in
+    called b c n .1 (omega (arith, low, e), sym is ∙ ap (λ (k : ℕ). getD (b .colours) k []) e))
+
+-- ── The cells of an accepted sheet ──
+
+module _ (book sheet : List ℕ) (bytes : Bytes book) (fine : Accepted book sheet) (member : Member (contentsIn book (bookOf book .family)) (shown sheet)) where
+  abbrev f : Family
+  f = bookOf book .family
+
+  abbrev g : Sheet
+  g = sheetOf sheet .sheet
+
+  abbrev b : Contents
+  b = contentsIn book f
+
+  abbrev area : ℕ
+  area = g .rows * g .cols
+
+  abbrev cells : List ℕ
+  cells = take area (g .cells)
+
+  abbrev names : ℕ → Name
+  names x = getD (namesIn sheet (g .colours)) x []
+
+  abbrev numbers : ℕ → ℕ
+  numbers x = numberOf book (f .colours) sheet (g .colours) x
+
+  lies : SheetLies sheet (sheetOf sheet)
+  lies = sheet-lies sheet (fine .sheet-fine)
+
+  cells-long : length cells ≡ area
+  cells-long = length-take-le area (g .cells) (omega (arith, lies .area-few, lies .cells-all))
+
+  -- the name of each cell is that of a book colour
+  cell-listed : (i : ℕ) → i < area → List·Memᴰ (names (getD cells i 0)) (b .colours)
+  cell-listed i h =
+      let row : i / g .cols < g .rows = div-lt-iff-lt-mul (lies .cols-some) .1 h in
+      let col : i % g .cols < g .cols = mod-lt i (lies .cols-some) in
+      let (c, found) = cells-called member (i / g .cols) (i % g .cols) row col in
+      Memᴰ·cast (ap (λ (k : ℕ). names (getD cells k 0)) (sym (div-add-mod' i (g .cols))) ∙ found .1) (getD-mem (b .colours) c [] (found .0))
+
+  -- its number in the book is the number that the name has in the book's list
+  cell-number : (i : ℕ) → i < area → numbers (getD cells i 0) ≡ listed (b .colours) (names (getD cells i 0))
+  cell-number i h =
+      let x = getD cells i 0 in
+      let low : x < g .colours .count = omega (arith, getD-take area (g .cells) i 0 h, lies .cells-fit i h) in
+      let ok = book-accepted book bytes (fine .book-fine) .keeps .colours-ok in
+      find-listed book (f .colours) _ (omega (arith, ok .few, names-count book (f .colours))) ∙ ap (listed (b .colours)) (sym (name-at sheet (g .colours) x low))
+
+  pub numbers-low : (i : ℕ) → i < area → getD (numbersOf book (f .colours) sheet g) i 0 < mostColours
+  numbers-low i h =
+      let ok = book-accepted book bytes (fine .book-fine) .keeps .colours-ok in
+      let number =
+      number-at book (f .colours) sheet g i h (omega (arith, lies .area-few, lies .cells-all))
+      ∙ ap numbers (sym (getD-take area (g .cells) i 0 h)) ∙ cell-number i h in
+      omega (arith, number, listed-found (b .colours) (names (getD cells i 0)) (cell-listed i h) .0, ok .few)
+
+  numbers-are : take area (numbersOf book (f .colours) sheet g) ≡ map numbers cells
+  numbers-are = take-at (map numbers cells) (drop area noCells) area (length-map cells numbers ∙ cells-long)
+
+  pub showing-numbers : (c : ℕ) → showing book c sheet ≡ howMany (λ (x : ℕ). eqb x c) (take area (numbersOf book (f .colours) sheet g))
+  unfolding showing
+  showing-numbers c =
+      let ok = book-accepted book bytes (fine .book-fine) .keeps .colours-ok in
+      how-many-same (called? b c) (λ (x : ℕ). eqb x c) names numbers cells
+      (λ i h. let low : i < area = omega (arith, cells-long) in
+      called-number b (ok .distinct) (names (getD cells i 0)) (cell-listed i low) c ∙ ap (λ (k : ℕ). eqb k c) (sym (cell-number i low)))
+      ∙ ap (howMany (λ (x : ℕ). eqb x c)) (sym numbers-are)

@@ -1,0 +1,199 @@
+-- Demand 1, of the calls: from any bytes and any slices, which number is answered and exactly when, which input is blamed and where, and what is
+-- left. Stated on the parts of the answer, and for the C host on the number taken apart as the header does.
+use Prim.Native.Nat.{ℕ, _/_, _%_, _^_, _≤_, _<_}
+use mathlib.Core.Path.{_≡_, refl, sym, ap, _∙_}
+use mathlib.Core.List.{List, _++_}
+use mathlib.Core.Logic.{_↔_, _⊎_, inl, inr, ⊎-elim}
+use native.Mathlib.Decide.{ℕ-discrete}
+use native.Mathlib.Omega.{arith}
+use borrow.Author.Tests.{ne-eqb}
+use lib.ListN.{length, drop, replicate}
+use Rattle.names.proofs.Tests.{lt-or-le}
+use Rattle.books.specs.Answer.{plain, blaming, packed, Packs}
+use Rattle.books.specs.Book.{bookOf}
+use Rattle.books.specs.declared.answer.Answer.{Answer}
+use Rattle.books.proofs.Packing.{apart, plain-packs, book-placed, fault-placed}
+use Rattle.books.proofs.ReadingBooks.{book-refused}
+use Rattle.runs.specs.Run.{mostBytes, framing, sheetsOf}
+use Rattle.runs.specs.Figures.{workRoom, figuresOf, noFigures, figuresLong, inARow}
+use Rattle.runs.specs.Outcome.{Outcome, refusal, refused, report, Answers, told, runReport, Leaves}
+use Rattle.runs.specs.declared.calls.RunReport.{RunReport}
+use Rattle.runs.specs.declared.figures.Figures.{Figures}
+use Rattle.runs.proofs.ReportingRuns.{book-first, run-second, work-third, nothing-refused, given-up, gone-through, short-slice, long-slice}
+use Rattle.runs.proofs.WalkingRuns.{framing-blamed}
+
+abbrev pub Fine : List ℕ → Type 0
+Fine book = bookOf book .fault .number ≡ 0
+
+abbrev pub Framed : List ℕ → Type 0
+Framed run = framing run .number ≡ 0
+
+-- A call that was lent a book, a run and a work slice answers so, with these figures, and leaves the slice so.
+pub record Answered (book run work : List ℕ) (number blamed place : ℕ) (figures : Figures) (left : List ℕ) : Type 0 where
+  pub zero : (number ≡ 0) ↔ (Fine book × Framed run × (workRoom ≤ length work))
+  pub nine : (number ≡ 9) ↔ (Fine book × Framed run × (length work < workRoom))
+  -- a fault of the book is blamed on it at its place, which is a byte of the book or its end
+  pub in-book : (Fine book → ⊥) → (number ≡ bookOf book .fault .number) × (blamed ≡ 1) × (place ≡ bookOf book .fault .place) × (place ≤ length book)
+  -- then a fault of the framing, on the run
+  pub in-run : Fine book → (Framed run → ⊥) → (number ≡ framing run .number) × (blamed ≡ 2) × (place ≡ framing run .place) × (place ≤ length run)
+  pub others : Fine book → Framed run → (blamed ≡ 0) × (place ≡ 0)
+  pub unwritten : (number ≡ 0 → ⊥) → (figures ≡ noFigures) × (left ≡ work)
+  pub counted : number ≡ 0 → (figures ≡ figuresOf book (sheetsOf run)) × (left ≡ replicate workRoom 0 ++ drop workRoom work)
+
+module _ (book run work : List ℕ) where
+  abbrev Obeys : Outcome → Type 0
+  Obeys o = Answered book run work (o .answer .number) (o .answer .blamed) (o .answer .place) (o .figures) (o .entries)
+
+  -- what is refused has a number
+  abbrev o : Outcome
+  o = report book run work
+
+  refuses : (a : Answer) → refusal book run work ≡ a → (a .number ≡ 0 → ⊥) → o ≡ refused a work
+  refuses a e n = given-up book run work (λ z. n (ap (λ (b : Answer). b .number) (sym e) ∙ z)) ∙ ap (λ (b : Answer). refused b work) e
+
+  of-book : (Fine book → ⊥) → Obeys o
+  of-book bad =
+      let f = book-refused book bad .blamed in
+      let e = book-first (bookOf book .fault) run (length work) bad in
+      rw (refuses _ (rw (ne-eqb (bookOf book .fault .number) 0 bad) at e) bad)
+      (record {
+        zero = (λ z. absurd (bad z), λ x. absurd (bad (x .0)));
+        nine = (λ z. absurd (omega (arith, f .known)), λ x. absurd (bad (x .0)));
+        in-book = λ _. (refl, refl, refl, f .inside);
+        in-run = λ z. absurd (bad z);
+        others = λ z. absurd (bad z);
+        unwritten = λ _. (refl, refl);
+        counted = λ z. absurd (bad z);
+      })
+
+  module _ (fine : Fine book) where
+    of-run : (Framed run → ⊥) → Obeys o
+    of-run bad =
+        let f = framing-blamed run bad in
+        let e = run-second (bookOf book .fault) run (length work) fine bad in
+        rw (refuses _ (rw (ne-eqb (framing run .number) 0 bad) at e) bad)
+        (record {
+          zero = (λ z. absurd (bad z), λ x. absurd (bad (x .1)));
+          nine = (λ z. absurd (omega (arith, f .known)), λ x. absurd (bad (x .1)));
+          in-book = λ b. absurd (b fine);
+          in-run = λ _ _. (refl, refl, refl, f .inside);
+          others = λ _ y. absurd (bad y);
+          unwritten = λ _. (refl, refl);
+          counted = λ z. absurd (bad z);
+        })
+
+    module _ (framed : Framed run) where
+      of-work : length work < workRoom → Obeys o
+      of-work h =
+          rw (refuses (plain 9) (work-third (bookOf book .fault) run (length work) fine framed h) (λ z. omega arith))
+          (record {
+            zero = (λ z. absurd (omega arith), λ x. absurd (omega (arith, x .2)));
+            nine = (λ _. (fine, framed, h), λ _. refl);
+            in-book = λ b. absurd (b fine);
+            in-run = λ _ b. absurd (b framed);
+            others = λ _ _. (refl, refl);
+            unwritten = λ _. (refl, refl);
+            counted = λ z. absurd (omega arith);
+          })
+
+      counts : workRoom ≤ length work → Obeys o
+      counts h =
+          let e = nothing-refused (bookOf book .fault) run (length work) fine framed h in
+          rw (gone-through book run work (ap (λ (b : Answer). b .number) e))
+          (record {
+            zero = (λ _. (fine, framed, h), λ _. refl);
+            nine = (λ z. absurd (omega arith), λ x. absurd (omega (arith, x .2)));
+            in-book = λ b. absurd (b fine);
+            in-run = λ _ b. absurd (b framed);
+            others = λ _ _. (refl, refl);
+            unwritten = λ n. absurd (n refl);
+            counted = λ _. (refl, refl);
+          })
+
+  pub obeys : Obeys o
+  obeys = by-book (ℕ-discrete (bookOf book .fault .number) 0)
+    where
+      by-run : Fine book → Dec (Framed run) → Obeys o
+      by-run fine (yes y) = ⊎-elim (of-work fine y) (counts fine y) (lt-or-le (length work) workRoom)
+      by-run fine (no n) = of-run fine n
+
+      by-book : Dec (Fine book) → Obeys o
+      by-book (yes z) = by-run z (ℕ-discrete (framing run .number) 0)
+      by-book (no n) = of-book n
+
+  -- ── Every answer packs ──
+
+  report-packs : Packs (o .answer) 0
+  report-packs = by-book (ℕ-discrete (bookOf book .fault .number) 0)
+    where
+      packs-as : (a : Answer) → refusal book run work ≡ a → (a .number ≡ 0 → ⊥) → Packs a 0 → Packs (o .answer) 0
+      packs-as a e n p = rw (refuses a e n) p
+
+      by-work : Fine book → Framed run → (length work < workRoom) ⊎ (workRoom ≤ length work) → Packs (o .answer) 0
+      by-work z y (inl h) =
+          packs-as (plain 9) (work-third (bookOf book .fault) run (length work) z y h) (λ e. omega arith) (plain-packs 9 0 (omega arith) (omega arith))
+      by-work z y (inr h) =
+          rw (gone-through book run work (ap (λ (b : Answer). b .number) (nothing-refused (bookOf book .fault) run (length work) z y h)))
+          (plain-packs 0 0 (omega arith) (omega arith))
+
+      by-run : Fine book → Dec (Framed run) → Packs (o .answer) 0
+      by-run z (yes y) = by-work z y (lt-or-le (length work) workRoom)
+      by-run z (no n) =
+          packs-as (blaming 2 (framing run)) (run-second (bookOf book .fault) run (length work) z n) (rw (ne-eqb (framing run .number) 0 n) n)
+          (fault-placed run 2 mostBytes (framing run) (omega arith) (omega arith) (λ m. framing-blamed run m) .packs)
+
+      by-book : Dec (Fine book) → Packs (o .answer) 0
+      by-book (yes z) = by-run z (ℕ-discrete (framing run .number) 0)
+      by-book (no n) =
+          packs-as (blaming 1 (bookOf book .fault)) (book-first (bookOf book .fault) run (length work) n) (rw (ne-eqb (bookOf book .fault .number) 0 n) n)
+          (book-placed book 1 (omega arith) .packs)
+
+  -- ── The theorems ──
+
+  pub report-answered : (r : RunReport) (left : List ℕ) → Answers (report book run work) r left
+      → Answered book run work (r .answer .number) (r .answer .blamed) (r .answer .place) (r .figures) left
+  report-answered r left a = rw (a .answers, a .figures, a .leaves) obeys
+
+  module _ (slice : List ℕ) where
+    -- 13 before anything is read, and nothing is written; else the figures stand at the front of the slice, whatever is answered
+    pub record Called (r : ℕ) (work-left left : List ℕ) : Type 0 where
+      pub short : length slice < figuresLong
+          → (r % 2 ^ 8 ≡ 13) × (r / 2 ^ 8 % 2 ^ 4 ≡ 0) × (r / 2 ^ 12 % 2 ^ 20 ≡ 0) × (work-left ≡ work) × (left ≡ slice)
+      pub long : figuresLong ≤ length slice
+          → (f : Figures) × Answered book run work (r % 2 ^ 8) (r / 2 ^ 8 % 2 ^ 4) (r / 2 ^ 12 % 2 ^ 20) f work-left × (left ≡ inARow f ++ drop figuresLong slice)
+      pub no-count : r / 2 ^ 32 ≡ 0
+
+    called-short : length slice < figuresLong → (r : ℕ) (work-left left : List ℕ) → Leaves (runReport book run work slice) r work-left left → Called r work-left left
+    called-short h r work-left left l =
+        let m : Leaves (record { answer = plain 13; entries = work; slice = slice }) r work-left left = rw (short-slice book run work slice h) at l in
+        let p = apart (plain 13) 0 (plain-packs 13 0 (omega arith) (omega arith)) in
+        record {
+          short = λ _. rw (m .answers) (p .number-is, p .blamed-is, p .place-is, m .leaves-work, m .leaves-figures);
+          long = λ g. absurd (omega arith);
+          no-count = rw (m .answers) (p .count-is);
+        }
+
+    called-long : figuresLong ≤ length slice → (r : ℕ) (work-left left : List ℕ) → Leaves (runReport book run work slice) r work-left left → Called r work-left left
+    called-long h r work-left left l =
+        let m : Leaves (told o slice) r work-left left = rw (long-slice book run work slice h) at l in
+        let p = apart (o .answer) 0 report-packs in
+        record {
+          short = λ g. absurd (omega arith);
+          long = λ _. (o .figures, rw (m .answers, m .leaves-work) (rw (p .number-is, p .blamed-is, p .place-is) obeys), m .leaves-figures);
+          no-count = rw (m .answers) (p .count-is);
+        }
+
+    pub dv-run-report-called : (r : ℕ) (work-left left : List ℕ) → Leaves (runReport book run work slice) r work-left left → Called r work-left left
+    dv-run-report-called r work-left left l =
+        ⊎-elim (λ h. called-short h r work-left left l) (λ h. called-long h r work-left left l) (lt-or-le (length slice) figuresLong)
+
+    -- the two calls do the same
+    pub alike : figuresLong ≤ length slice → {a : RunReport} {r : ℕ} {w v left : List ℕ}
+        → Answers (report book run work) a w → Leaves (runReport book run work slice) r v left
+        → (r ≡ packed (a .answer) 0) × (v ≡ w) × (left ≡ inARow (a .figures) ++ drop figuresLong slice)
+    alike h {a} {r} {w} {v} {left} x l =
+        let m : Leaves (told o slice) r v left = rw (long-slice book run work slice h) at l in (
+          m .answers ∙ ap (λ (b : Answer). packed b 0) (sym (x .answers)),
+          m .leaves-work ∙ sym (x .leaves),
+          m .leaves-figures ∙ ap (λ (f : Figures). inARow f ++ drop figuresLong slice) (sym (x .figures)),
+        )

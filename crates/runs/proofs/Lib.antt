@@ -1,0 +1,16 @@
+pub mod WalkingRuns
+pub mod InSlices
+pub mod AddingCells
+pub mod CountingLists
+pub mod StandingFigures
+pub mod AnswersOfSheets
+pub mod CellsShown
+pub mod AddingSheets
+pub mod AskedSheets
+pub mod RunTheorems
+pub mod RunExamples
+pub mod SheetsSoFar
+pub mod SpelledRuns
+pub mod ReportingRuns
+pub mod Demand1
+pub mod Settled

@@ -1,0 +1,24 @@
+-- Two parts are copied, and the rest is read.
+use Rattle.runs.proofs.StandingFigures.{standing-made}
+use borrow.Author.Needs.{needs}
+use Rattle.runs.proofs.figures.named.Statement.{statement}
+use Rattle.runs.proofs.figures.named.Tie as tie
+
+returns : tie.Need-returns
+returns c =
+    standing-made _ _ _
+    (c .before .before .before .before .before .before .before .before .copy .ensures) (c .before .before .before .before .before .copy2 .ensures)
+
+pub named-spec : {M : Type 1} → statement M
+named-spec =
+    tie.close
+    (tie.spec
+    (λ c. search needs)
+    (λ c κs. search needs)
+    (λ c. search needs)
+    (λ c κs. search needs)
+    (λ c. search needs)
+    (λ c. search needs)
+    (λ c. search needs)
+    (λ c. search needs)
+    returns)

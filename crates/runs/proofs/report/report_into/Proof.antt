@@ -1,0 +1,73 @@
+-- Where something is refused, the figures stay cleared; else the sheets are added, and the work slice is cleared.
+use mathlib.Core.Path.{refl, sym, ap, _∙_}
+use native.Mathlib.Omega.{arith}
+use denote.Ref.{now}
+use lib.ListN.{length}
+use Rattle.names.specs.declared.number.Fault.{Fault}
+use Rattle.runs.specs.inner.Adding.{standing}
+use Rattle.runs.proofs.ReportingRuns.{Granted, granted, cleared-standing, reports-refusal, reports-run}
+use borrow.Author.Needs.{needs}
+use Rattle.runs.proofs.report.report_into.Statement.{statement}
+use Rattle.runs.proofs.report.report_into.Tie as tie
+
+-- After the book was split: where the figures were cleared, and where the call began.
+abbrev cleared : tie.After-split-book → tie.After-clear
+cleared p = p .before .before .before .before
+
+abbrev began : tie.After-split-book → tie.Start
+began p = p .before .before .before .before .before .before .before .before .before .before
+
+-- Before the sheets are added: where it was judged what is refused, and that nothing is.
+abbrev granting : tie.After-add-sheets-arg2 → tie.After-refused
+granting x = x .before .before .before .before .before
+
+may : (x : tie.After-add-sheets-arg2) → let p = granting x .before .before in
+    Granted (p .split-book .result .fault) (now (began p .args .run)) (length (now (began p .args .work)))
+may x = granted _ _ _ (rw (granting x .refused .ensures) at (x .before .before .before .if1 .taken))
+
+add-sheets-requires : tie.Need-add-sheets-requires
+add-sheets-requires c κs =
+    let p = granting c .before .before in
+    let k = cleared p in
+    let s = began p in
+    let g = may c in (
+      (p .split-book .ensures .split (ap (λ (f : Fault). f .number) (sym (p .split-book .ensures .fault)) ∙ g .book-fine, refl), g .work-long),
+      (g .run-fine, omega (arith, k .clear .kept .0, s .pre), ap standing (k .clear .ensures) ∙ cleared-standing _),
+    )
+
+clear-requires-2 : tie.Need-clear-requires-2
+clear-requires-2 c κs =
+    let a = c .before .before .before .before .before in
+    omega (arith, a .add-sheets .kept .1 .1 .1 .1 .0, may (a .before) .work-long)
+
+returns : tie.Need-returns
+returns c =
+    let t = c .before .before in
+    let a = t .before .before .before .before .before .before in
+    let q = granting (a .before) in
+    let p = q .before .before in
+    reports-run _ _ _ _ _ (cleared p .clear .ensures) _ _ (p .split-book .ensures .fault) (q .refused .ensures)
+    (a .before .before .before .before .if1 .taken) _ _ _ (a .add-sheets .ensures) (t .clear2 .ensures)
+
+returns-2 : tie.Need-returns-2
+returns-2 c =
+    let q = c .before .before in
+    let p = q .before .before in
+    reports-refusal _ _ _ _ _ (cleared p .clear .ensures) _ _ (p .split-book .ensures .fault) (q .refused .ensures) (c .if1 .left)
+
+pub report-into-spec : {M : Type 1} → statement M
+report-into-spec =
+    tie.close
+    (tie.spec
+    (λ c κs. search needs)
+    (λ c. search needs)
+    (λ c κs. search needs)
+    (λ c κs. search needs)
+    (λ c. search needs)
+    add-sheets-requires
+    clear-requires-2
+    (λ c. search needs)
+    (λ c. search needs)
+    returns
+    (λ c. search needs)
+    returns-2)

@@ -1,0 +1,92 @@
+-- The figures of a run, each from the list of its sheets.
+use Prim.Native.Nat.{ℕ}
+use mathlib.Core.Bool.{Bool}
+use mathlib.Core.List.{List, [], _∷_, _++_, map}
+use lib.Dec.{eqb}
+use lib.ListN.{length, getD, replicate}
+use Rattle.names.specs.Name.{Name}
+use Rattle.books.specs.ContentsIn.{contentsIn, gridIn}
+use Rattle.books.specs.Book.{bookOf}
+use Rattle.books.specs.Calls.{ticketOf}
+use Rattle.books.specs.Decide.{called?}
+use Rattle.books.specs.Grid.{Grid}
+use Rattle.books.specs.Sheet.{sheetOf}
+use Rattle.books.specs.Size.{greatest}
+use Rattle.pieces.specs.Area.{whole, treeSize}
+use Rattle.pieces.specs.Derivation.{derivation}
+use Rattle.pieces.specs.Pieces.{each, total}
+use Rattle.runs.specs.Lists.{those, howMany, addedUp, anyIn, leastOf, greatestOf}
+use Rattle.runs.specs.declared.figures.Figures.{Figures}
+
+-- ── One sheet ──
+
+-- the entries that the table of the greatest sheet has, and the numbers of its tree: room enough for every sheet
+abbrev pub workRoom : ℕ
+workRoom = total greatest greatest
+
+abbrev pub treeRoom : ℕ
+treeRoom = treeSize (whole greatest greatest)
+
+-- the number that a derivation with room enough answers
+unfoldable pub answerOf : List ℕ → List ℕ → ℕ
+answerOf book sheet = derivation book sheet (replicate workRoom 0) (replicate treeRoom 0) .answer .number
+
+-- the colour names of its cells, row by row
+abbrev pub namesShown : Grid → List Name
+namesShown g = map (λ k. getD (g .colours) k []) (g .cells)
+
+-- how many cells show the full name of a book colour; a number past the book's list has no name
+unfoldable pub showing : List ℕ → ℕ → List ℕ → ℕ
+showing book c sheet = howMany (called? (contentsIn book (bookOf book .family)) c) (namesShown (gridIn sheet (sheetOf sheet .sheet)))
+
+-- ── The sheets of a run ──
+
+-- those with an answer
+abbrev pub answering : List ℕ → ℕ → List ℕ → Bool
+answering book a sheet = eqb (answerOf book sheet) a
+
+-- the accepted sheets
+unfoldable pub accepted : List ℕ → List (List ℕ) → List (List ℕ)
+accepted book sheets = those (answering book 0) sheets
+
+-- how many got an answer
+unfoldable pub got : List ℕ → List (List ℕ) → ℕ → ℕ
+got book sheets a = howMany (answering book a) sheets
+
+-- the answers that a sheet can get: 0 to 8 and 11
+abbrev pub answersGiven : List ℕ
+answersGiven = 0 ∷ 1 ∷ 2 ∷ 3 ∷ 4 ∷ 5 ∷ 6 ∷ 7 ∷ 8 ∷ 11 ∷ []
+
+-- the cells of a book colour, over accepted sheets only
+unfoldable pub cellsOf : List ℕ → List (List ℕ) → ℕ → ℕ
+cellsOf book sheets c = addedUp (showing book c) (accepted book sheets)
+
+-- the tickets of the accepted sheets
+unfoldable pub tickets : List ℕ → List (List ℕ) → List ℕ
+tickets book sheets = map ticketOf (accepted book sheets)
+
+-- a book has at most so many colours
+abbrev pub mostColours : ℕ
+mostColours = 64
+
+unfoldable pub figuresOf : List ℕ → List (List ℕ) → Figures
+figuresOf book sheets =
+    record {
+      sheets = length sheets;
+      answers = map (got book sheets) answersGiven;
+      cells = each mostColours (λ c. cellsOf book sheets c ∷ []);
+      any = anyIn (tickets book sheets);
+      least = leastOf (tickets book sheets);
+      greatest = greatestOf (tickets book sheets);
+    }
+
+-- no sheets: every figure is 0
+abbrev pub noFigures : Figures
+noFigures = record { sheets = 0; answers = replicate 10 0; cells = replicate mostColours 0; any = 0; least = 0; greatest = 0 }
+
+-- the figures one after another, as the C host gets them
+abbrev pub figuresLong : ℕ
+figuresLong = 78
+
+unfoldable pub inARow : Figures → List ℕ
+inARow f = f .sheets ∷ (f .answers ++ (f .cells ++ (f .any ∷ f .least ∷ f .greatest ∷ [])))

@@ -1,0 +1,5 @@
+pub mod Lists
+pub mod Run
+pub mod Figures
+pub mod Outcome
+pub mod inner

@@ -1,0 +1,73 @@
+-- What a report answers and leaves, from the bytes of the lent book and run and the entries of the lent work slice.
+use Prim.Native.Nat.{ℕ}
+use mathlib.Core.Path.{_≡_}
+use mathlib.Core.List.{List, _++_}
+use lib.Dec.{eqb, ltb}
+use lib.ListN.{length, drop, replicate}
+use Rattle.names.specs.Pick.{pick}
+use Rattle.names.specs.declared.number.Fault.{Fault}
+use Rattle.books.specs.Answer.{plain, blaming, packed}
+use Rattle.books.specs.Book.{bookOf}
+use Rattle.books.specs.declared.answer.Answer.{Answer}
+use Rattle.runs.specs.Run.{framing, sheetsOf}
+use Rattle.runs.specs.Figures.{workRoom, figuresOf, noFigures, figuresLong, inARow}
+use Rattle.runs.specs.declared.figures.Figures.{Figures}
+use Rattle.runs.specs.declared.calls.RunReport.{RunReport}
+
+-- the answer, the figures, and the work slice
+pub record Outcome : Type 0 where
+  pub answer : Answer
+  pub figures : Figures
+  pub entries : List ℕ
+
+-- a refusal writes nothing, and every figure is 0
+abbrev pub refused : Answer → List ℕ → Outcome
+refused a entries = record { answer = a; figures = noFigures; entries = entries }
+
+-- the figures of the run's sheets; the work slice is cleared as far as any sheet can need it, and the slice beyond is as it was
+abbrev pub reported : List ℕ → List ℕ → List ℕ → Outcome
+reported book run entries =
+    record { answer = plain 0; figures = figuresOf book (sheetsOf run); entries = replicate workRoom 0 ++ drop workRoom entries }
+
+-- what is refused of a book that was read with a fault or with none, of a run and of so many entries: the book's fault, then that of the run's
+-- framing, then 9 where the entries are too few for the greatest sheet; the number 0 is nothing
+unfoldable pub refusing : Fault → List ℕ → ℕ → Answer
+refusing f run entries =
+    pick (eqb (f .number) 0)
+    (pick (eqb (framing run .number) 0) (pick (ltb entries workRoom) (plain 9) (plain 0)) (blaming 2 (framing run)))
+    (blaming 1 f)
+
+abbrev pub refusal : List ℕ → List ℕ → List ℕ → Answer
+refusal book run entries = refusing (bookOf book .fault) run (length entries)
+
+unfoldable pub report : List ℕ → List ℕ → List ℕ → Outcome
+report book run entries = pick (eqb (refusal book run entries .number) 0) (reported book run entries) (refused (refusal book run entries) entries)
+
+-- what the call answers, and the work slice as it leaves it, are those of an outcome
+pub record Answers (o : Outcome) (r : RunReport) (entries : List ℕ) : Type 0 where
+  pub answers : r .answer ≡ o .answer
+  pub figures : r .figures ≡ o .figures
+  pub leaves : entries ≡ o .entries
+
+-- ── For the C host ──
+
+-- the answer, the work slice and the slice of the figures
+pub record Told : Type 0 where
+  pub answer : Answer
+  pub entries : List ℕ
+  pub slice : List ℕ
+
+-- the figures stand at the front of the slice, whatever is answered, and the slice beyond is as it was
+abbrev pub told : Outcome → List ℕ → Told
+told o slice = record { answer = o .answer; entries = o .entries; slice = inARow (o .figures) ++ drop figuresLong slice }
+
+-- 13 where that slice is too short, before anything is read
+unfoldable pub runReport : List ℕ → List ℕ → List ℕ → List ℕ → Told
+runReport book run entries slice =
+    pick (ltb (length slice) figuresLong) (record { answer = plain 13; entries = entries; slice = slice }) (told (report book run entries) slice)
+
+-- the number that the host gets, with 0 for the count, and both slices as the call leaves them
+pub record Leaves (t : Told) (r : ℕ) (entries slice : List ℕ) : Type 0 where
+  pub answers : r ≡ packed (t .answer) 0
+  pub leaves-work : entries ≡ t .entries
+  pub leaves-figures : slice ≡ t .slice

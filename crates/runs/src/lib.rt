@@ -1,0 +1,6 @@
+// The figures of a whole run of sheets against one book.
+pub mod calls;
+mod counting;
+pub mod figures;
+mod framing;
+mod report;

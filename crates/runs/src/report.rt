@@ -1,0 +1,99 @@
+// The figures of a run: the book is read and split into masks once, and each sheet is asked of it in turn.
+use crate::counting::add_asked;
+use crate::figures::FIGURES_LONG;
+use crate::figures::clear;
+use crate::framing::frame_at;
+use crate::framing::framing;
+use books::answer::Answer;
+use books::answer::blame;
+use books::answer::unblamed;
+use names::number::Fault;
+use pieces::asking::Split;
+use pieces::asking::ask_sheet;
+use pieces::asking::split_book;
+use pieces::masks::ALL_MASKS;
+ghost use mathlib.Core.Path.{_≡_};
+ghost use Prim.Native.Nat.{_≤_};
+ghost use lib.ListN.{length};
+ghost use Rattle.pieces.specs.Asking.{SplitFrom};
+ghost use Rattle.runs.specs.Run.{framing, sheetsOf};
+ghost use Rattle.runs.specs.Figures.{workRoom, noFigures, figuresLong};
+ghost use Rattle.runs.specs.Outcome.{refusing, report};
+ghost use Rattle.runs.specs.inner.Adding.{mostAdded, Spare, standing};
+ghost use Rattle.runs.specs.inner.Reporting.{Adds, Counts, Reports};
+
+// The entries that the table of the greatest sheet has.
+const WORK_ROOM: usize = 6084;
+
+// One sheet more: asked of the book, and added to the figures.
+fn add_sheet(
+    book: &[u8],
+    split: Split,
+    masks: &[u32],
+    sheet: &[u8],
+    work: &mut [u32],
+    figures: &mut [u32],
+)
+    requires { ⌜ SplitFrom (now book) split (now masks) × (workRoom ≤ length (now work)) ⌝ }
+    requires { ⌜ (figuresLong ≤ length (now figures)) × Spare mostAdded (now figures) ⌝ }
+    ensures { λ _. ⌜ Adds (now (book .entry)) (now (sheet .entry)) (now (work .entry)) (now (work .exit)) (now (figures .entry)) (now (figures .exit)) ⌝ }
+{
+    let r = ask_sheet(book, split, masks, sheet, work);
+    add_asked(r, figures);
+}
+
+// Every sheet of a run whose framing has no fault, from figures of no sheets.
+fn add_sheets(
+    book: &[u8],
+    split: Split,
+    masks: &[u32],
+    run: &[u8],
+    work: &mut [u32],
+    figures: &mut [u32],
+)
+    requires { ⌜ SplitFrom (now book) split (now masks) × (workRoom ≤ length (now work)) ⌝ }
+    requires { ⌜ (framing (now run) .number ≡ 0) × (figuresLong ≤ length (now figures)) × (standing (now figures) ≡ noFigures) ⌝ }
+    ensures { λ _. ⌜ Counts (now (book .entry)) (sheetsOf (now (run .entry))) (now (work .entry)) (now (work .exit)) (now (figures .entry)) (now (figures .exit)) ⌝ }
+{
+    let mut at = 0;
+    while at < run.len() {
+        let f = frame_at(run, at);
+        let start = f.start;
+        let end = f.end;
+        add_sheet(book, split, masks, &run[start..end], work, figures);
+        at = end;
+    }
+}
+
+// What is refused of a book with a fault, of a run and of so many entries, in that order; the number 0 is nothing.
+fn refused(fault: Fault, run: &[u8], entries: usize) -> Answer
+    ensures { λ r. ⌜ r ≡ refusing fault (now (run .entry)) entries ⌝ }
+{
+    if fault.number != 0 {
+        return blame(1, fault);
+    }
+    let framed = framing(run);
+    if framed.number != 0 {
+        return blame(2, framed);
+    }
+    if entries < WORK_ROOM {
+        return unblamed(9);
+    }
+    unblamed(0)
+}
+
+// Reports a run into a slice of figures. Where something is refused, every figure is 0 and the work slice is as it was.
+pub(crate) fn report_into(book: &[u8], run: &[u8], work: &mut [u32], figures: &mut [u32]) -> Answer
+    requires { ⌜ figuresLong ≤ length (now figures) ⌝ }
+    ensures { λ r. ⌜ Reports (report (now (book .entry)) (now (run .entry)) (now (work .entry))) r (now (work .exit)) (now (figures .entry)) (now (figures .exit)) ⌝ }
+{
+    clear(figures, FIGURES_LONG);
+    let mut masks = [0u32; ALL_MASKS];
+    let split = split_book(book, &mut masks);
+    let answer = refused(split.fault, run, work.len());
+    if answer.number == 0 {
+        add_sheets(book, split, &masks, run, work, figures);
+        clear(work, WORK_ROOM);
+    }
+    answer
+}
