@@ -1,8 +1,6 @@
 // The derivation. A piece goes by its height, width, top row and left column.
 #include "independent.h"
 
-#include <string.h>
-
 #include "independent_table.h"
 
 struct job {
@@ -37,8 +35,8 @@ static bool is_cell(const struct job *job, unsigned colour, unsigned height, uns
            job->order.colour[job->order.sheet.cell[top * job->order.sheet.columns + left]] == colour;
 }
 
-// Writes the node of a piece and its motif, then its parts. False where no rule fits.
-static bool write_node(struct job *job, unsigned motif, unsigned height, unsigned width, unsigned top, unsigned left)
+// Writes the node of a piece and a motif that derives it, then its parts.
+static void write_node(struct job *job, unsigned motif, unsigned height, unsigned width, unsigned top, unsigned left)
 {
     for (unsigned i = 0; i < job->order.book.rules; i++) {
         struct rule rule = job->order.book.rule[i];
@@ -50,15 +48,15 @@ static bool write_node(struct job *job, unsigned motif, unsigned height, unsigne
             continue;
         *job->tree++ = (uint16_t)i;
         *job->tree++ = (uint16_t)k;
-        if (colour)
-            return true;
-        if (rule.kind == KIND_ACROSS)
-            return write_node(job, rule.first, height, k, top, left) &&
-                   write_node(job, rule.second, height, width - k, top, left + k);
-        return write_node(job, rule.first, k, width, top, left) &&
-               write_node(job, rule.second, height - k, width, top + k, left);
+        if (rule.kind == KIND_ACROSS) {
+            write_node(job, rule.first, height, k, top, left);
+            write_node(job, rule.second, height, width - k, top, left + k);
+        } else if (rule.kind == KIND_DOWN) {
+            write_node(job, rule.first, k, width, top, left);
+            write_node(job, rule.second, height - k, width, top + k, left);
+        }
+        return;
     }
-    return false;
 }
 
 uint64_t independent_derive(const uint8_t *book, size_t book_len, const uint8_t *sheet, size_t sheet_len,
@@ -70,19 +68,15 @@ uint64_t independent_derive(const uint8_t *book, size_t book_len, const uint8_t 
     if (refusal != 0)
         return refusal;
     unsigned m = job.order.sheet.rows, n = job.order.sheet.columns;
-    size_t numbers = 2 * (2 * m * n - 1);
     if (work_len < independent_entries(&job.order.sheet))
         return independent_answer(9, 0, 0);
-    if (tree_len < numbers)
+    if (tree_len < 2 * (2 * m * n - 1))
         return independent_answer(10, 0, 0);
     independent_split(&rules, &job.order.book);
     independent_fill(&job.table, &rules, &job.order, work);
     if (!has(&job.table, job.order.book.start, m, n, 0, 0))
         return independent_answer(11, 0, 0);
     job.tree = tree;
-    if (!write_node(&job, job.order.book.start, m, n, 0, 0)) {
-        memset(tree, 0, numbers * sizeof *tree);
-        return independent_answer(14, 0, 0);
-    }
+    write_node(&job, job.order.book.start, m, n, 0, 0);
     return 0;
 }

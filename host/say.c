@@ -20,7 +20,6 @@ const char *const words[] = {
     [DV_NOT_DERIVED] = "the sheet does not belong to the family",
     [DV_TOO_MANY] = "too many colours, motifs or rules",
     [DV_OUT_SHORT] = "the output slice is too short",
-    [DV_NO_RULE_FITS] = "no rule fits at some node",
     [DV_IN_FAMILY] = "the sheet belongs to the family",
 };
 

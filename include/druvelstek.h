@@ -38,7 +38,7 @@ extern "C" {
 
 // The version of rules and calls that this header describes, and the call that tells the archive's. A host compares the
 // two before any other call, so that a header and an archive of two versions are noticed.
-#define DV_VERSION 6
+#define DV_VERSION 7
 uint64_t dv_version(void);
 
 // The greatest sizes.
@@ -94,7 +94,7 @@ enum dv_kind { DV_KIND_COLOUR = 0, DV_KIND_ACROSS = 1, DV_KIND_DOWN = 2 };
 enum dv_reason { DV_REASON_COLOUR = 1, DV_REASON_SIZE = 2, DV_REASON_PIECE = 3, DV_REASON_NO_PIECE = 4 };
 
 // The answer numbers. 1 to 8 blame the input in which the fault stands, 1 the first and 2 the second, and have a place
-// in it, counted from 0. All others blame 0, with place 0.
+// in it, counted from 0. All others blame 0, with place 0. 14 is no answer, and that number is not used again.
 enum dv_answer_number {
     DV_ACCEPTED = 0,
     DV_ENDS_EARLY = 1,      // input ends inside or before something due; place: its length
@@ -110,7 +110,6 @@ enum dv_answer_number {
     DV_NOT_DERIVED = 11,    // the start motif does not derive the sheet
     DV_TOO_MANY = 12,       // a combination exceeds 64 colours, 32 motifs or 200 rules
     DV_OUT_SHORT = 13,      // output, card or figures slice shorter than the result
-    DV_NO_RULE_FITS = 14,   // a guard: the sheet is derived, yet at some node no rule fits; proved never to come
     DV_IN_FAMILY = 15       // the sheet is in the family, so that there is no reason why not
 };
 
@@ -162,15 +161,15 @@ static inline size_t dv_size_rows(uint64_t size) { return (size_t)(size & 0xffff
 static inline size_t dv_size_columns(uint64_t size) { return (size_t)(size >> 32); }
 
 // Decides whether the family derives the sheet of m rows and n columns. Answers, in this order: 1 to 8 blaming 1, the
-// book; 1 to 8 blaming 2, the sheet; 9; 10; 11; 14; 0. 14 is a guard and is proved never to come.
+// book; 1 to 8 blaming 2, the sheet; 9; 10; 11; 0.
 //
-// On 0, 11 and 14 the first dv_work_entries(m, n) entries of work hold the table of pieces: by height, then width, then
+// On 0 and 11 the first dv_work_entries(m, n) entries of work hold the table of pieces: by height, then width, then
 // top row, then left column, each rising; bit A is set exactly when motif A derives that piece, other bits are clear.
 //
 // On 0 the first dv_tree_entries(m, n) entries of tree hold the derivation: node first, then left or upper part, then
 // right or lower part, each node as its rule number and its k, the columns or rows of its first part (0 for a colour
 // rule). At each node stands the lowest-numbered rule that can derive the piece, for a join with the smallest k that
-// works. On 14 these entries are 0. Everything else in work and tree is unchanged.
+// works. Everything else in work and tree is unchanged.
 uint64_t dv_derive(const uint8_t *book, size_t book_len, const uint8_t *sheet, size_t sheet_len, uint32_t *work,
                    size_t work_len, uint16_t *tree, size_t tree_len);
 

@@ -24,7 +24,8 @@ use Rattle.books.specs.Sheet.{sheetOf}
 use Rattle.books.proofs.Deciding.{decided}
 use Rattle.books.proofs.ReadingSheets.{sheet-lies, sheet-refused}
 use Rattle.pieces.specs.Given.{Given}
-use Rattle.pieces.specs.Derivation.{Derivation, leaving, entriesNeeded, numbersNeeded, filled, judged, roomed, derivation, outcome}
+use Rattle.pieces.specs.Tree.{tree}
+use Rattle.pieces.specs.Derivation.{Derivation, leaving, entriesNeeded, numbersNeeded, filled, judged, roomed, derivation}
 use Rattle.pieces.proofs.TheTree.{tree-given, given-length}
 use Rattle.belongs.specs.Nodes.{nodesOf}
 
@@ -57,12 +58,13 @@ module _ (book sheet numbers : List ℕ) where
   Prints d = d .answer .number ≡ 0 → Given b (b .start) p (take (2 * nodesOf sheet) (d .numbers))
 
   judged-prints : (entries : List ℕ) → Prints (judged b p entries numbers)
-  unfolding judged outcome
+  unfolding judged
   judged-prints entries =
       pick-ind Prints (derives? b (b .start) p) _ _
       (λ e.
-      let (nodes, is, given) = tree-given b p (decided b (b .start) p .0 e) in
-      rw (is, take-at nodes (drop (length nodes) numbers) (2 * nodesOf sheet) (nodes-given b (b .start) sheet nodes given)) (λ _. given))
+      let given = tree-given b p (decided b (b .start) p .0 e) in
+      let nodes = tree b p in
+      rw (take-at nodes (drop (length nodes) numbers) (2 * nodesOf sheet) (nodes-given b (b .start) sheet nodes given)) (λ _. given))
       (λ _ z. absurd (omega arith))
 
   roomed-prints : (entries : List ℕ) → Prints (roomed b p entries numbers)

@@ -73,4 +73,4 @@ sizeShown s = packedSize (sizeOf s)
 
 -- how many of the customer's requests have landed
 abbrev pub version : ℕ
-version = 6
+version = 7

@@ -21,8 +21,8 @@ use Rattle.pieces.specs.Pieces.{each, pieces}
 use Rattle.pieces.specs.Table.{bits, entry, table}
 use Rattle.pieces.specs.Direction.{reach, front, back}
 use Rattle.pieces.specs.Choice.{least, works, cutOf, covers, fits, takes, taken, lowest, chosen, choose}
-use Rattle.pieces.specs.Tree.{both, treeWithin, treeOf}
-use Rattle.pieces.specs.Derivation.{outcome, judged, roomed, derivation}
+use Rattle.pieces.specs.Tree.{treeWithin, treeOf}
+use Rattle.pieces.specs.Derivation.{judged, roomed, derivation}
 use Rattle.families.specs.Merged.{without, merged}
 use Rattle.families.specs.Combine.{copies, joined, repeated, either-of, beside, run, transposed}
 use Rattle.families.specs.Within.{few?, within?}
@@ -66,8 +66,8 @@ pub cases : Cases
 unfolding numberAt longerAt lastGroup numberIn numberBelow spellNumber leastAt nameOf sameName listed findName colourAt coloursOf put
     colourNumberAt joinAt bodyAt ruleAt rulesAt figuresAt ruledAt figuredAt bookOf sizeAt cellsOf filledAt sheetOf
     andThen orElse called? anyCut fitsBody anyRule derivesIn derives?
-    each pieces bits entry table reach front back least works cutOf covers fits takes taken lowest chosen choose both treeWithin treeOf
-    outcome judged roomed derivation
+    each pieces bits entry table reach front back least works cutOf covers fits takes taken lowest chosen choose treeWithin treeOf
+    judged roomed derivation
     without merged copies joined repeated either-of few? within? written made lent
 cases =
     record {

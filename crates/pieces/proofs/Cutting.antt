@@ -15,11 +15,6 @@ use Rattle.pieces.proofs.CellsFirst.{cell-before}
 use Rattle.pieces.proofs.PartsOfPieces.{first-inside, rest-inside}
 
 module _ (m n : ℕ) (q : Piece) (i : Inside m n q) where
-  pub reach-pos : (d : Direction) → 1 ≤ reach d q
-  unfolding reach
-  reach-pos Across = i .wide
-  reach-pos Down = i .tall
-
   pub reach-small : (d : Direction) (top : ℕ) → m ≤ top → n ≤ top → reach d q ≤ top
   unfolding reach
   reach-small Across top hm hn = omega arith

@@ -70,7 +70,7 @@ module _ (book sheet entries numbers : List ℕ) (fine : Accepted book sheet) (r
             record { accepts = λ _. record { answered = refl; nodes = nodes; given = given; written = refl }; declines = λ n. absurd (n x); holds = refl };
       })
 
-  -- a derived sheet is accepted, with the derivation given: so 14 is never answered of it
+  -- a derived sheet is accepted, with the derivation given
   pub derived-accepted : Member b p → Accepts b p numbers outcome-of
   derived-accepted x = told .accepts x
 

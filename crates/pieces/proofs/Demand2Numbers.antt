@@ -17,7 +17,6 @@ use Rattle.books.proofs.ReadingSheets.{sheet-refused}
 use Rattle.pieces.specs.Derivation.{Derivation, entriesNeeded, numbersNeeded, derivation, Leaves, LeavesPacked}
 use Rattle.pieces.proofs.DerivationAnswers.{derivation-packs}
 use Rattle.pieces.proofs.Endings.{contents, shown, Accepted, Roomy, derivation-ends}
-use Rattle.pieces.proofs.Demand1.{dv-derive-called}
 
 neither : {A B : Type 0} → (A → ⊥) → (B → ⊥) → A ↔ B
 neither f g = (λ a. absurd (f a), λ b. absurd (g b))
@@ -102,10 +101,6 @@ module _ (book sheet entries numbers : List ℕ) where
   pub dv-derive-numbers : {r : ℕ} {w t : List ℕ} → LeavesPacked (derivation book sheet entries numbers) r w t → Numbers (r % 2 ^ 8)
   dv-derive-numbers left =
       rw (left .answers, apart (derivation book sheet entries numbers .answer) 0 (derivation-packs book sheet entries numbers) .number-is) numbered
-
-  -- 14 is a guard that no book and no sheet meet
-  pub never-14 : {r : ℕ} {w t : List ℕ} → LeavesPacked (derivation book sheet entries numbers) r w t → r % 2 ^ 8 ≡ 14 → ⊥
-  never-14 left e = omega (arith, dv-derive-called book sheet entries numbers left .answered .listed, e)
 
   -- the two calls do the same
   pub alike : {a : Answer} {r : ℕ} {w v t u : List ℕ} → let d = derivation book sheet entries numbers in

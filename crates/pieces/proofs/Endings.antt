@@ -1,4 +1,4 @@
--- The six ways in which a derivation ends: what holds of each holds of every derivation. A derived sheet has a tree, so that 14 is none of them.
+-- The six ways in which a derivation ends: what holds of each holds of every derivation.
 use Prim.Native.Nat.{ℕ, _≤_, _<_}
 use mathlib.Core.Path.{_≡_}
 use mathlib.Core.List.{List, _++_}
@@ -17,7 +17,8 @@ use Rattle.books.specs.Sheet.{sheetOf}
 use Rattle.books.specs.Answer.{answer, plain}
 use Rattle.books.proofs.Deciding.{decided, refused}
 use Rattle.pieces.specs.Given.{Given}
-use Rattle.pieces.specs.Derivation.{Derivation, leaving, entriesNeeded, numbersNeeded, filled, judged, roomed, derivation, outcome}
+use Rattle.pieces.specs.Tree.{tree}
+use Rattle.pieces.specs.Derivation.{Derivation, leaving, entriesNeeded, numbersNeeded, filled, judged, roomed, derivation}
 use Rattle.pieces.proofs.TheTree.{tree-given}
 
 -- what a lent book says, and what a lent sheet shows
@@ -56,13 +57,10 @@ module _ (book sheet entries numbers : List ℕ) where
 
   module _ (P : Derivation → Type 0) (cases : Cases P) where
     by-judging : Accepted book sheet → Roomy p entries numbers → P (judged b p (filled b p entries) numbers)
-    unfolding judged outcome
+    unfolding judged
     by-judging fine room =
         pick-ind P (derives? b (b .start) p) _ _
-        (λ e.
-        let x = decided b (b .start) p .0 e in
-        let (nodes, is, given) = tree-given b p x in
-        rw is (cases .derived fine room x nodes given))
+        (λ e. let x = decided b (b .start) p .0 e in cases .derived fine room x (tree b p) (tree-given b p x))
         (λ e. cases .declined fine room (refused b (b .start) p .0 e))
 
     by-room : Accepted book sheet → P (roomed b p entries numbers)

@@ -1,11 +1,10 @@
--- A work slice that holds the table shows exactly which motifs derive each piece, so that the start's bit at the whole sheet decides, and what the tree writer
--- finds is the derivation given.
+-- A work slice that holds the table shows exactly which motifs derive each piece, so that the start's bit at the whole sheet decides; where it is set a rule fits
+-- at every node of the tree, and what the tree writer writes is the derivation given.
 use Prim.Native.Nat.{ℕ, _+_, _*_, _≤_, _<_}
-use mathlib.Core.Path.{_≡_, refl, sym, ap, _∙_, subst}
+use mathlib.Core.Path.{_≡_, sym, ap, _∙_, subst}
 use mathlib.Core.Bool.{true, false}
-use mathlib.Core.List.{List}
+use mathlib.Core.List.{List, _++_}
 use mathlib.Core.Logic.{⊎-elim}
-use mathlib.Core.Option.{Option, some, none}
 use native.Mathlib.Omega.{arith}
 use borrow.Author.Tests.{eqb-false, lt-ltb, le-ltb}
 use native.Mathlib.Decide.{decLt}
@@ -19,9 +18,7 @@ use Rattle.names.proofs.Finding.{find-listed}
 use Rattle.books.specs.Contents.{Contents}
 use Rattle.books.specs.Picture.{Picture}
 use Rattle.books.specs.Derives.{Derives}
-use Rattle.books.specs.Decide.{derives?}
 use Rattle.books.specs.Answer.{plain}
-use Rattle.books.specs.declared.answer.Answer.{Answer}
 use Rattle.books.specs.ContentsIn.{contentsIn, gridIn}
 use Rattle.books.specs.Grid.{picture}
 use Rattle.books.specs.declared.family.Family.{Family}
@@ -34,15 +31,17 @@ use Rattle.pieces.specs.Table.{bit, cut, entry, table}
 use Rattle.pieces.specs.inner.Seen.{sized, hasBit, seen}
 use Rattle.pieces.proofs.ExactViews.{Exact}
 use Rattle.pieces.specs.Tree.{treeOf}
+use Rattle.pieces.specs.inner.Fitted.{Fitted}
 use Rattle.pieces.specs.inner.Settled.{TableMade}
 use Rattle.pieces.specs.inner.Verdict.{Verdict, verdict, lacking}
-use Rattle.pieces.specs.Derivation.{Derivation, leaving, entriesNeeded, numbersNeeded, filled, treeAnswer, judged, roomed, outcome}
+use Rattle.pieces.specs.Derivation.{leaving, entriesNeeded, numbersNeeded, filled, judged, roomed}
 use Rattle.pieces.proofs.Entries.{derives-entry}
 use Rattle.pieces.proofs.Slots.{length-pieces, slot-lt, getD-slot}
 use Rattle.pieces.proofs.CellsFirst.{cell-before}
 use Rattle.pieces.proofs.TableEntries.{getD-map}
 use Rattle.pieces.proofs.Cutting.{whole-inside, cut-whole}
 use Rattle.pieces.proofs.ExactViews.{seen-exact}
+use Rattle.pieces.proofs.EveryNode.{exact-fitted}
 use Rattle.pieces.proofs.TheTree.{exact-tree}
 use Rattle.pieces.proofs.WholeTable.{AsRead, Numbered, book-colours, cell-name, whole-table}
 
@@ -81,15 +80,6 @@ module _ (b : Contents) (p : Picture) (work : List ℕ) (h : Holds b p work) whe
 
 -- ── The tests that the code makes ──
 
-plain-number : (t : Option (List ℕ)) → treeAnswer t ≡ plain (treeAnswer t .number)
-plain-number (some xs) = refl
-plain-number none = refl
-
--- judging leaves the table as it is
-pub judged-entries : (b : Contents) (p : Picture) (entries numbers : List ℕ) → entries ≡ judged b p entries numbers .entries
-unfolding judged
-judged-entries b p entries numbers = pick-ind (λ (d : Derivation). entries ≡ d .entries) (derives? b (b .start) p) _ _ (λ _. refl) (λ _. refl)
-
 module _ {book : List ℕ} {f : Family} {bytes : List ℕ} {g : Sheet} (given : AsRead book f bytes g) (work : List ℕ)
     (holds : Holds (contentsIn book f) (picture (gridIn bytes g)) work) where
   abbrev b : Contents
@@ -97,6 +87,9 @@ module _ {book : List ℕ} {f : Family} {bytes : List ℕ} {g : Sheet} (given : 
 
   abbrev p : Picture
   p = picture (gridIn bytes g)
+
+  whole-in : Inside (g .rows) (g .cols) (whole (g .rows) (g .cols))
+  whole-in = let k = given .sheet-keeps in whole-inside (g .rows) (g .cols) (k .rows-some) (k .cols-some)
 
   module _ (numbers : List ℕ) (numbered : Numbered book f bytes g numbers) where
     exact : Exact b p (seen (sized (g .rows) (g .cols)) work numbers)
@@ -106,14 +99,18 @@ module _ {book : List ℕ} {f : Family} {bytes : List ℕ} {g : Sheet} (given : 
         ∙ (find-listed book (f .colours) _ (book-colours given) ∙ ap (listed (namesIn book (f .colours))) (sym (cell-name given i j hi hj))))
 
     starts : hasBit (sized (g .rows) (g .cols)) work (f .start) (whole (g .rows) (g .cols)) ≡ true → Derives b (f .start) p
-    starts e =
-        let k = given .sheet-keeps in
-        subst (Derives b (f .start)) (cut-whole p) (exact .has-exact (f .start) (whole (g .rows) (g .cols)) (whole-inside (g .rows) (g .cols) (k .rows-some) (k .cols-some)) .0 e)
+    starts e = subst (Derives b (f .start)) (cut-whole p) (exact .has-exact (f .start) (whole (g .rows) (g .cols)) whole-in .0 e)
+
+    -- Where the work slice holds the table of the sheet and the start motif's bit of the whole sheet is set, at every node of the tree a rule with that head fits: a
+    -- colour rule for the cell, or a join with a cut whose two parts have their bits set.
+    pub every-node-fits : hasBit (sized (g .rows) (g .cols)) work (f .start) (whole (g .rows) (g .cols)) ≡ true
+        → Fitted (seen (sized (g .rows) (g .cols)) work numbers) (take (f .count) (f .rules)) (f .start) (whole (g .rows) (g .cols))
+    every-node-fits e = exact-fitted b p (seen (sized (g .rows) (g .cols)) work numbers) exact (f .start) (whole (g .rows) (g .cols)) whole-in e
 
     -- where the start has its bit, the tree that is found is the derivation given
     judged-by-tree : (entries tree-slice : List ℕ) → hasBit (sized (g .rows) (g .cols)) work (f .start) (whole (g .rows) (g .cols)) ≡ true
         → let t = treeOf (seen (sized (g .rows) (g .cols)) work numbers) (take (f .count) (f .rules)) (f .start) (whole (g .rows) (g .cols)) in
-        judged b p entries tree-slice ≡ record { answer = treeAnswer t; entries = entries; numbers = outcome (numbersNeeded p) tree-slice t }
+        judged b p entries tree-slice ≡ record { answer = plain 0; entries = entries; numbers = t ++ drop (length t) tree-slice }
     unfolding judged
     judged-by-tree entries tree-slice e =
         let x = starts e in
@@ -123,9 +120,8 @@ module _ {book : List ℕ} {f : Family} {bytes : List ℕ} {g : Sheet} (given : 
   not-derived : hasBit (sized (g .rows) (g .cols)) work (f .start) (whole (g .rows) (g .cols)) ≡ false → Derives b (f .start) p → ⊥
   unfolding hasBit
   not-derived e x =
-      let k = given .sheet-keeps in
       let sheet = whole (g .rows) (g .cols) in
-      let entered = held-entry b p work holds sheet (whole-inside (g .rows) (g .cols) (k .rows-some) (k .cols-some)) in
+      let entered = held-entry b p work holds sheet whole-in in
       let set = derives-entry b (cut p sheet) (f .start) (given .book-keeps .sound .start-fits) (subst (Derives b (f .start)) (sym (cut-whole p)) x) in
       eqb-false (bit (getD work (slotOf (g .rows) (g .cols) sheet) 0) (f .start)) 1 e (ap (λ (n : ℕ). bit n (f .start)) entered ∙ set)
 
@@ -146,9 +142,7 @@ module _ {book : List ℕ} {f : Family} {bytes : List ℕ} {g : Sheet} (given : 
       pick-ind
       (λ (v : Verdict). judged b p entries tree-slice ≡ record { answer = plain (v .number); entries = entries; numbers = v .numbers })
       (hasBit (sized (g .rows) (g .cols)) work (f .start) (whole (g .rows) (g .cols))) _ _
-      (λ e. let t = treeOf (seen (sized (g .rows) (g .cols)) work numbers) (take (f .count) (f .rules)) (f .start) (whole (g .rows) (g .cols)) in
-      judged-by-tree numbers numbered entries tree-slice e
-      ∙ ap (λ (a : Answer). record { answer = a; entries = entries; numbers = outcome (numbersNeeded p) tree-slice t }) (plain-number t))
+      (λ e. judged-by-tree numbers numbered entries tree-slice e)
       (λ e. judged-none entries tree-slice e)
 
 -- A table that was made is judged as the definition has it.
@@ -164,6 +158,13 @@ module _ {book : List ℕ} {f : Family} {bytes : List ℕ} {g : Sheet} (given : 
   is-filled : after ≡ filled contents sheet-picture before
   is-filled = whole-table given cells numbered before after made same enough
 
+  after-holds : Holds contents sheet-picture after
+  after-holds = subst (Holds contents sheet-picture) (sym is-filled) (filled-holds contents sheet-picture before)
+
+  pub made-fits : hasBit (sized (g .rows) (g .cols)) after (f .start) (whole (g .rows) (g .cols)) ≡ true
+      → Fitted (seen (sized (g .rows) (g .cols)) after cells) (take (f .count) (f .rules)) (f .start) (whole (g .rows) (g .cols))
+  made-fits e = every-node-fits given after after-holds cells numbered e
+
   pub judged-made : judged contents sheet-picture (filled contents sheet-picture before) tree-slice
       ≡ record {
         answer = plain (verdict (seen (sized (g .rows) (g .cols)) after cells) (take (f .count) (f .rules)) (f .start) (whole (g .rows) (g .cols)) tree-slice .number);
@@ -172,7 +173,7 @@ module _ {book : List ℕ} {f : Family} {bytes : List ℕ} {g : Sheet} (given : 
       }
   judged-made =
       ap (λ (w : List ℕ). judged contents sheet-picture w tree-slice) (sym is-filled)
-      ∙ judged-told given after (subst (Holds contents sheet-picture) (sym is-filled) (filled-holds contents sheet-picture before)) cells numbered after tree-slice
+      ∙ judged-told given after after-holds cells numbered after tree-slice
 
 -- ── The room ──
 

@@ -28,6 +28,7 @@ pub mod Writing
 pub mod LentRules
 pub mod Nodes
 pub mod Giving
+pub mod EveryNode
 pub mod TreeGiven
 pub mod ExactViews
 pub mod TheTree

@@ -2,6 +2,7 @@
 -- and the sheet say.
 use Prim.Native.Nat.{ℕ, _*_, _≤_, _<_}
 use mathlib.Core.Path.{_≡_, sym, ap, _∙_}
+use mathlib.Core.Bool.{true}
 use mathlib.Core.List.{List}
 use mathlib.Core.Logic.{⊎-elim}
 use native.Mathlib.Omega.{arith}
@@ -24,15 +25,16 @@ use Rattle.books.proofs.Ordering.{numbers-all, order-fine, order-faulty}
 use Rattle.books.proofs.ReadingSheets.{sheet-lies}
 use Rattle.pieces.specs.Area.{whole}
 use Rattle.pieces.specs.Derivation.{leaving, derivation}
+use Rattle.pieces.specs.inner.Fitted.{Fitted}
 use Rattle.pieces.specs.inner.Layout.{colourMasks}
 use Rattle.pieces.specs.inner.Painted.{SmallRules}
 use Rattle.pieces.specs.inner.Room.{Room}
 use Rattle.pieces.specs.inner.Settled.{TableMade}
 use Rattle.pieces.specs.inner.Verdict.{Verdict, verdict, lacking}
-use Rattle.pieces.specs.inner.Seen.{sized, seen}
+use Rattle.pieces.specs.inner.Seen.{sized, hasBit, seen}
 use Rattle.pieces.proofs.AcceptedInputs.{as-read as inputs-read, cells-numbered}
 use Rattle.pieces.proofs.DerivationAnswers.{book-first, sheet-second, then-room}
-use Rattle.pieces.proofs.Judging.{judged-made, nothing-lacks, roomed-short, roomed-enough}
+use Rattle.pieces.proofs.Judging.{made-fits, judged-made, nothing-lacks, roomed-short, roomed-enough}
 use Rattle.pieces.proofs.WholeTable.{AsRead, Numbered, room, read-rules, numbers-low}
 
 -- what the table and the tree ask of an order
@@ -46,6 +48,12 @@ pub record Ordered (o : Order) : Type 0 where
 -- what a table tells of an order
 abbrev pub tells : Order → List ℕ → List ℕ → Verdict
 tells o entries numbers = verdict (seen (sized (o .rows) (o .cols)) entries (o .cells)) (take (o .count) (o .rules)) (o .start) (whole (o .rows) (o .cols)) numbers
+
+-- where the start motif of an order has its bit of the whole sheet, at every node of the tree a rule fits
+abbrev pub NodesFit : Order → List ℕ → Type 0
+NodesFit o entries =
+    hasBit (sized (o .rows) (o .cols)) entries (o .start) (whole (o .rows) (o .cols)) ≡ true
+    → Fitted (seen (sized (o .rows) (o .cols)) entries (o .cells)) (take (o .count) (o .rules)) (o .start) (whole (o .rows) (o .cols))
 
 -- ── A book and a sheet that are accepted ──
 
@@ -92,6 +100,11 @@ module _ (book sheet : List ℕ) (bytes-book : Bytes book) (bytes-sheet : Bytes 
         → derivation book sheet entries numbers ≡ leaving (plain (lacking (g .rows) (g .cols) (length entries) (length numbers))) entries numbers
     answer-lacks n = then-room book sheet entries numbers (accepted .0) (accepted .1) ∙ roomed-short contents grid entries numbers n
 
+    nodes-fit : lacking (g .rows) (g .cols) (length entries) (length numbers) ≡ 0 → (after : List ℕ)
+        → TableMade (f .rules) (f .count) numbers-of-cells (g .rows) (g .cols) entries after → length entries ≡ length after → NodesFit (orderOf book sheet) after
+    unfolding orderOf
+    nodes-fit z after made same = made-fits as-read numbers-of-cells entries after numbered made same (nothing-lacks _ _ _ _ z .0) numbers
+
     answer-told : lacking (g .rows) (g .cols) (length entries) (length numbers) ≡ 0 → (after : List ℕ)
         → TableMade (f .rules) (f .count) numbers-of-cells (g .rows) (g .cols) entries after → length entries ≡ length after
         → derivation book sheet entries numbers
@@ -123,6 +136,12 @@ module _ (book sheet : List ℕ) {o : Order} (read : o ≡ orderOf book sheet) w
       pub lacks : (lack ≡ 0 → ⊥) → derivation book sheet entries numbers ≡ leaving (plain lack) entries numbers
       unfolding orderOf
       lacks n = rw read (answer-lacks book sheet bytes-book bytes-sheet (rw read at fine) entries numbers (rw read at n))
+
+      pub fit : lack ≡ 0 → (after : List ℕ) → TableMade (o .rules) (o .count) (o .cells) (o .rows) (o .cols) entries after → length entries ≡ length after
+          → NodesFit o after
+      unfolding orderOf
+      fit z after made same =
+          rw read (nodes-fit book sheet bytes-book bytes-sheet (rw read at fine) entries numbers (rw read at z) after (rw read at made) same)
 
       pub told : lack ≡ 0 → (after : List ℕ) → TableMade (o .rules) (o .count) (o .cells) (o .rows) (o .cols) entries after → length entries ≡ length after
           → derivation book sheet entries numbers

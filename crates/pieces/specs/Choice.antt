@@ -4,7 +4,6 @@ use mathlib.Core.Bool.{Bool, true, false}
 use mathlib.Core.List.{List}
 use lib.Dec.{eqb, ltb}
 use lib.ListN.{length, getD}
-use Rattle.names.specs.Pick.{pick}
 use Rattle.books.specs.Decide.{andThen}
 use Rattle.books.specs.declared.rule.Rule.{Rule}
 use Rattle.books.specs.declared.rule.Body.{Body}
@@ -13,7 +12,7 @@ use Rattle.pieces.specs.declared.piece.Piece.{Piece}
 use Rattle.pieces.specs.declared.part.Direction.{Direction}
 use Rattle.pieces.specs.declared.part.Direction.the-variants.{Across, Down}
 use Rattle.pieces.specs.declared.choice.Choice.{Choice}
-use Rattle.pieces.specs.declared.choice.Choice.the-variants.{NoRule, Leaf, Join}
+use Rattle.pieces.specs.declared.choice.Choice.the-variants.{Leaf, Join}
 use Rattle.pieces.specs.Direction.{reach, front, back}
 use Rattle.books.specs.Rules.{noRule}
 use Rattle.pieces.specs.View.{View}
@@ -61,6 +60,6 @@ chosen has q i (Colour c) = Leaf i
 chosen has q i (AcrossBody l r) = joinWith has q i Across l r
 chosen has q i (DownBody u w) = joinWith has q i Down u w
 
+-- asked only where some rule is taken
 unfoldable pub choose : View → List Rule → ℕ → Piece → Choice
-choose v rules a q =
-    pick (ltb (lowest v rules a q) (length rules)) (chosen (v .has) q (lowest v rules a q) (getD rules (lowest v rules a q) noRule .body)) NoRule
+choose v rules a q = chosen (v .has) q (lowest v rules a q) (getD rules (lowest v rules a q) noRule .body)

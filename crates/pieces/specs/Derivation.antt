@@ -2,9 +2,8 @@
 use Prim.Native.Nat.{ℕ}
 use mathlib.Core.Path.{_≡_}
 use mathlib.Core.List.{List, _++_}
-use mathlib.Core.Option.{Option, some, none}
 use lib.Dec.{eqb, ltb}
-use lib.ListN.{length, drop, replicate}
+use lib.ListN.{length, drop}
 use Rattle.names.specs.Pick.{pick}
 use Rattle.books.specs.Contents.{Contents}
 use Rattle.books.specs.Picture.{Picture}
@@ -40,22 +39,12 @@ numbersNeeded p = treeSize (whole (p .rows) (p .cols))
 abbrev pub filled : Contents → Picture → List ℕ → List ℕ
 filled b p entries = table b p ++ drop (entriesNeeded p) entries
 
--- there is a derivation, or at some node no rule fits
-abbrev pub treeAnswer : Option (List ℕ) → Answer
-treeAnswer (some xs) = plain 0
-treeAnswer none = plain 14
-
--- what stands in the end in a slice that was lent for so many numbers: the tree, or as many zeros; the slice beyond is as it was
-unfoldable pub outcome : ℕ → List ℕ → Option (List ℕ) → List ℕ
-outcome room s (some xs) = xs ++ drop (length xs) s
-outcome room s none = replicate room 0 ++ drop room s
-
--- with the table written: 11 where the start motif does not derive the picture, and else the derivation given, which `tree` computes: read `Given` of
--- Given.antt for it, since they are the same (`tree-given` in proofs/TheTree.antt), so that 14 is never answered (`derived-accepted` in proofs/Demand2.antt)
+-- with the table written: 11 where the start motif does not derive the picture, and else the derivation given, with the slice beyond as it was; `tree` computes
+-- it: read `Given` of Given.antt for it, since they are the same (`tree-given` in proofs/TheTree.antt)
 unfoldable pub judged : Contents → Picture → List ℕ → List ℕ → Derivation
 judged b p entries numbers =
     pick (derives? b (b .start) p)
-    (record { answer = treeAnswer (tree b p); entries = entries; numbers = outcome (numbersNeeded p) numbers (tree b p) })
+    (record { answer = plain 0; entries = entries; numbers = tree b p ++ drop (length (tree b p)) numbers })
     (leaving (plain 11) entries numbers)
 
 -- 9 where the work slice is too short, 10 where the tree slice is

@@ -4,7 +4,7 @@ pub mod NextTo
 pub mod Seen
 pub mod PartsOf
 pub mod Lent
-pub mod Offered
+pub mod Fitted
 pub mod Course
 pub mod Firing
 pub mod Masks

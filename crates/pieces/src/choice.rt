@@ -11,15 +11,14 @@ use crate::piece::times;
 ghost use mathlib.Core.Path.{_≡_};
 ghost use Prim.Native.Nat.{_*_, _≤_};
 ghost use lib.ListN.{length};
-ghost use Rattle.pieces.specs.Choice.{covers, cutOf, choose};
+ghost use Rattle.pieces.specs.Choice.{covers, cutOf, fits, lowest, chosen, choose};
 ghost use Rattle.pieces.specs.inner.Room.{Room};
-ghost use Rattle.pieces.specs.inner.Lent.{ruleFrom, rulesFrom};
+ghost use Rattle.pieces.specs.inner.Fitted.{RuleFits};
+ghost use Rattle.pieces.specs.inner.Lent.{ruleFrom, rulesFrom, directionOf};
 ghost use Rattle.pieces.specs.inner.Seen.{On, Tabled, Ready, hasBit, hasColour, seen};
-ghost use Rattle.pieces.specs.inner.Offered.{directionOf, offered};
 
-// Nothing, since no rule fits; a colour rule, by its number; or a join, by its number, direction, cut and the motifs of its two parts.
+// A colour rule, by its number; or a join, by its number, direction, cut and the motifs of its two parts.
 pub(crate) enum Choice {
-    NoRule,
     Leaf(usize),
     Join(usize, Direction, usize, u8, u8),
 }
@@ -64,41 +63,56 @@ fn direction(kind: u8) -> Direction
     Direction::Down
 }
 
-// What a rule offers, by its number and its bytes: a colour where the piece is one cell of it, a join where a cut works; else nothing.
-fn offer(work: &[u32], colours: &[u8], size: Size, p: Piece, i: usize, rule: [u8; 4]) -> Choice
+// Whether a rule's body fits a piece, by the rule's bytes: a colour where the piece is one cell of it, a join where a cut works.
+fn rule_fits(work: &[u32], colours: &[u8], size: Size, p: Piece, rule: [u8; 4]) -> bool
     requires { ⌜ Ready size (now work) (now colours) × On size p ⌝ }
-    ensures { λ x. ⌜ x ≡ offered (seen size (now (work .entry)) (now (colours .entry))) p i (ruleFrom rule .body) ⌝ }
+    ensures { λ x. ⌜ x ≡ fits (seen size (now (work .entry)) (now (colours .entry))) p (ruleFrom rule .body) ⌝ }
 {
     if rule[1] == 0 {
-        if covers(colours, size, p, rule[2]) {
-            return Choice::Leaf(i);
-        }
-        return Choice::NoRule;
+        return covers(colours, size, p, rule[2]);
     }
     let d = direction(rule[1]);
-    let k = smallest_cut(work, size, p, d, rule[2], rule[3]);
-    if k < reach(p, d) {
-        return Choice::Join(i, d, k, rule[2], rule[3]);
-    }
-    Choice::NoRule
+    smallest_cut(work, size, p, d, rule[2], rule[3]) < reach(p, d)
 }
 
-// The rules are tried in their order: the first with the motif for its head that offers something is taken.
-pub(crate) fn choose(rules: &[[u8; 4]], work: &[u32], colours: &[u8], size: Size, x: Part) -> Choice
+// The rules are tried in their order: the first that has the motif for its head and fits, or the number of the rules where none does.
+fn lowest_rule(rules: &[[u8; 4]], work: &[u32], colours: &[u8], size: Size, x: Part) -> usize
     requires { ⌜ Ready size (now work) (now colours) × On size (x .piece) ⌝ }
-    ensures { λ o. ⌜ o ≡ choose (seen size (now (work .entry)) (now (colours .entry))) (rulesFrom (now (rules .entry))) (x .motif) (x .piece) ⌝ }
+    ensures { λ i. ⌜ i ≡ lowest (seen size (now (work .entry)) (now (colours .entry))) (rulesFrom (now (rules .entry))) (x .motif) (x .piece) ⌝ }
 {
     let mut i = 0;
     while i < rules.len() {
         let rule = rules[i];
         if rule[0] == x.motif {
-            let choice = offer(work, colours, size, x.piece, i, rule);
-            match choice {
-                Choice::NoRule => {}
-                _ => return choice,
+            if rule_fits(work, colours, size, x.piece, rule) {
+                return i;
             }
         }
         i += 1;
     }
-    Choice::NoRule
+    i
+}
+
+// What a rule gives at a piece, by its number and its bytes: itself where it is a colour rule, and a join with its smallest cut.
+fn chosen(work: &[u32], size: Size, p: Piece, i: usize, rule: [u8; 4]) -> Choice
+    requires { ⌜ Tabled size (now work) × On size p ⌝ }
+    ensures { λ o. ⌜ o ≡ chosen (hasBit size (now (work .entry))) p i (ruleFrom rule .body) ⌝ }
+{
+    if rule[1] == 0 {
+        return Choice::Leaf(i);
+    }
+    let d = direction(rule[1]);
+    let k = smallest_cut(work, size, p, d, rule[2], rule[3]);
+    Choice::Join(i, d, k, rule[2], rule[3])
+}
+
+// What is taken at a piece where a rule fits: the lowest rule that does, so that there is one.
+pub(crate) fn choose(rules: &[[u8; 4]], work: &[u32], colours: &[u8], size: Size, x: Part) -> Choice
+    requires { ⌜ Ready size (now work) (now colours) × On size (x .piece) ⌝ }
+    requires { ⌜ RuleFits (seen size (now work) (now colours)) (rulesFrom (now rules)) (x .motif) (x .piece) ⌝ }
+    ensures { λ o. ⌜ o ≡ choose (seen size (now (work .entry)) (now (colours .entry))) (rulesFrom (now (rules .entry))) (x .motif) (x .piece) ⌝ }
+{
+    let i = lowest_rule(rules, work, colours, size, x);
+    let rule = rules[i];
+    chosen(work, size, x.piece, i, rule)
 }

@@ -8,6 +8,8 @@ use Rattle.books.specs.Rules.{joinBody}
 use Rattle.books.specs.declared.rule.Rule.{Rule}
 use Rattle.books.specs.declared.rule.Body.{Body}
 use Rattle.books.specs.declared.rule.Body.the-variants.{Colour, Across, Down}
+use Rattle.pieces.specs.declared.part.Direction.{Direction}
+use Rattle.pieces.specs.declared.part.Direction.the-variants.{Across as AcrossOf, Down as DownOf}
 
 abbrev pub bodied : ℕ → Body → List ℕ
 bodied head (Colour c) = head ∷ 0 ∷ c ∷ 0 ∷ []
@@ -27,3 +29,7 @@ ruleFrom x =
 
 abbrev pub rulesFrom : List (List ℕ) → List Rule
 rulesFrom rows = map ruleFrom rows
+
+-- the direction of a join, by its kind
+unfoldable pub directionOf : ℕ → Direction
+directionOf kind = pick (eqb kind 1) AcrossOf DownOf

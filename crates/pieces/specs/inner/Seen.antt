@@ -1,4 +1,4 @@
--- What the code sees of a sheet of a size: the bits of a table, whatever it holds, and the numbers that the cells' colours have in the book.
+-- What the code sees of a sheet of a size: the bits of a table, and the numbers that the cells' colours have in the book.
 use Prim.Native.Nat.{ℕ, _+_, _*_, _≤_}
 use mathlib.Core.Bool.{Bool}
 use mathlib.Core.List.{List}

@@ -6,14 +6,14 @@ use denote.Ref.{now}
 use borrow.Author.Needs.{needs}
 use Rattle.pieces.specs.inner.Seen.{hasBit}
 use Rattle.pieces.specs.Choice.{least, works, cutOf}
-use Rattle.pieces.proofs.Cutting.{reach-pos, front-inside, back-inside}
+use Rattle.pieces.proofs.Cutting.{front-inside, back-inside}
 use Rattle.pieces.proofs.Least.{least-found, least-passed, least-none}
 use Rattle.pieces.proofs.choice.smallest_cut.Statement.{statement}
 use Rattle.pieces.proofs.choice.smallest_cut.Tie as tie
 
 abbrev Inv-loop : tie.InvT-loop
 Inv-loop work size p d l r end k₀ k =
-    (1 ≤ k) × (k ≤ end) × (least (works (hasBit size work) d l r p) k (end - k) ≡ cutOf (hasBit size work) d l r p)
+    (1 ≤ k) × (least (works (hasBit size work) d l r p) k (end - k) ≡ cutOf (hasBit size work) d l r p)
 
 abbrev μ-loop : tie.MeasureT-loop
 μ-loop work size p d l r end k₀ k = end - k
@@ -24,9 +24,7 @@ began t = t .before .before .before
 
 loop-holds : tie.Need-loop-holds Inv-loop μ-loop
 unfolding cutOf
-loop-holds c =
-    let far = c .reach .ensures in
-    (search needs, rw far (reach-pos _ _ _ (c .before .before .pre .1) _), rw far)
+loop-holds c = (search needs, rw (c .reach .ensures))
 
 parts-of-requires : tie.Need-parts-of-requires Inv-loop μ-loop
 parts-of-requires c κs =
@@ -52,17 +50,17 @@ tried t = rw (t .before .parts-of .ensures) at (t .both-have .ensures)
 returns : tie.Need-returns Inv-loop μ-loop
 returns c =
     let t = c .before .before .before in
-    sym (least-found _ _ _ (t .loop-test .taken) (sym (tried (c .before)) ∙ c .if1 .taken)) ∙ t .before .loop .inv .2
+    sym (least-found _ _ _ (t .loop-test .taken) (sym (tried (c .before)) ∙ c .if1 .taken)) ∙ t .before .loop .inv .1
 
 loop-again : tie.Need-loop-again Inv-loop μ-loop
 loop-again c =
     let t = c .before .before .before in
     let inside = t .loop-test .taken in
     let inv = t .before .loop .inv in
-    (omega (arith, inv .0), omega (arith, inside), sym (least-passed _ _ _ inside (sym (tried (c .before)) ∙ c .if1 .left)) ∙ inv .2)
+    (omega (arith, inv .0), sym (least-passed _ _ _ inside (sym (tried (c .before)) ∙ c .if1 .left)) ∙ inv .1)
 
 returns-2 : tie.Need-returns-2 Inv-loop μ-loop
-returns-2 c = sym (least-none _ _ _ (c .loop-test .left)) ∙ c .before .loop .inv .2
+returns-2 c = sym (least-none _ _ _ (c .loop-test .left)) ∙ c .before .loop .inv .1
 
 pub smallest-cut-spec : {M : Type 1} → statement M
 smallest-cut-spec =

@@ -9,7 +9,7 @@ use Rattle.books.specs.Answer.{plain}
 use Rattle.pieces.specs.Area.{whole, treeSize}
 use Rattle.pieces.specs.Pieces.{total}
 use Rattle.pieces.proofs.Judging.{nothing-lacks}
-use Rattle.pieces.proofs.Orders.{Ordered, refused, ordered, lacks, told}
+use Rattle.pieces.proofs.Orders.{Ordered, refused, ordered, lacks, fit, told}
 use borrow.Author.Needs.{needs}
 use Rattle.pieces.proofs.derive.derive.Statement.{statement}
 use Rattle.pieces.proofs.derive.derive.Tie as tie
@@ -84,7 +84,13 @@ judge-requires c κs =
     let o = kept l in
     let room = enough l (nothing t) in
     let long = le-trans (room .0) (le-of-eq (sym (t .fill-table .kept .1 .1 .1 .1 .1 .0))) in
-    (o .rules-small .few, record { tabled = record { sizes = o .sizes; entries = long }; cells = o .cells-all }, room .1)
+    let k = order-read l in
+    let a = began k .args in
+    let none = sym (l .lack .ensures) ∙ nothing t in (
+      (o .rules-small .few, record { tabled = record { sizes = o .sizes; entries = long }; cells = o .cells-all }, room .1),
+      fit _ _ (k .read-order .ensures) (book-bytes k) (sheet-bytes k) (l .before .if1 .left) (now (a .work)) (now (a .tree)) none _ (t .fill-table .ensures)
+          (sym (t .fill-table .kept .1 .1 .1 .1 .1 .0)),
+    )
 
 returns-3 : tie.Need-returns-3
 returns-3 c =

@@ -1,21 +1,22 @@
 -- A piece's tree is its node and the trees of its two parts, the second behind the first. The measure is twice the piece's area: the parts
 -- have one less than the piece, and each part has less than both together.
 use Prim.Native.Nat.{ℕ, _+_, _-_, _*_, _≤_, _<_}
-use mathlib.Core.Path.{refl}
+use mathlib.Core.Path.{_≡_}
 use native.Mathlib.Omega.{arith}
 use lib.ListN.{length, length-map}
 use denote.Ref.{now}
 use borrow.Author.Needs.{needs}
 use borrow.Fn.Kinds.{In}
 use borrow.Fn.PlainCycle.{Measures, is, falls, and}
-use Rattle.pieces.specs.declared.choice.Choice.the-variants.{NoRule}
 use Rattle.pieces.specs.Area.{area}
 use Rattle.pieces.specs.inner.Lent.{ruleFrom, rulesFrom}
-use Rattle.pieces.specs.inner.TreeWrote.{TreeWrote}
+use Rattle.pieces.specs.inner.Seen.{seen}
+use Rattle.pieces.specs.inner.TreeWrote.{partRoom, partTree}
+use Rattle.pieces.specs.inner.Fitted.{own}
 use Rattle.pieces.proofs.Cutting.{area-pos}
 use Rattle.pieces.proofs.TreeSteps.{tree-length}
 use Rattle.pieces.proofs.Nodes.{Chose, JoinFits, room-some, leaf-small, join-fits, tree-of}
-use Rattle.pieces.proofs.Writing.{wrote-node, wrote-stop, wrote-next, wrote-both}
+use Rattle.pieces.proofs.Writing.{wrote-on}
 use Rattle.pieces.proofs.tree.+pick_node+write_parts.{statement}
 use Rattle.pieces.proofs.tree.+pick_node+write_parts.Tie.{close}
 use Rattle.pieces.proofs.tree.pick_node.Reads as pick-node
@@ -80,10 +81,10 @@ module _ (t : ℕ) where
       let g = node k .pre .1 in
       let a = node k .args in
       let long = length-map (now (a .rules)) ruleFrom in
-      record { ready = g .0 .0; in-sheet = g .1 .0; few = omega (arith, long, g .0 .1); choice = k .choose .ensures }
+      record { ready = g .0 .0; in-sheet = g .1 .0 .0; few = omega (arith, long, g .0 .1); fitted = g .1 .1; choice = k .choose .ensures }
 
   room : (k : Choosing) → let a = node k .args in a .at + 2 ≤ length (now (a .tree))
-  room k = let g = node k .pre .1 .1 in omega (arith, g .1, room-some _ _ _ (g .0))
+  room k = let g = node k .pre .1 .1 .0 in omega (arith, g .1, room-some _ _ _ (g .0))
 
   -- where a join was chosen: what that means for its node
   abbrev Joining : Type 0
@@ -95,14 +96,14 @@ module _ (t : ℕ) where
   join : (k : Joining) →
       let a = node (choosing k) .args in
       let x = k .before .choice2 .given .0 in
-      JoinFits (a .size .rows) (a .size .cols) (a .x .piece) (x .0) (x .1 .0) (x .1 .1 .0)
+      let y = x .1 .1 .1 in
+      JoinFits (a .size) (now (a .work)) (now (a .colours)) (rulesFrom (now (a .rules))) (a .x .piece) (x .0) (x .1 .0) (x .1 .1 .0) (y .0) (y .1 .0)
   join k = join-fits (known (choosing k)) _ _ _ _ _ (k .before .choice2 .given .1)
 
   pick-node-choose-requires : pick-node-lts.Need-choose-requires (picks t) (pick-node-at t) pick-node.Post
-  pick-node-choose-requires c κs = search needs
-
-  pick-node-enum-told : pick-node-lts.Need-enum-told (picks t) (pick-node-at t) pick-node.Post
-  pick-node-enum-told c = search needs
+  pick-node-choose-requires c κs =
+      let g = c .before .before .before .pre .1 in
+      ((g .0 .0, g .1 .0 .0), g .1 .1 .at-each own)
 
   pick-node-enum-known-choice : pick-node-lts.Need-enum-known-choice (picks t) (pick-node-at t) pick-node.Post
   pick-node-enum-known-choice c = search needs
@@ -111,9 +112,6 @@ module _ (t : ℕ) where
   pick-node-put-node-requires c κs =
       let k = c .before .before .before .before in
       (room k, omega (arith, leaf-small (known k) _ (c .before .before .choice .given .1)), search needs)
-
-  pick-node-add-t19 : pick-node-lts.Need-add-t19 (picks t) (pick-node-at t) pick-node.Post
-  pick-node-add-t19 c = search needs
 
   pick-node-enum-known-choice-2 : pick-node-lts.Need-enum-known-choice-2 (picks t) (pick-node-at t) pick-node.Post
   pick-node-enum-known-choice-2 c = search needs
@@ -127,12 +125,7 @@ module _ (t : ℕ) where
   pick-node-parts-of-requires c κs =
       let k = c .before .before .before .before in
       let g = node (choosing k) .pre .1 in
-      (omega (arith, join k .inside), omega (arith, g .1 .0, g .0 .0 .tabled), omega (arith, g .1 .0, g .0 .0 .tabled))
-
-  pick-node-add-write-parts : pick-node-lts.Need-add-write-parts (picks t) (pick-node-at t) pick-node.Post
-  pick-node-add-write-parts c =
-      let k = choosing (c .before .before .before .before .before .before) in
-      omega (arith, node k .good, room k)
+      (omega (arith, join k .inside), omega (arith, g .1 .0 .0, g .0 .0 .tabled), omega (arith, g .1 .0 .0, g .0 .0 .tabled))
 
   pick-node-write-parts-requires : pick-node-lts.Need-write-parts-requires (picks t) (pick-node-at t) pick-node.Post
   pick-node-write-parts-requires c κs =
@@ -141,86 +134,72 @@ module _ (t : ℕ) where
       let g = s .pre .1 in
       let j = join k in
       let p = j .of-parts in
-      let long = c .before .before .before .before .put-node2 .kept .0 in
-      rw (c .before .parts-of .ensures)
-      (omega (arith, s .pre .0, p), (g .0, (p .front-in, p .back-in, omega (arith, g .1 .1, j .rooms, long))))
-
-  pick-node-returns : pick-node-lts.Need-returns (picks t) (pick-node-at t) pick-node.Post
-  unfolding TreeWrote
-  pick-node-returns c = rw (tree-of (known (c .before .before)) NoRule (c .enum-told .given .1)) (refl, refl)
+      let put = c .before .before .before .before .put-node2 in
+      rw (c .before .parts-of .ensures) (
+        omega (arith, s .pre .0, p),
+        (g .0, ((p .front-in, p .back-in, omega (arith, g .1 .0 .1, j .rooms, put .ensures .next-is, put .kept .0)), (j .front-fitted, j .back-fitted))),
+      )
 
   pick-node-same-length : pick-node-lts.Need-same-length (picks t) (pick-node-at t) pick-node.Post
   pick-node-same-length c = search needs
 
-  pick-node-returns-2 : pick-node-lts.Need-returns-2 (picks t) (pick-node-at t) pick-node.Post
-  unfolding TreeWrote
-  pick-node-returns-2 c =
+  pick-node-returns : pick-node-lts.Need-returns (picks t) (pick-node-at t) pick-node.Post
+  pick-node-returns c =
       let k = c .before .before .before .before in
-      rw (tree-of (known (k .before .before .before)) _ (k .before .choice .given .1)) (refl, c .before .before .put-node .ensures)
+      rw (tree-of (known (k .before .before .before)) _ (k .before .choice .given .1)) (c .before .before .put-node .ensures)
 
   pick-node-same-length-2 : pick-node-lts.Need-same-length-2 (picks t) (pick-node-at t) pick-node.Post
   pick-node-same-length-2 c = search needs
 
-  pick-node-returns-3 : pick-node-lts.Need-returns-3 (picks t) (pick-node-at t) pick-node.Post
-  pick-node-returns-3 c =
+  pick-node-returns-2 : pick-node-lts.Need-returns-2 (picks t) (pick-node-at t) pick-node.Post
+  pick-node-returns-2 c =
       let f = c .before .before .before .before in
       let n = f .before .before .before in
       let k = n .before .before in
       let tree = tree-of (known (choosing k)) _ (k .before .choice2 .given .1) in
       let behind = rw (f .parts-of .ensures) at (c .before .before .write-parts .ensures) in
-      rw (tree, join k .rooms) (wrote-node _ _ _ _ _ _ _ _ _ (room (choosing k)) (n .put-node2 .ensures) behind)
+      rw tree (wrote-on (room (choosing k)) (n .put-node2 .ensures) behind)
 
   -- where the parts begin, both have cells
   abbrev Began : Type 0
   Began = write-parts-lts.Start (parts t) (write-parts-at t) write-parts.Post
 
   cells : (s : Began) → let a = s .args in (1 ≤ area (a .parts .first .piece)) × (1 ≤ area (a .parts .rest .piece))
-  cells s = let g = s .pre .1 .1 in (area-pos _ _ _ (g .0), area-pos _ _ _ (g .1))
+  cells s = let g = s .pre .1 .1 .0 in (area-pos _ _ _ (g .0), area-pos _ _ _ (g .1))
 
-  -- after the first part: where the parts began
-  abbrev began : write-parts-lts.After-pick-node (parts t) (write-parts-at t) write-parts.Post → Began
+  -- after the first part: where the parts began, and how long its tree is
+  abbrev First : Type 0
+  First = write-parts-lts.After-pick-node (parts t) (write-parts-at t) write-parts.Post
+
+  abbrev began : First → Began
   began k = k .before .before .before .before .before
+
+  first-room : (k : First) → let a = began k .args in
+      length (partTree (seen (a .size) (now (a .work)) (now (a .colours))) (rulesFrom (now (a .rules))) (a .parts .first)) ≡ partRoom (a .parts .first)
+  first-room k = let g = began k .pre .1 .1 in tree-length _ _ _ _ _ _ (g .0 .0) (g .1 .0)
 
   write-parts-pick-node-requires : write-parts-lts.Need-pick-node-requires (parts t) (write-parts-at t) write-parts.Post
   write-parts-pick-node-requires c κs =
       let s = c .before .before .before .before in
       let g = s .pre .1 in
-      (omega (arith, s .pre .0, cells s), (g .0, (g .1 .0, omega (arith, g .1 .2))))
-
-  write-parts-enum-told : write-parts-lts.Need-enum-told (parts t) (write-parts-at t) write-parts.Post
-  write-parts-enum-told c = search needs
-
-  write-parts-enum-known-done : write-parts-lts.Need-enum-known-done (parts t) (write-parts-at t) write-parts.Post
-  write-parts-enum-known-done c = search needs
+      (omega (arith, s .pre .0, cells s), (g .0, ((g .1 .0 .0, omega (arith, g .1 .0 .2)), g .1 .1 .0)))
 
   write-parts-pick-node-requires-2 : write-parts-lts.Need-pick-node-requires-2 (parts t) (write-parts-at t) write-parts.Post
   write-parts-pick-node-requires-2 c κs =
-      let k = c .before .before .before .before .before .before in
+      let k = c .before .before .before in
       let s = began k in
       let g = s .pre .1 in
       let f = k .pick-node in
-      let next = wrote-next _ _ _ _ _ _ (tree-length _ _ _ _ _ _ (g .1 .0)) (rw (c .before .before .done .given .1) at (f .ensures)) in
       let long = f .kept .1 .1 .1 .1 .1 .0 in
-      (omega (arith, s .pre .0, cells s), (g .0, (g .1 .1, omega (arith, g .1 .2, next, long))))
+      (omega (arith, s .pre .0, cells s), (g .0, ((g .1 .0 .1, omega (arith, g .1 .0 .2, f .ensures .next-is, first-room k, long)), g .1 .1 .1)))
 
   write-parts-same-length : write-parts-lts.Need-same-length (parts t) (write-parts-at t) write-parts.Post
   write-parts-same-length c = search needs
 
   write-parts-returns : write-parts-lts.Need-returns (parts t) (write-parts-at t) write-parts.Post
   write-parts-returns c =
-      let stopped = c .before .before .before .before .pick-node .ensures in
-      wrote-stop _ _ _ _ _ _ _ (rw (c .enum-told .given .1) at stopped)
-
-  write-parts-same-length-2 : write-parts-lts.Need-same-length-2 (parts t) (write-parts-at t) write-parts.Post
-  write-parts-same-length-2 c = search needs
-
-  write-parts-returns-2 : write-parts-lts.Need-returns-2 (parts t) (write-parts-at t) write-parts.Post
-  write-parts-returns-2 c =
-      let d = c .before .before .before .before .before in
-      let k = d .before .before .before .before in
-      let g = began k .pre .1 in
-      let first = rw (d .done .given .1) at (k .pick-node .ensures) in
-      wrote-both _ _ _ _ _ _ _ _ _ _ (tree-length _ _ _ _ _ _ (g .1 .0)) (omega (arith, g .1 .2)) first (c .before .before .pick-node2 .ensures)
+      let k = c .before .before .before .before .before .before in
+      wrote-on (omega (arith, began k .pre .1 .1 .0 .2, first-room k)) (k .pick-node .ensures) (c .before .before .pick-node2 .ensures)
 
 pub +pick-node+write-parts-spec : {M : Type 1} → statement M
 +pick-node+write-parts-spec =
@@ -229,26 +208,18 @@ pub +pick-node+write-parts-spec : {M : Type 1} → statement M
     μ-write-parts
     (λ t. pick-node-lts.spec (picks t) (pick-node-at t) pick-node.Post
     (pick-node-choose-requires t)
-    (pick-node-enum-told t)
     (pick-node-enum-known-choice t)
     (pick-node-put-node-requires t)
-    (pick-node-add-t19 t)
     (pick-node-enum-known-choice-2 t)
     (pick-node-put-node-requires-2 t)
     (pick-node-parts-of-requires t)
-    (pick-node-add-write-parts t)
     (pick-node-write-parts-requires t)
-    (pick-node-returns t)
     (pick-node-same-length t)
-    (pick-node-returns-2 t)
+    (pick-node-returns t)
     (pick-node-same-length-2 t)
-    (pick-node-returns-3 t))
+    (pick-node-returns-2 t))
     (λ t. write-parts-lts.spec (parts t) (write-parts-at t) write-parts.Post
     (write-parts-pick-node-requires t)
-    (write-parts-enum-told t)
-    (write-parts-enum-known-done t)
     (write-parts-pick-node-requires-2 t)
     (write-parts-same-length t)
-    (write-parts-returns t)
-    (write-parts-same-length-2 t)
-    (write-parts-returns-2 t))
+    (write-parts-returns t))

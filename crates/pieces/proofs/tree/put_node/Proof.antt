@@ -2,7 +2,7 @@
 use native.Mathlib.Omega.{arith}
 use lib.ListN.{length-set}
 use borrow.Author.Needs.{needs}
-use Rattle.pieces.proofs.Writing.{pair-written}
+use Rattle.pieces.proofs.Writing.{wrote-pair}
 use Rattle.pieces.proofs.tree.put_node.Statement.{statement}
 use Rattle.pieces.proofs.tree.put_node.Tie as tie
 
@@ -10,7 +10,7 @@ slice-write-tree-2 : tie.Need-slice-write-tree-2
 slice-write-tree-2 c = simp length-set (omega arith)
 
 returns : tie.Need-returns
-returns c = pair-written _ _ _ _ (c .pre .0)
+returns c = wrote-pair _ _ _ _ (c .pre .0)
 
 pub put-node-spec : {M : Type 1} → statement M
 put-node-spec =
@@ -23,5 +23,6 @@ put-node-spec =
     (λ c. search needs)
     (λ c. search needs)
     slice-write-tree-2
+    (λ c. search needs)
     (λ c. search needs)
     returns)
