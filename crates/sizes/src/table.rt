@@ -13,7 +13,7 @@ ghost use Rattle.books.specs.Size.{greatest, room};
 ghost use Rattle.pieces.specs.inner.Firing.{firing, allFired};
 ghost use Rattle.pieces.specs.inner.Layout.{mostRules, joinMasks};
 ghost use Rattle.sizes.specs.inner.Masks.{Small};
-ghost use Rattle.sizes.specs.inner.Entries.{along, joins, entryAt, Filled, SizesMade};
+ghost use Rattle.sizes.specs.inner.Entries.{along, joins, LaidOut, entryAt, Filled, SizesMade};
 
 // One join at one cut.
 fn fired(l: u32, r: u32, first: u32, second: u32, head: u32) -> u32
@@ -83,7 +83,7 @@ fn entry_at(
     downs: usize,
     due: usize,
 ) -> u32
-    requires { ⌜ (length (now across) ≡ joinMasks) × (acrosses ≤ mostRules) × (length (now down) ≡ joinMasks) × (downs ≤ mostRules) × (due < length (now sizes)) ⌝ }
+    requires { ⌜ LaidOut (now across) acrosses (now down) downs × (due < length (now sizes)) ⌝ }
     ensures { λ x. ⌜ x ≡ entryAt (joins (now (across .entry)) acrosses (now (down .entry)) downs) greatest (now (sizes .entry)) due ⌝ }
 {
     let row = due / GREATEST;
@@ -95,7 +95,7 @@ fn entry_at(
 
 // The entries before a slot, of a table that begins with that of 1 by 1.
 fn fill(sizes: &mut [u32], across: &[u32], acrosses: usize, down: &[u32], downs: usize, end: usize)
-    requires { ⌜ (length (now across) ≡ joinMasks) × (acrosses ≤ mostRules) × (length (now down) ≡ joinMasks) × (downs ≤ mostRules) × (length (now sizes) ≡ room) × (1 ≤ end) × (end ≤ room) ⌝ }
+    requires { ⌜ LaidOut (now across) acrosses (now down) downs × (length (now sizes) ≡ room) × (1 ≤ end) × (end ≤ room) ⌝ }
     ensures { λ _. ⌜ Filled (joins (now (across .entry)) acrosses (now (down .entry)) downs) greatest end (now (sizes .entry)) (now (sizes .exit)) ⌝ }
 {
     let mut due = 1;

@@ -11,6 +11,7 @@ use Rattle.books.specs.Size.{greatest}
 use Rattle.books.specs.declared.rule.Rule.{Rule}
 use Rattle.pieces.specs.Table.{bits}
 use Rattle.pieces.specs.inner.Firing.{gathered, allFired}
+use Rattle.pieces.specs.inner.Layout.{mostRules, joinMasks}
 use Rattle.sizes.specs.Size.{Size, by}
 use Rattle.sizes.specs.Test.{hasSize?}
 use Rattle.sizes.specs.inner.Masks.{firesOf}
@@ -51,6 +52,13 @@ joins across-masks a down-masks d =
 unfoldable pub entryAt : Joins → ℕ → List ℕ → ℕ → ℕ
 entryAt j n t k =
     bitOr (along t (j .masks across) (j .count across) (k - k % n) k 1 (k % n)) (along t (j .masks down) (j .count down) (k % n) k n (k / n))
+
+-- masks of both directions that are laid out as the code has them, and no more joins than there can be rules
+pub record LaidOut (across-masks : List ℕ) (a : ℕ) (down-masks : List ℕ) (d : ℕ) : Type 0 where
+  pub across-long : length across-masks ≡ joinMasks
+  pub across-few : a ≤ mostRules
+  pub down-long : length down-masks ≡ joinMasks
+  pub down-few : d ≤ mostRules
 
 -- joins that give what the rules of a book give
 abbrev pub Serves : Contents → Joins → Type 0

@@ -6,8 +6,9 @@ use Rattle.runs.proofs.figures.named.Tie as tie
 
 returns : tie.Need-returns
 returns c =
-    standing-made _ _ _
-    (c .before .before .before .before .before .before .before .before .copy .ensures) (c .before .before .before .before .before .copy2 .ensures)
+    let cells = c .before .before .before .before .before in
+    let answers = cells .before .before .before in
+    standing-made _ _ _ (answers .copy .ensures) (cells .copy2 .ensures)
 
 pub named-spec : {M : Type 1} → statement M
 named-spec =

@@ -18,18 +18,18 @@ abbrev μ-loop : tie.MeasureT-loop
 μ-loop sizes₀ across acrosses down downs end due₀ sizes due = end - due
 
 loop-holds : tie.Need-loop-holds Inv-loop μ-loop
-loop-holds c = (omega arith, omega (arith, c .before .before .before .pre .5), c .before .before .before .pre .4, filling-start _ _ _)
+loop-holds c = (omega arith, omega (arith, c .before .before .before .pre .2), c .before .before .before .pre .1, filling-start _ _ _)
 
 entry-at-requires : tie.Need-entry-at-requires Inv-loop μ-loop
 entry-at-requires c κs =
     let t = c .before .before in
     let s = t .before .before .before .before in
-    (s .pre .0, s .pre .1, s .pre .2, s .pre .3, omega (arith, t .loop .inv .2, c .before .loop-test .taken, s .pre .6))
+    (s .pre .0, omega (arith, t .loop .inv .2, c .before .loop-test .taken, s .pre .3))
 
 slice-write-sizes : tie.Need-slice-write-sizes Inv-loop μ-loop
 slice-write-sizes c =
     let t = c .before .before .before in
-    omega (arith, t .loop .inv .2, c .before .before .loop-test .taken, t .before .before .before .before .pre .6)
+    omega (arith, t .loop .inv .2, c .before .before .loop-test .taken, t .before .before .before .before .pre .3)
 
 loop-again : tie.Need-loop-again Inv-loop μ-loop
 loop-again c =
@@ -39,11 +39,11 @@ loop-again c =
       omega arith,
       omega (arith, less),
       simp length-set (inv .2),
-      filling-step _ _ _ _ _ _ (inv .3) (inv .0) (omega (arith, inv .2, less, t .before .before .before .before .pre .6)) (c .entry-at .ensures),
+      filling-step _ _ _ _ _ _ (inv .3) (inv .0) (omega (arith, inv .2, less, t .before .before .before .before .pre .3)) (c .entry-at .ensures),
     )
 
 same-length : tie.Need-same-length Inv-loop μ-loop
-same-length c = let t = c .before in omega (arith, t .loop .inv .2, t .before .before .before .before .pre .4)
+same-length c = let t = c .before in omega (arith, t .loop .inv .2, t .before .before .before .before .pre .1)
 
 returns : tie.Need-returns Inv-loop μ-loop
 returns c =

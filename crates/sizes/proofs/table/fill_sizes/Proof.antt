@@ -22,10 +22,12 @@ fill-requires c κs =
     let s = began p in
     let across = p .before .before .before .before .before .lay .ensures in
     let down = p .before .before .lay2 .ensures in (
-      across .long,
-      omega (arith, across .few, s .pre .0 .few),
-      down .long,
-      omega (arith, down .few, s .pre .0 .few),
+      record {
+        across-long = across .long;
+        across-few = omega (arith, across .few, s .pre .0 .few);
+        down-long = down .long;
+        down-few = omega (arith, down .few, s .pre .0 .few);
+      },
       simp length-set (s .pre .1),
       s .pre .2,
       s .pre .3,
