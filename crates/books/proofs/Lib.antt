@@ -1,6 +1,7 @@
 pub mod Plainly
 pub mod SamePictures
 pub mod NothingEmpty
+pub mod Searches
 pub mod Deciding
 pub mod Onwards
 pub mod StandingNumbers

@@ -2,6 +2,7 @@ pub mod Contents
 pub mod Picture
 pub mod Derives
 pub mod Plain
+pub mod Search
 pub mod Decide
 pub mod Keeps
 pub mod Grid

@@ -16,7 +16,8 @@ use Rattle.books.specs.Book.{figuresAt, ruledAt, figuredAt, bookOf}
 use Rattle.books.specs.Size.{sizeAt}
 use Rattle.books.specs.Cells.{cellsOf}
 use Rattle.books.specs.Sheet.{filledAt, sheetOf}
-use Rattle.books.specs.Decide.{andThen, orElse, called?, anyCut, fitsBody, anyRule, derivesIn, derives?}
+use Rattle.books.specs.Search.{andThen, orElse, anyCut, fitsBody, anyRule, givesIn}
+use Rattle.books.specs.Decide.{called?, derives?}
 use Rattle.pieces.specs.Pieces.{each, pieces}
 use Rattle.pieces.specs.Table.{bits, entry, table}
 use Rattle.pieces.specs.Direction.{reach, front, back}
@@ -65,7 +66,7 @@ pub record Cases : Type 0 where
 pub cases : Cases
 unfolding numberAt longerAt lastGroup numberIn numberBelow spellNumber leastAt nameOf sameName listed findName colourAt coloursOf put
     colourNumberAt joinAt bodyAt ruleAt rulesAt figuresAt ruledAt figuredAt bookOf sizeAt cellsOf filledAt sheetOf
-    andThen orElse called? anyCut fitsBody anyRule derivesIn derives?
+    andThen orElse called? anyCut fitsBody anyRule givesIn derives?
     each pieces bits entry table reach front back least works cutOf covers fits takes taken lowest chosen choose treeWithin treeOf
     judged roomed derivation
     without merged copies joined repeated either-of few? within? written made lent

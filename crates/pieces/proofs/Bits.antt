@@ -125,3 +125,12 @@ same-bits (suc k) x y h l e =
     let half : x / 2 ≡ y / 2 =
     same-bits k (x / 2) (y / 2) (omega arith) (omega arith) (λ a i. bit-half x a ∙ e (suc a) (omega arith) ∙ sym (bit-half y a)) in
     omega (arith, sym (bit-first x) ∙ e 0 (omega arith) ∙ bit-first y)
+
+below-pow : (n : ℕ) → n < 2 ^ n
+below-pow zero = omega arith
+below-pow (suc n) = omega (arith, below-pow n, pow-suc 2 n)
+
+-- All bits say what a number is, whatever bounds it.
+pub all-bits : (x y : ℕ) → ((a : ℕ) → bit x a ≡ bit y a) → x ≡ y
+all-bits x y e =
+    same-bits (x + y) x y (lt-of-lt-of-le (below-pow x) (pow-mono (omega arith))) (lt-of-lt-of-le (below-pow y) (pow-mono (omega arith))) (λ a h. e a)

@@ -14,7 +14,7 @@ use Rattle.books.specs.Picture.{joins}
 use Rattle.books.specs.declared.rule.Rule.{Rule}
 use Rattle.books.specs.declared.rule.Body.{Body}
 use Rattle.books.specs.declared.rule.Body.the-variants.{Colour, Across as AcrossBody, Down as DownBody}
-use Rattle.books.proofs.Deciding.{and-both, and-make}
+use Rattle.books.proofs.Searches.{and-both, and-make}
 use Rattle.pieces.specs.declared.piece.Piece.{Piece}
 use Rattle.pieces.specs.declared.part.Direction.{Direction}
 use Rattle.pieces.specs.declared.part.Direction.the-variants.{Across, Down}

@@ -5,8 +5,7 @@ use Prim.Native.Nat.{ℕ, zero, suc, _+_, _^_, _<_}
 use native.Mathlib.Omega.{arith}
 use native.Mathlib.Decide.{ℕ-discrete}
 use native.Mathlib.Numerals.{add-one}
-use lib.Bits.{bitAnd, bitOr, or-lt}
-use lib.Pow.{pow-pos, pow-lt}
+use lib.Bits.{bitAnd, bitOr}
 use borrow.Author.Tests.{eq-eqb, ne-eqb}
 use Rattle.pieces.specs.Table.{bit}
 use Rattle.pieces.specs.inner.Firing.{firing, gathered}
@@ -38,11 +37,6 @@ unfolding gathered
 gathered-same zero f g h = refl
 gathered-same (suc n) f g h = ap₂ bitOr (gathered-same n f g (λ i l. h i (omega arith))) (h n (omega arith))
 
-pub gathered-lt : (k n : ℕ) (f : ℕ → ℕ) → ((i : ℕ) → i < n → f i < 2 ^ k) → gathered n f < 2 ^ k
-unfolding gathered
-gathered-lt k zero f h = pow-pos k
-gathered-lt k (suc n) f h = or-lt k (gathered n f) (f n) (gathered-lt k n f (λ i l. h i (omega arith))) (h n (omega arith))
-
 -- ---- one join
 
 pub firing-has : (l r x y h a : ℕ) → bit (firing l r (2 ^ x) (2 ^ y) (2 ^ h)) a ≡ 1 → (a ≡ h) × (bit l x ≡ 1) × (bit r y ≡ 1)
@@ -59,12 +53,3 @@ pub has-firing : (l r x y h : ℕ) → bit l x ≡ 1 → bit r y ≡ 1 → bit (
 unfolding firing
 has-firing l r x y h p q =
     rw (ne-eqb (bitAnd l (2 ^ x)) 0 (λ z. and-pow-zero l x z p), ne-eqb (bitAnd r (2 ^ y)) 0 (λ z. and-pow-zero r y z q)) (bit-pow h)
-
-pub firing-lt : (k l r x y h : ℕ) → h < k → firing l r x y (2 ^ h) < 2 ^ k
-unfolding firing
-firing-lt k l r x y h i = go (ℕ-discrete (bitAnd l x) 0) (ℕ-discrete (bitAnd r y) 0)
-  where
-    go : Dec (bitAnd l x ≡ 0) → Dec (bitAnd r y ≡ 0) → firing l r x y (2 ^ h) < 2 ^ k
-    go (yes p) q = rw (eq-eqb (bitAnd l x) 0 p) (pow-pos k)
-    go (no p) (yes q) = rw (ne-eqb (bitAnd l x) 0 p, eq-eqb (bitAnd r y) 0 q) (pow-pos k)
-    go (no p) (no q) = rw (ne-eqb (bitAnd l x) 0 p, ne-eqb (bitAnd r y) 0 q) (pow-lt i)

@@ -7,7 +7,7 @@ use mathlib.Core.Logic.{_⊎_, inl, inr, ⊎-elim}
 use native.Mathlib.Nat.{eq-or-lt-of-le}
 use native.Mathlib.Omega.{arith}
 use Rattle.names.proofs.Tests.{true-or-false}
-use Rattle.books.specs.Decide.{andThen}
+use Rattle.books.specs.Search.{andThen}
 use Rattle.pieces.specs.Choice.{least}
 
 -- one step, by the test of the first number

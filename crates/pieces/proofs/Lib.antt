@@ -13,6 +13,7 @@ pub mod Entries
 pub mod Painting
 pub mod LaidJoins
 pub mod Laying
+pub mod PartsRight
 pub mod SettledTable
 pub mod CellEntries
 pub mod WholeTable

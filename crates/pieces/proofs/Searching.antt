@@ -13,8 +13,8 @@ use lib.Seq.{drop-cons}
 use Rattle.names.proofs.Picking.{pick-ind}
 use Rattle.names.proofs.Settled.{Settles, settles}
 use Rattle.names.proofs.Tests.{true-or-false}
-use Rattle.books.specs.Decide.{andThen}
-use Rattle.books.proofs.Deciding.{and-both, and-make}
+use Rattle.books.specs.Search.{andThen}
+use Rattle.books.proofs.Searches.{and-both, and-make}
 use Rattle.pieces.specs.declared.piece.Piece.{Piece}
 use Rattle.pieces.specs.Pieces.{piece, Inside, pieces, total, slotOf}
 use Rattle.pieces.specs.Area.{area}

@@ -5,7 +5,7 @@ use mathlib.Core.List.{List, [], _∷_}
 use lib.Dec.{eqb, ltb, leb}
 use lib.ListN.{length, getD}
 use Rattle.names.specs.Pick.{pick}
-use Rattle.books.specs.Decide.{andThen}
+use Rattle.books.specs.Search.{andThen}
 use Rattle.pieces.specs.declared.piece.Piece.{Piece}
 use Rattle.pieces.specs.Pieces.{piece, pieces, total, slotOf}
 use Rattle.pieces.specs.Area.{area}

@@ -14,3 +14,4 @@ pub mod Verdict
 pub mod Told
 pub mod TreeWrote
 pub mod Larger
+pub mod Rights

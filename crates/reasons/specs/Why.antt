@@ -11,7 +11,8 @@ use Rattle.books.specs.Contents.{Contents}
 use Rattle.books.specs.Picture.{Picture}
 use Rattle.books.specs.Grid.{picture}
 use Rattle.books.specs.ContentsIn.{contentsIn, gridIn}
-use Rattle.books.specs.Decide.{orElse, called?, derives?}
+use Rattle.books.specs.Search.{orElse}
+use Rattle.books.specs.Decide.{called?, derives?}
 use Rattle.books.specs.Book.{bookOf}
 use Rattle.books.specs.Sheet.{sheetOf}
 use Rattle.books.specs.Answer.{plain, blaming, packed}

@@ -1,20 +1,21 @@
 -- What the rules of one direction give at a cut: a motif's bit is set exactly when a rule with that head joins motifs that the two parts have.
-use Prim.Native.Nat.{ℕ, _^_, _<_}
+use Prim.Native.Nat.{ℕ}
 use mathlib.Core.Path.{_≡_, sym, ap, subst}
 use mathlib.Core.List.{List, List·Memᴰ}
-use lib.ListN.{length, getD}
-use lib.Pow.{pow-pos}
-use Rattle.names.proofs.Listing.{getD-mem}
+use lib.ListN.{length}
+use Rattle.books.specs.Contents.{Contents}
 use Rattle.books.specs.Picture.{Dir, across, down, joins}
 use Rattle.books.specs.Rules.{noRule}
 use Rattle.books.specs.declared.rule.Rule.{Rule}
 use Rattle.books.specs.declared.rule.Body.{Body}
 use Rattle.books.specs.declared.rule.Body.the-variants.{Colour, Across, Down}
 use Rattle.pieces.specs.Table.{bit}
-use Rattle.pieces.specs.inner.Firing.{firing}
+use Rattle.pieces.specs.inner.Firing.{firing, allFired}
+use Rattle.pieces.specs.inner.Rights.{Fires}
 use Rattle.pieces.proofs.Bits.{none-set}
-use Rattle.pieces.proofs.Gathered.{gathered-has, has-gathered, gathered-lt, firing-has, has-firing, firing-lt}
-use Rattle.pieces.proofs.LaidJoins.{member-at}
+use Rattle.pieces.proofs.Gathered.{firing-has, has-firing}
+use Rattle.pieces.proofs.LaidJoins.{all-has, has-all, fires-by}
+use Rattle.sizes.specs.inner.Entries.{Joins, Serves}
 use Rattle.sizes.specs.inner.Masks.{ruleMasks, fires, firesOf}
 use Rattle.sizes.proofs.Laying.{none-fires}
 
@@ -45,32 +46,21 @@ module _ (l r : ℕ) where
   has-body across a x y p q = has-firing l r x y a p q
   has-body down a x y p q = has-firing l r x y a p q
 
-  body-lt : (n : ℕ) (d : Dir) (h : ℕ) (x : Body) → h < n → gives d h x < 2 ^ n
-  body-lt n d h (Colour c) i = rw (none-fires l r 0 0) (pow-pos n)
-  body-lt n across h (Across x y) i = firing-lt n l r _ _ h i
-  body-lt n across h (Down u v) i = rw (none-fires l r 0 0) (pow-pos n)
-  body-lt n down h (Across x y) i = rw (none-fires l r 0 0) (pow-pos n)
-  body-lt n down h (Down x y) i = firing-lt n l r _ _ h i
+-- ---- all rules
 
-  -- ---- all rules
+abbrev fired : Dir → ℕ → ℕ → Rule → ℕ
+fired d l r q = gives l r d (q .head) (q .body)
 
-  module _ (d : Dir) (rules : List Rule) where
-    pub rules-has : (a : ℕ) → bit (firesOf d rules (length rules) l r) a ≡ 1
-        → (x : ℕ) × (y : ℕ) × List·Memᴰ (rule a (joins d x y)) rules × (bit l x ≡ 1) × (bit r y ≡ 1)
-    unfolding firesOf fires
-    rules-has a o =
-        let (i, h, u) = gathered-has (length rules) _ a o in
-        let q = getD rules i noRule in
-        let (x, y, e, p, s) = body-has d (q .head) (q .body) a u in
-        (x, y, subst (λ (z : Rule). List·Memᴰ z rules) e (getD-mem rules i noRule h), p, s)
+rules-fire : (rules : List Rule) → Fires rules (λ d l r. firesOf d rules (length rules) l r)
+unfolding firesOf fires
+rules-fire rules =
+    record {
+      only = λ d l r a o.
+          let (q, m, u) = all-has rules noRule (fired d l r) a o in
+          let (x, y, e, p, s) = body-has l r d (q .head) (q .body) a u in
+          (x, y, subst (λ (z : Rule). List·Memᴰ z rules) e m, p, s);
+      each = λ d l r a x y m p q. has-all rules noRule (fired d l r) a (rule a (joins d x y)) m (has-body l r d a x y p q);
+    }
 
-    pub has-rules : (a x y : ℕ) → List·Memᴰ (rule a (joins d x y)) rules → bit l x ≡ 1 → bit r y ≡ 1 → bit (firesOf d rules (length rules) l r) a ≡ 1
-    unfolding firesOf fires
-    has-rules a x y m p q =
-        let (i, h, e) = member-at rules noRule m in
-        has-gathered (length rules) _ a i h (subst (λ (z : Rule). bit (gives d (z .head) (z .body)) a ≡ 1) (sym e) (has-body d a x y p q))
-
-    pub rules-lt : (n : ℕ) → ((q : Rule) → List·Memᴰ q rules → q .head < n) → firesOf d rules (length rules) l r < 2 ^ n
-    unfolding firesOf fires
-    rules-lt n heads =
-        gathered-lt n (length rules) _ (λ i h. let q = getD rules i noRule in body-lt n d (q .head) (q .body) (heads q (getD-mem rules i noRule h)))
+pub joins-fire : (b : Contents) (j : Joins) → Serves b j → Fires (b .rules) (λ d. allFired (j .masks d) (j .count d))
+joins-fire b j serves = fires-by (rules-fire (b .rules)) serves

@@ -14,7 +14,7 @@ use Rattle.books.specs.Book.{bookOf}
 use Rattle.books.specs.Size.{greatest, room}
 use Rattle.books.specs.declared.book.BookRead.{BookRead}
 use Rattle.books.specs.declared.rule.Rule.{Rule}
-use Rattle.books.proofs.Deciding.{and-both, and-make}
+use Rattle.books.proofs.Searches.{and-both, and-make}
 use Rattle.books.proofs.ReadingBooks.{book-accepted}
 use Rattle.pieces.specs.Table.{bit}
 use Rattle.pieces.proofs.Least.{and-on, and-off}

@@ -7,17 +7,18 @@ use native.Mathlib.Omega.{arith}
 use Rattle.books.specs.Contents.{Contents, Has, name}
 use Rattle.books.specs.Picture.{Picture, Dir, across, down, joins}
 use Rattle.books.specs.Derives.{Derives, paint, join}
+use Rattle.books.specs.Search.{paint as cell, join as join-sizes}
 use Rattle.books.proofs.NothingEmpty.{derives-size}
 use Rattle.books.proofs.SamePictures.{derives-same}
 use Rattle.sizes.specs.Size.{Size, by}
-use Rattle.sizes.specs.HasSize.{HasSize, cell, join as join-sizes}
+use Rattle.sizes.specs.HasSize.{HasSize}
 use Rattle.sizes.specs.Promise.{SomeSheet}
 use Rattle.sizes.proofs.Gluing.{glued, Level, glued-first, glued-rest}
 
 -- ---- the colours forgotten
 
 derived-size : {b : Contents} {a : ℕ} {p : Picture} → Derives b a p → HasSize b a (by (p .rows) (p .cols))
-derived-size (paint c h hr hc e) = cell c h (e .0) hr hc
+derived-size (paint c h hr hc e) = cell c h (hr, hc, e .0)
 derived-size (join across l r k h hk hs x y) = join-sizes across l r k h hk hs (derived-size x) (derived-size y)
 derived-size (join down l r k h hk hs x y) = join-sizes down l r k h hk hs (derived-size x) (derived-size y)
 
@@ -33,7 +34,7 @@ glued-derived down l r p q h e x y =
     (derives-same (glued-first down p q) x) (derives-same (glued-rest down p q e) y)
 
 size-derived : {b : Contents} {a : ℕ} {s : Size} → HasSize b a s → SomeSheet b a (s .rows) (s .cols)
-size-derived {b = b} (cell c h fits hr hc) =
+size-derived {b = b} (cell c h (hr, hc, fits)) =
     let one : Picture = record { rows = 1; cols = 1; cell = λ _ _. name b c } in
     record { sheet = one; derived = paint {p = one} c h refl refl (fits, refl); rows-are = sym hr; cols-are = sym hc }
 size-derived (join-sizes across l r k h hk hs x y) =

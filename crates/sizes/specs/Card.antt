@@ -6,7 +6,7 @@ use lib.Count.{ones}
 use lib.Dec.{ltb, leb}
 use Rattle.names.specs.Pick.{pick}
 use Rattle.books.specs.Contents.{Contents}
-use Rattle.books.specs.Decide.{andThen}
+use Rattle.books.specs.Search.{andThen}
 use Rattle.books.specs.Size.{greatest}
 use Rattle.pieces.specs.Pieces.{each}
 use Rattle.pieces.specs.Table.{bits}

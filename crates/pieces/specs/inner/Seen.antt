@@ -4,7 +4,7 @@ use mathlib.Core.Bool.{Bool}
 use mathlib.Core.List.{List}
 use lib.Dec.{eqb}
 use lib.ListN.{length, getD}
-use Rattle.books.specs.Decide.{andThen}
+use Rattle.books.specs.Search.{andThen}
 use Rattle.pieces.specs.declared.piece.Piece.{Piece}
 use Rattle.pieces.specs.declared.piece.Size.{Size}
 use Rattle.pieces.specs.declared.part.Parts.{Parts}

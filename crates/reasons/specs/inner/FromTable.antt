@@ -5,7 +5,7 @@ use mathlib.Core.List.{List}
 use lib.Dec.{eqb, ltb}
 use lib.ListN.{getD}
 use Rattle.names.specs.Pick.{pick}
-use Rattle.books.specs.Decide.{andThen}
+use Rattle.books.specs.Search.{andThen}
 use Rattle.books.specs.Size.{greatest}
 use Rattle.books.specs.declared.answer.Answer.{Answer}
 use Rattle.pieces.specs.Choice.{least}
