@@ -1,5 +1,5 @@
 -- What a C host learns from `dv_read_book` and `dv_read_sheet`, whatever the bytes, with the answer taken apart as the header's functions do: its number is 0 to 8, a
--- fault blames the input at a place within it, no fault blames nothing, 0 is told exactly of what is accepted, and with it the ticket of a sheet. The readers' laws bound the fault, so that it packs.
+-- fault blames the input at a place within it, no fault blames nothing, each refusal is told exactly of the bytes that `BookFault` or `SheetFault` gives it, 0 is told exactly of what is accepted, and with it the ticket of a sheet. The readers' laws bound the fault, so that it packs.
 use Prim.Native.Nat.{ℕ, _/_, _%_, _^_, _≤_}
 use mathlib.Core.Path.{_≡_, sym, ap, _∙_}
 use mathlib.Core.Logic.{_↔_}
@@ -8,6 +8,7 @@ use native.Mathlib.Omega.{arith}
 use borrow.Author.Tests.{eqb-true, eqb-false}
 use lib.Dec.{eqb}
 use lib.ListN.{length}
+use Rattle.names.specs.Pick.{fault}
 use Rattle.names.specs.declared.number.Fault.{Fault}
 use Rattle.names.proofs.Picking.{pick-ind}
 use Rattle.names.proofs.ReadingNumbers.{Blamed}
@@ -18,6 +19,8 @@ use Rattle.books.specs.Keeps.{Keeps}
 use Rattle.books.specs.Grid.{Grid, GridKeeps}
 use Rattle.books.specs.SpellBook.{spellBook}
 use Rattle.books.specs.SpellSheet.{spellSheet}
+use Rattle.books.specs.ReadsBook.{BookFault}
+use Rattle.books.specs.ReadsSheet.{SheetFault}
 use Rattle.books.specs.Answer.{answer, plain, blaming, packed, Packs}
 use Rattle.books.specs.Book.{bookOf}
 use Rattle.books.specs.Sheet.{sheetOf}
@@ -28,6 +31,8 @@ use Rattle.books.proofs.ReadingBooks.{book-refused, book-accepted}
 use Rattle.books.proofs.ReadingSheets.{sheet-refused}
 use Rattle.books.proofs.SpellingBooks.{book-read-back}
 use Rattle.books.proofs.SpellingSheets.{sheet-accepted, sheet-read-back}
+use Rattle.books.proofs.BookExactly.{book-refused-exactly}
+use Rattle.books.proofs.SheetExactly.{sheet-refused-exactly}
 use Rattle.books.proofs.Packing.{apart, book-placed, ticket-packs}
 
 -- what the answer r tells of these bytes and the first fault in them
@@ -59,15 +64,29 @@ told s limit count f =
       unblamed = λ z. absurd (omega (arith, y .number-is, x .some));
     })
 
--- ... and 0 is told of no other bytes than the spellings of contents that keep the rules
+-- the number and the place of a fault are told exactly where it is the first
+told-first : (s : List ℕ) (f g : Fault) (r : ℕ) → Told s f r → 1 ≤ g .number → ((r % 2 ^ 8 ≡ g .number) × (r / 2 ^ 12 % 2 ^ 20 ≡ g .place)) ↔ (f ≡ g)
+told-first s f g r t some = (
+  λ h.
+      let number : f .number ≡ g .number = sym (t .number-is) ∙ h .0 in
+      let place : f .place ≡ g .place = sym (t .blamed (omega (arith, h .0)) .1) ∙ h .1 in
+      ap (λ (n : ℕ). fault n (f .place)) number ∙ ap (fault (g .number)) place,
+  λ e.
+      let number : r % 2 ^ 8 ≡ g .number = t .number-is ∙ ap (λ (x : Fault). x .number) e in
+      (number, t .blamed (omega arith) .1 ∙ ap (λ (x : Fault). x .place) e),
+)
+
+-- ... each refusal is told exactly when its row says, and 0 is told of no other bytes than the spellings of contents that keep the rules
 pub record BookTold (s : List ℕ) (r : ℕ) : Type 0 where
   pub tells : Told s (bookOf s .fault) r
+  pub refused : (f : Fault) → 1 ≤ f .number → ((r % 2 ^ 8 ≡ f .number) × (r / 2 ^ 12 % 2 ^ 20 ≡ f .place)) ↔ BookFault s f
   pub accepted : Bytes s → (r % 2 ^ 8 ≡ 0) ↔ ((b : Contents) × Keeps b × (s ≡ spellBook b))
   pub count : r / 2 ^ 32 ≡ 0
 
 -- the count is the ticket of the contents, and 0 where the sheet is refused
 pub record SheetTold (s : List ℕ) (r : ℕ) : Type 0 where
   pub tells : Told s (sheetOf s .fault) r
+  pub refused : (f : Fault) → 1 ≤ f .number → ((r % 2 ^ 8 ≡ f .number) × (r / 2 ^ 12 % 2 ^ 20 ≡ f .place)) ↔ SheetFault s f
   pub accepted : Bytes s → (r % 2 ^ 8 ≡ 0) ↔ ((g : Grid) × GridKeeps g × (s ≡ spellSheet g))
   pub ticket : (g : Grid) → GridKeeps g → s ≡ spellSheet g → r / 2 ^ 32 ≡ g .ticket
   pub no-ticket : 1 ≤ r % 2 ^ 8 → r / 2 ^ 32 ≡ 0
@@ -78,6 +97,7 @@ read-book-told s r e =
     let t : Told s (bookOf s .fault) r = rw e (told s 5164 0 (bookOf s .fault) packs (λ n. book-refused s n .blamed)) in
     record {
       tells = t;
+      refused = λ f some. let first = told-first s _ f r t some in let row = book-refused-exactly s f some in (λ h. row .0 (first .0 h), λ x. first .1 (row .1 x));
       accepted = λ bytes. (
         λ z. let a = book-accepted s bytes (sym (t .number-is) ∙ z) in (contentsIn s (bookOf s .family), a .keeps, a .spelled),
         λ x. t .number-is ∙ rw (x .2) (ap (λ (f : Fault). f .number) (book-read-back (x .0) (x .1) .0)),
@@ -92,6 +112,7 @@ read-sheet-told s r e =
     let count : r / 2 ^ 32 ≡ ticketOf s = rw e (apart (sheetAnswer s) (ticketOf s) packs .count-is) in
     record {
       tells = t;
+      refused = λ f some. let first = told-first s _ f r t some in let row = sheet-refused-exactly s f some in (λ h. row .0 (first .0 h), λ x. first .1 (row .1 x));
       accepted = λ bytes. (
         λ z. let a = sheet-accepted s bytes (sym (t .number-is) ∙ z) in (gridIn s (sheetOf s .sheet), a .keeps, a .spelled),
         λ x. t .number-is ∙ rw (x .2) (ap (λ (f : Fault). f .number) (sheet-read-back (x .0) (x .1) .0)),

@@ -7,8 +7,11 @@ pub mod Onwards
 pub mod StandingNumbers
 pub mod ReadingBodies
 pub mod ReadingRules
+pub mod OneByOne
+pub mod RuleExactly
 pub mod ReadingFigures
 pub mod ReadingBooks
+pub mod BookExactly
 pub mod SpellingRules
 pub mod SpellingBooks
 pub mod LongestBook
@@ -18,6 +21,7 @@ pub mod ReadingSizes
 pub mod ReadingCells
 pub mod ReadingSheets
 pub mod SpellingSheets
+pub mod SheetExactly
 pub mod LongestSheet
 pub mod Tickets
 pub mod InARow

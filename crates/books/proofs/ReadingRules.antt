@@ -54,6 +54,9 @@ rule-found s at motifs colours =
       spelled = λ bytes. between-both (below-spelled s bytes at motifs 6 head then e) (h .spelled bytes);
     }))
 
+pub rule-refused : (s : List ℕ) (at motifs colours : ℕ) (f : Fault) → ruleAt s at motifs colours ≡ RefusedRule f → Blamed s (at + 12) f
+rule-refused s at motifs colours f e = subst (RuleFound s at motifs colours) e (rule-found s at motifs colours)
+
 -- a rule takes a few bytes
 pub rule-near : (s : List ℕ) (at motifs colours : ℕ) (r : Rule) (next : ℕ) → ruleAt s at motifs colours ≡ WholeRule r next → next ≤ at + 12
 rule-near s at motifs colours r next e = subst (RuleFound s at motifs colours) e (rule-found s at motifs colours) .near
@@ -109,7 +112,7 @@ module _ (s : List ℕ) (motifs colours limit spare : ℕ) where
       })
   ended (suc k) rules done i at e h l n =
       after-rule-ind (Ended done at (suc k)) refusedRules (ruleAt s at motifs colours) _
-      (λ f d. inr (blamed-later (omega arith) (subst (RuleFound s at motifs colours) d (rule-found s at motifs colours))))
+      (λ f d. inr (blamed-later (omega arith) (rule-refused s at motifs colours f d)))
       (λ x next d.
       let g : RuleLies s at motifs colours x next = subst (RuleFound s at motifs colours) d (rule-found s at motifs colours) in
       let longer : set rules i x ≡ (done ++ (x ∷ [])) ++ fixed k = rw e (set-at done noRule (fixed k) x i h ∙ sym (append-assoc done (x ∷ []) (fixed k))) in

@@ -8,6 +8,9 @@ pub mod Keeps
 pub mod Grid
 pub mod ContentsIn
 pub mod Rules
+pub mod InTurn
+pub mod ReadsBook
+pub mod ReadsSheet
 pub mod Book
 pub mod SpellBook
 pub mod Size

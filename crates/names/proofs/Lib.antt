@@ -16,6 +16,7 @@ pub mod Examples
 pub mod SpelledBytes
 pub mod LongestColours
 pub mod Exactly
+pub mod FirstFault
 pub mod ListExactly
 pub mod FarBytes
 pub mod Settled

@@ -1,5 +1,5 @@
--- A colour list is refused exactly for what `ListFault` says: from the names read so far reading goes on by the next length and name, so that it
--- stops where one of them is refused, and nowhere else.
+-- A colour list is refused exactly for what `ListFault` says, and read whole exactly where `ListRead` says: from the names read so far reading goes on by
+-- the next length and name, so that it stops where one of them is refused, and nowhere else.
 use Prim.Native.Nat.{ℕ, zero, suc, _+_, _-_, _<_, _≤_}
 use mathlib.Core.Path.{_≡_, refl, sym, _∙_, ap, subst}
 use mathlib.Core.List.{List, [], _∷_, _++_, List·Memᴰ}
@@ -11,7 +11,7 @@ use Rattle.names.specs.Pick.{fault}
 use Rattle.names.specs.Number.{numberIn}
 use Rattle.names.specs.Name.{Name, nameOf}
 use Rattle.names.specs.Reads.{ReadsIn, ReadsName}
-use Rattle.names.specs.ReadsList.{bytesAt, Reached, counted, one-more, NameFault, cut-short, bad-byte, twice, ListFault, no-count, no-length, no-name}
+use Rattle.names.specs.ReadsList.{bytesAt, Reached, counted, one-more, ListRead, NameFault, cut-short, bad-byte, twice, ListFault, no-count, no-length, no-name}
 use Rattle.names.specs.Colours.{namesIn, findName, namedAt, colourAt, noColours, refusedColours, withColour, coloursFrom, coloursOf}
 use Rattle.names.specs.declared.number.Fault.{Fault}
 use Rattle.names.specs.declared.number.Read.{Read}
@@ -22,9 +22,10 @@ use Rattle.names.specs.declared.colours.ColourRead.the-variants.{At, Ref
 use Rattle.names.specs.declared.colours.Colours.{Colours}
 use Rattle.names.specs.declared.colours.ColoursRead.{ColoursRead}
 use Rattle.names.proofs.Tests.{lt-or-le}
+use Rattle.names.proofs.FirstFault.{FirstFault, first-fault}
 use Rattle.names.proofs.Listing.{listed-mem, listed-found}
 use Rattle.names.proofs.Finding.{find-listed}
-use Rattle.names.proofs.ReadingColours.{Places, places-none, places-with, names-with, names-count, colour-lies}
+use Rattle.names.proofs.ReadingColours.{Places, places-none, places-with, names-with, names-count, colour-lies, colours-lie}
 use Rattle.names.proofs.ReadingNumbers.{number-in}
 use Rattle.names.proofs.Exactly.{number-in-exactly, name-exactly}
 
@@ -128,7 +129,7 @@ fault-is s f (no-name count at start len ns r more h x) = name-fault x
 
 -- a list is read to its end, or refused for a fault of the list
 abbrev Read-out : List ℕ → ColoursRead → Type 0
-Read-out s r = (r .fault ≡ fault 0 0) ⊎ ListFault s (r .fault)
+Read-out s r = ((r .fault ≡ fault 0 0) × ListRead s (r .colours .count) (r .next)) ⊎ ListFault s (r .fault)
 
 -- with the names of c read so far, and what follows each longer list
 module _ (s : List ℕ) (count : ℕ) (c : Colours) (at k : ℕ) (g : Places s c) (room : c .count < 64) (more : length (namesIn s c) < count)
@@ -165,7 +166,9 @@ module _ (s : List ℕ) (count : ℕ) (c : Colours) (at k : ℕ) (g : Places s c
 
 from-out : (s : List ℕ) (count : ℕ) → count ≤ 64 → (k : ℕ) (c : Colours) (at : ℕ) → Places s c → c .count + k ≡ count → Reached s count (namesIn s c) at
     → Read-out s (coloursFrom s c at k)
-from-out s count many zero c at g h r = inl refl
+from-out s count many zero c at g h r =
+    let all : count ≡ c .count = omega arith in
+    inl (refl, record { names = namesIn s c; read = subst (λ (n : ℕ). Reached s n (namesIn s c) at) all r; all = names-count s c })
 from-out s count many (suc k) c at g h r =
     stepped s count c at k g (omega arith) (omega (arith, names-count s c)) r
     (λ d p gd e rd. from-out s count many k d p gd (omega arith) rd) (numberIn s at 1 40) refl
@@ -176,8 +179,32 @@ list-out s (Refused f) e = rw e (inr (no-count (number-in-exactly s 0 1 64 _ .0 
 list-out s (Value count at) e =
     rw e (from-out s count (number-in s 0 1 64 count at e .high) count noColours at (places-none s) (omega arith) (counted (number-in-exactly s 0 1 64 _ .0 e) refl))
 
+-- a refused list has no colours, and one that is read has some
+pub list-first : (s : List ℕ) → FirstFault (ListFault s) (coloursOf s .fault)
+list-first s =
+    first-fault (ListFault s) (coloursOf s .fault) (⊎-elim (λ w. inl (w .0)) inr (list-out s _ refl))
+    (λ f x. ap (λ (r : ColoursRead). r .fault) (fault-is s f x))
+    (λ z f x. omega (arith, colours-lie s z .some, ap (λ (r : ColoursRead). r .colours .count) (fault-is s f x)))
+
 pub list-refused-exactly : (s : List ℕ) (f : Fault) → 1 ≤ f .number → (coloursOf s .fault ≡ f) ↔ ListFault s f
-list-refused-exactly s f some = (
-  λ e. ⊎-elim (λ z. absurd (omega (arith, some, ap (λ (x : Fault). x .number) (sym e ∙ z)))) (λ x. subst (ListFault s) e x) (list-out s _ refl),
-  λ x. ap (λ (r : ColoursRead). r .fault) (fault-is s f x),
-)
+list-refused-exactly s = list-first s .exactly
+
+-- so many names and the place after them are read exactly where a list of so many ends there
+pub list-read-exactly : (s : List ℕ) (count at : ℕ)
+    → ((coloursOf s .fault .number ≡ 0) × (coloursOf s .colours .count ≡ count) × (coloursOf s .next ≡ at)) ↔ ListRead s count at
+list-read-exactly s count at = (read-whole, whole-read)
+  where
+    read-whole : (coloursOf s .fault .number ≡ 0) × (coloursOf s .colours .count ≡ count) × (coloursOf s .next ≡ at) → ListRead s count at
+    read-whole (z, n, p) =
+        ⊎-elim (λ w. rw (n, p) at (w .1)) (λ x. absurd (list-first s .none .1 z _ x)) (list-out s _ refl)
+
+    whole-read : ListRead s count at → (coloursOf s .fault .number ≡ 0) × (coloursOf s .colours .count ≡ count) × (coloursOf s .next ≡ at)
+    whole-read l =
+        let o = reached-on s count (l .read) in
+        let none : count - length (l .names) ≡ 0 = omega (arith, l .all) in
+        let whole = o .on ∙ ap (coloursFrom s (o .colours) at) none in
+        let many : o .colours .count ≡ count = sym (names-count s (o .colours)) ∙ ap length (o .names) ∙ l .all in (
+          ap (λ (r : ColoursRead). r .fault .number) whole,
+          ap (λ (r : ColoursRead). r .colours .count) whole ∙ many,
+          ap (λ (r : ColoursRead). r .next) whole,
+        )

@@ -21,6 +21,12 @@ pub data Reached (s : List ℕ) (count : ℕ) : List Name → ℕ → Type 0 whe
       → ReadsIn s from 1 40 (Value len start) → ReadsName (drop start s) len Whole → (List·Memᴰ (bytesAt s start len) before → ⊥)
       → ns ≡ before ++ (bytesAt s start len ∷ []) → at ≡ start + len → Reached s count ns at
 
+-- all names of a list of so many were read, and what follows it is due at a place
+pub record ListRead (s : List ℕ) (count at : ℕ) : Type 0 where
+  pub names : List Name
+  pub read : Reached s count names at
+  pub all : length names ≡ count
+
 -- what refuses a name after others: 1 where the input ends in it, 4 at a byte that may not stand in a name, 5 at its first byte where an earlier name equals it
 pub data NameFault (s : List ℕ) (before : List Name) (start len : ℕ) (f : Fault) : Type 0 where
   cut-short : ReadsName (drop start s) len Ends → f ≡ fault 1 (length s) → NameFault s before start len f

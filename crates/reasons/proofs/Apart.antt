@@ -45,36 +45,23 @@ kind-low (Largest top left height width) = omega arith
 kind-low NoPiece = omega arith
 
 -- the parts above one part are a quotient, and the part is what is left of it
-values-apart : (v : Values) → v .kind < 2 ^ 3 → Fits v → valuesIn (packedValues v) ≡ v
-values-apart v low f =
-    let n = packedValues v in
-    let a : n % 2 ^ 3 ≡ v .kind = first-part (v .kind) (v .row) (v .column) (v .height) (v .width) low in
-    let b : n / 2 ^ 3 % 2 ^ 5 ≡ v .row = second-part (v .kind) (v .row) (v .column) (v .height) (v .width) low (f .row-fits) in
-    let c : n / 2 ^ 8 % 2 ^ 5 ≡ v .column = third-part (v .kind) (v .row) (v .column) (v .height) (v .width) low (f .row-fits) (f .column-fits) in
-    let d : n / 2 ^ 13 % 2 ^ 5 ≡ v .height = fourth-part (v .kind) (v .row) (v .column) (v .height) (v .width) low (f .row-fits) (f .column-fits) (f .height-fits) in
-    let e : n / 2 ^ 18 ≡ v .width = last-part (v .kind) (v .row) (v .column) (v .height) (v .width) low (f .row-fits) (f .column-fits) (f .height-fits) in
-    λ i. record { kind = a i; row = b i; column = c i; height = d i; width = e i }
-  where
-    first-part : (k r c h w : ℕ) → k < 2 ^ 3 → packedValues (values k r c h w) % 2 ^ 3 ≡ k
-    first-part k r c h w hk = omega arith
+part : (q x above : ℕ) → q ≡ x + 2 ^ 5 * above → x < 2 ^ 5 → q % 2 ^ 5 ≡ x
+part q x above e h = omega arith
 
-    second-part : (k r c h w : ℕ) → k < 2 ^ 3 → r < 2 ^ 5 → packedValues (values k r c h w) / 2 ^ 3 % 2 ^ 5 ≡ r
-    second-part k r c h w hk hr =
-        let q : packedValues (values k r c h w) / 2 ^ 3 ≡ r + 2 ^ 5 * (c + 2 ^ 5 * h + 2 ^ 10 * w) = omega arith in
-        rw q (omega arith)
-
-    third-part : (k r c h w : ℕ) → k < 2 ^ 3 → r < 2 ^ 5 → c < 2 ^ 5 → packedValues (values k r c h w) / 2 ^ 8 % 2 ^ 5 ≡ c
-    third-part k r c h w hk hr hc =
-        let q : packedValues (values k r c h w) / 2 ^ 8 ≡ c + 2 ^ 5 * (h + 2 ^ 5 * w) = omega arith in
-        rw q (omega arith)
-
-    fourth-part : (k r c h w : ℕ) → k < 2 ^ 3 → r < 2 ^ 5 → c < 2 ^ 5 → h < 2 ^ 5 → packedValues (values k r c h w) / 2 ^ 13 % 2 ^ 5 ≡ h
-    fourth-part k r c h w hk hr hc hh =
-        let q : packedValues (values k r c h w) / 2 ^ 13 ≡ h + 2 ^ 5 * w = omega arith in
-        rw q (omega arith)
-
-    last-part : (k r c h w : ℕ) → k < 2 ^ 3 → r < 2 ^ 5 → c < 2 ^ 5 → h < 2 ^ 5 → packedValues (values k r c h w) / 2 ^ 18 ≡ w
-    last-part k r c h w hk hr hc hh = omega arith
+values-apart : (n : ℕ) (v : Values) → n / 2 ^ 32 ≡ packedValues v → v .kind < 2 ^ 3 → Fits v → valuesIn n ≡ v
+values-apart n v count low f =
+    let a : n / 2 ^ 32 % 2 ^ 3 ≡ v .kind = omega arith in
+    let q : n / 2 ^ 35 ≡ v .row + 2 ^ 5 * (v .column + 2 ^ 5 * v .height + 2 ^ 10 * v .width) = omega arith in
+    let s : n / 2 ^ 40 ≡ v .column + 2 ^ 5 * (v .height + 2 ^ 5 * v .width) = omega (arith, f .row-fits) in
+    let t : n / 2 ^ 45 ≡ v .height + 2 ^ 5 * v .width = omega (arith, f .column-fits) in
+    let u : n / 2 ^ 50 ≡ v .width + 2 ^ 5 * 0 = omega (arith, f .height-fits) in
+    λ i. record {
+      kind = a i;
+      row = part _ _ _ q (f .row-fits) i;
+      column = part _ _ _ s (f .column-fits) i;
+      height = part _ _ _ t (f .height-fits) i;
+      width = part _ _ 0 u (f .width-fits) i;
+    }
 
 with-values : (r : Reason) → reasonWith (valuesOf r) ≡ r
 with-values NoReason = refl
@@ -83,9 +70,14 @@ with-values NoSuchSize = refl
 with-values (Largest top left height width) = refl
 with-values NoPiece = refl
 
-pub reason-read : (r : Reason) → Fits (valuesOf r) → reasonRead (packedReason r) ≡ r
-unfolding reasonRead
-reason-read r f = ap reasonWith (values-apart (valuesOf r) (kind-low r) f) ∙ with-values r
+-- a number with the count of a reason has its values, and so the reason
+module _ (n : ℕ) (r : Reason) (count : n / 2 ^ 32 ≡ packedReason r) (f : Fits (valuesOf r)) where
+  pub values-read : valuesIn n ≡ valuesOf r
+  values-read = values-apart n (valuesOf r) count (kind-low r) f
+
+  pub reason-read : reasonRead n ≡ r
+  unfolding reasonRead
+  reason-read = ap reasonWith values-read ∙ with-values r
 
 packed-low : (r : Reason) → Fits (valuesOf r) → packedReason r < 2 ^ 32
 packed-low r f =

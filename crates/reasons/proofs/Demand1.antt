@@ -20,10 +20,10 @@ use Rattle.pieces.proofs.Endings.{contents, shown, Accepted}
 use Rattle.reasons.specs.declared.calls.WhyNot.{WhyNot}
 use Rattle.reasons.specs.declared.reason.Reason.{Reason}
 use Rattle.reasons.specs.declared.reason.Reason.the-variants.{NoReason}
-use Rattle.reasons.specs.Reason.{packedReason, reasonRead}
+use Rattle.reasons.specs.Reason.{valuesOf, packedReason, valuesIn, reasonRead}
 use Rattle.reasons.specs.Holds.{First}
 use Rattle.reasons.specs.Why.{Outcome, whyNot, Answers, Leaves}
-use Rattle.reasons.proofs.Apart.{reason-read, why-not-packs}
+use Rattle.reasons.proofs.Apart.{values-read, reason-read, Packable, why-not-packs}
 use Rattle.reasons.proofs.Endings.{why-not-ends}
 
 neither : {A B : Type 0} → (A → ⊥) → (B → ⊥) → A ↔ B
@@ -152,20 +152,32 @@ module _ (book sheet work : List ℕ) where
       → Answered (r .answer .number) (r .answer .blamed) (r .answer .place) (r .reason) left
   why-not-answered r left a = rw (a .answers, a .reasons, a .leaves) obeys
 
-  -- the same of the number that the C host gets, with the reason read off its count
-  pub dv-why-not-answered : (r : ℕ) (left : List ℕ) → Leaves (whyNot book sheet work) r left
-      → Answered (r % 2 ^ 8) (r / 2 ^ 8 % 2 ^ 4) (r / 2 ^ 12 % 2 ^ 20) (reasonRead (r / 2 ^ 32)) left
-  dv-why-not-answered r left l =
-      let o = whyNot book sheet work in
-      let packs = why-not-packs book sheet work in
-      let parts = apart (o .answer) (packedReason (o .reason)) (packs .packs) in
-      rw (l .answers, l .leaves)
-      (rw (parts .number-is, parts .blamed-is, parts .place-is, parts .count-is, reason-read (o .reason) (packs .fits)) obeys)
+  -- the same of the number that the C host gets, with the reason read off it
+  module _ (r : ℕ) (left : List ℕ) (l : Leaves (whyNot book sheet work) r left) where
+    abbrev o : Outcome
+    o = whyNot book sheet work
 
-  -- a refusal's count is 0
-  pub refusal-counts-nothing : (r : ℕ) (left : List ℕ) → Leaves (whyNot book sheet work) r left → (r % 2 ^ 8 ≡ 0 → ⊥) → r / 2 ^ 32 ≡ 0
-  refusal-counts-nothing r left l n =
-      let o = whyNot book sheet work in
-      let parts = apart (o .answer) (packedReason (o .reason)) (why-not-packs book sheet work .packs) in
-      let number : r % 2 ^ 8 ≡ o .answer .number = ap (λ (x : ℕ). x % 2 ^ 8) (l .answers) ∙ parts .number-is in
-      ap (λ (x : ℕ). x / 2 ^ 32) (l .answers) ∙ parts .count-is ∙ ap packedReason (obeys .no-reason (λ z. n (number ∙ z)))
+    packs : Packable o
+    packs = why-not-packs book sheet work
+
+    count-is : r / 2 ^ 32 ≡ packedReason (o .reason)
+    count-is = ap (λ (x : ℕ). x / 2 ^ 32) (l .answers) ∙ apart (o .answer) (packedReason (o .reason)) (packs .packs) .count-is
+
+    reason-is : reasonRead r ≡ o .reason
+    reason-is = reason-read r (o .reason) count-is (packs .fits)
+
+    pub dv-why-not-answered : Answered (r % 2 ^ 8) (r / 2 ^ 8 % 2 ^ 4) (r / 2 ^ 12 % 2 ^ 20) (reasonRead r) left
+    dv-why-not-answered =
+        let parts = apart (o .answer) (packedReason (o .reason)) (packs .packs) in
+        rw (reason-is, l .leaves) (rw (l .answers) (rw (parts .number-is, parts .blamed-is, parts .place-is) obeys))
+
+    -- the kind, row, column, height and width that the header takes from it are the values of that reason: what the kind does not name is 0
+    pub dv-why-not-values : valuesIn r ≡ valuesOf (reasonRead r)
+    dv-why-not-values = rw reason-is (values-read r (o .reason) count-is (packs .fits))
+
+    -- a refusal's count is 0
+    pub refusal-counts-nothing : (r % 2 ^ 8 ≡ 0 → ⊥) → r / 2 ^ 32 ≡ 0
+    refusal-counts-nothing n =
+        let parts = apart (o .answer) (packedReason (o .reason)) (packs .packs) in
+        let number : r % 2 ^ 8 ≡ o .answer .number = ap (λ (x : ℕ). x % 2 ^ 8) (l .answers) ∙ parts .number-is in
+        count-is ∙ ap packedReason (obeys .no-reason (λ z. n (number ∙ z)))

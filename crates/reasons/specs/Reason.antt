@@ -42,10 +42,11 @@ pub record Fits (v : Values) : Type 0 where
   pub height-fits : v .height < 2 ^ 5
   pub width-fits : v .width < 2 ^ 5
 
--- the count taken apart, and the reason that a host reads off
+-- the number taken apart as the header does: the count starts at bit 32
 abbrev pub valuesIn : ℕ → Values
-valuesIn n = values (n % 2 ^ 3) (n / 2 ^ 3 % 2 ^ 5) (n / 2 ^ 8 % 2 ^ 5) (n / 2 ^ 13 % 2 ^ 5) (n / 2 ^ 18)
+valuesIn r = values (r / 2 ^ 32 % 2 ^ 3) (r / 2 ^ 35 % 2 ^ 5) (r / 2 ^ 40 % 2 ^ 5) (r / 2 ^ 45 % 2 ^ 5) (r / 2 ^ 50 % 2 ^ 5)
 
+-- the reason that a host reads off
 abbrev pub reasonWith : Values → Reason
 reasonWith v =
     pick (eqb (v .kind) 1) (Unnamed (v .row) (v .column))
@@ -54,4 +55,4 @@ reasonWith v =
     (pick (eqb (v .kind) 4) NoPiece NoReason)))
 
 unfoldable pub reasonRead : ℕ → Reason
-reasonRead n = reasonWith (valuesIn n)
+reasonRead r = reasonWith (valuesIn r)

@@ -2,7 +2,7 @@
 use Prim.Native.Nat.{ℕ, _+_, _*_, _/_, _≤_}
 use mathlib.Core.Path.{_≡_, refl, ap, _∙_}
 use mathlib.Core.List.{List, []}
-use mathlib.Core.Logic.{_⊎_, inl, inr}
+use mathlib.Core.Logic.{_↔_, _⊎_, inl, inr}
 use native.Mathlib.Nat.{mul-le-mul}
 use native.Mathlib.Omega.{arith}
 use lib.ListN.{replicate, length-replicate}
@@ -61,14 +61,24 @@ module _ (book sheet : List ℕ) where
         derived = λ fine room x nodes given. inl (omega arith);
       })
 
-  -- an accepted sheet is read, and a member of the family
-  pub accepted-member : answerOf book sheet ≡ 0 → Accepted book sheet × Member (contents book) (shown sheet)
+  -- an accepted sheet is read, and a member of the family; and every such sheet is accepted
+  pub accepted-exactly : (answerOf book sheet ≡ 0) ↔ (Accepted book sheet × Member (contents book) (shown sheet))
   unfolding answerOf
-  accepted-member e =
+  accepted-exactly =
       let d = derivation book sheet work tree in
-      let (fine, room, member) = derive-numbers book sheet work tree {r = d .answer} {w = d .entries} {t = d .numbers}
-      (record { answers = refl; leaves-work = refl; leaves-tree = refl }) .zero .0 e in
-      (fine, member)
+      let zero = derive-numbers book sheet work tree {r = d .answer} {w = d .entries} {t = d .numbers}
+      (record { answers = refl; leaves-work = refl; leaves-tree = refl }) .zero in (
+        λ e. let (fine, room, member) = zero .0 e in (fine, member),
+        λ x. let fine = x .0 .sheet-fine in
+            zero .1 (
+              x .0,
+              record {
+                work-long = omega (arith, length-replicate {A = ℕ} workRoom 0, table-fits sheet fine);
+                tree-long = omega (arith, length-replicate {A = ℕ} treeRoom 0, tree-fits sheet fine);
+              },
+              x .1,
+            ),
+      )
 
 -- a sheet of no bytes ends at once
 nothing-read : sheetOf [] .fault ≡ fault 1 0

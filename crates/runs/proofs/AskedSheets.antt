@@ -35,7 +35,7 @@ use Rattle.runs.specs.inner.Adding.{mostAdded, Spare, answered, coloured
 use Rattle.runs.specs.inner.Reporting.{Beyond, Adds}
 use Rattle.runs.proofs.AddingSheets.{Low, count-low, answered-long, coloured-long, ticketed-long, answered-beyond, coloured-beyond, ticketed-beyond}
 use Rattle.runs.proofs.AddingSheets.{declined-counted, accepted-counted}
-use Rattle.runs.proofs.AnswersOfSheets.{Listed, table-fits, tree-fits, answer-listed, accepted-member}
+use Rattle.runs.proofs.AnswersOfSheets.{Listed, table-fits, tree-fits, answer-listed, accepted-exactly}
 use Rattle.runs.proofs.CellsShown.{numbers-low, showing-numbers}
 use Rattle.runs.proofs.StandingFigures.{counted, counts}
 
@@ -87,7 +87,7 @@ module _ (book sheet work : List ℕ) (fine : bookOf book .fault .number ≡ 0) 
 
     module _ (zero-is : r .answer .number ≡ 0) where
       derived : Accepted book sheet × Member (contents book) (shown sheet)
-      derived = accepted-member book sheet (sym number-is ∙ zero-is)
+      derived = accepted-exactly book sheet .0 (sym number-is ∙ zero-is)
 
       low : (i : ℕ) → i < r .rows * r .cols → getD (r .cells) i 0 < mostColours
       low = rw (asks .rows, asks .cols, asks .cells) (numbers-low book sheet bytes (derived .0) (derived .1))

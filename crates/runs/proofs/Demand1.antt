@@ -30,6 +30,7 @@ Framed run = framing run .number ≡ 0
 
 -- A call that was lent a book, a run and a work slice answers so, with these figures, and leaves the slice so.
 pub record Answered (book run work : List ℕ) (number blamed place : ℕ) (figures : Figures) (left : List ℕ) : Type 0 where
+  pub listed : number ≤ 9
   pub zero : (number ≡ 0) ↔ (Fine book × Framed run × (workRoom ≤ length work))
   pub nine : (number ≡ 9) ↔ (Fine book × Framed run × (length work < workRoom))
   -- a fault of the book is blamed on it at its place, which is a byte of the book or its end
@@ -57,6 +58,7 @@ module _ (book run work : List ℕ) where
       let e = book-first (bookOf book .fault) run (length work) bad in
       rw (refuses _ (rw (ne-eqb (bookOf book .fault .number) 0 bad) at e) bad)
       (record {
+        listed = omega (arith, f .known);
         zero = (λ z. absurd (bad z), λ x. absurd (bad (x .0)));
         nine = (λ z. absurd (omega (arith, f .known)), λ x. absurd (bad (x .0)));
         in-book = λ _. (refl, refl, refl, f .inside);
@@ -73,6 +75,7 @@ module _ (book run work : List ℕ) where
         let e = run-second (bookOf book .fault) run (length work) fine bad in
         rw (refuses _ (rw (ne-eqb (framing run .number) 0 bad) at e) bad)
         (record {
+          listed = omega (arith, f .known);
           zero = (λ z. absurd (bad z), λ x. absurd (bad (x .1)));
           nine = (λ z. absurd (omega (arith, f .known)), λ x. absurd (bad (x .1)));
           in-book = λ b. absurd (b fine);
@@ -87,6 +90,7 @@ module _ (book run work : List ℕ) where
       of-work h =
           rw (refuses (plain 9) (work-third (bookOf book .fault) run (length work) fine framed h) (λ z. omega arith))
           (record {
+            listed = omega arith;
             zero = (λ z. absurd (omega arith), λ x. absurd (omega (arith, x .2)));
             nine = (λ _. (fine, framed, h), λ _. refl);
             in-book = λ b. absurd (b fine);
@@ -101,6 +105,7 @@ module _ (book run work : List ℕ) where
           let e = nothing-refused (bookOf book .fault) run (length work) fine framed h in
           rw (gone-through book run work (ap (λ (b : Answer). b .number) e))
           (record {
+            listed = omega arith;
             zero = (λ _. (fine, framed, h), λ _. refl);
             nine = (λ z. absurd (omega arith), λ x. absurd (omega (arith, x .2)));
             in-book = λ b. absurd (b fine);
@@ -157,6 +162,8 @@ module _ (book run work : List ℕ) where
   module _ (slice : List ℕ) where
     -- 13 before anything is read, and nothing is written; else the figures stand at the front of the slice, whatever is answered
     pub record Called (r : ℕ) (work-left left : List ℕ) : Type 0 where
+      pub listed : (r % 2 ^ 8 ≤ 9) ⊎ (r % 2 ^ 8 ≡ 13)
+      pub thirteen : (r % 2 ^ 8 ≡ 13) ↔ (length slice < figuresLong)
       pub short : length slice < figuresLong
           → (r % 2 ^ 8 ≡ 13) × (r / 2 ^ 8 % 2 ^ 4 ≡ 0) × (r / 2 ^ 12 % 2 ^ 20 ≡ 0) × (work-left ≡ work) × (left ≡ slice)
       pub long : figuresLong ≤ length slice
@@ -167,7 +174,10 @@ module _ (book run work : List ℕ) where
     called-short h r work-left left l =
         let m : Leaves (record { answer = plain 13; entries = work; slice = slice }) r work-left left = rw (short-slice book run work slice h) at l in
         let p = apart (plain 13) 0 (plain-packs 13 0 (omega arith) (omega arith)) in
+        let number : r % 2 ^ 8 ≡ 13 = rw (m .answers) (p .number-is) in
         record {
+          listed = inr number;
+          thirteen = (λ _. h, λ _. number);
           short = λ _. rw (m .answers) (p .number-is, p .blamed-is, p .place-is, m .leaves-work, m .leaves-figures);
           long = λ g. absurd (omega arith);
           no-count = rw (m .answers) (p .count-is);
@@ -177,7 +187,10 @@ module _ (book run work : List ℕ) where
     called-long h r work-left left l =
         let m : Leaves (told o slice) r work-left left = rw (long-slice book run work slice h) at l in
         let p = apart (o .answer) 0 report-packs in
+        let low : r % 2 ^ 8 ≤ 9 = rw (m .answers, p .number-is) (obeys .listed) in
         record {
+          listed = inl low;
+          thirteen = (λ e. absurd (omega (arith, low, e)), λ g. absurd (omega arith));
           short = λ g. absurd (omega arith);
           long = λ _. (o .figures, rw (m .answers, m .leaves-work) (rw (p .number-is, p .blamed-is, p .place-is) obeys), m .leaves-figures);
           no-count = rw (m .answers) (p .count-is);

@@ -11,6 +11,7 @@ pub mod RunTheorems
 pub mod RunExamples
 pub mod SheetsSoFar
 pub mod SpelledRuns
+pub mod RunExactly
 pub mod ReportingRuns
 pub mod Demand1
 pub mod Settled

@@ -1,5 +1,6 @@
 pub mod Lists
 pub mod Run
+pub mod ReadsRun
 pub mod Figures
 pub mod Outcome
 pub mod inner
