@@ -7,14 +7,16 @@ use native.Mathlib.Omega.{arith}
 use borrow.Author.Tests.{ltb-true, lt-ltb}
 use Rattle.names.specs.Name.{Name}
 use Rattle.names.proofs.SameNames.{same-name}
-use Rattle.names.proofs.Tests.{not-true-false}
+use Rattle.names.proofs.Tests.{not-true-false, and-both, and-make, both-ways}
 use Rattle.books.specs.Contents.{Contents, Called}
-use Rattle.books.specs.Picture.{Picture, Same, Dir, across, down, size, first, rest}
+use Rattle.books.specs.Picture.{Picture, Same, size, first, rest}
+use Rattle.books.specs.declared.rule.Dir.the-variants.{Across as across, Down as down}
+use Rattle.books.specs.declared.rule.Dir.{Dir}
 use Rattle.books.specs.Derives.{Derives, paint, join}
 use Rattle.books.specs.Search.{Gives, paint as paint-given, join as join-given, anyRule, Lessens}
 use Rattle.books.specs.Decide.{called?, pictures, derives?}
 use Rattle.books.proofs.SamePictures.{derives-same, same-sym}
-use Rattle.books.proofs.Searches.{and-both, and-make, one-cell, both-ways, searched, search-step}
+use Rattle.books.proofs.Searches.{one-cell, searched, search-step}
 
 -- A colour's name is found where its number is listed.
 pub called : (b : Contents) (c : ℕ) (n : Name) → (called? b c n ≡ true) ↔ Called b c n

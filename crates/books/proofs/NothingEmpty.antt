@@ -4,7 +4,9 @@ use Prim.Native.Nat.{ℕ, _≤_}
 use mathlib.Core.Path.{_≡_}
 use native.Mathlib.Omega.{arith}
 use Rattle.books.specs.Contents.{Contents}
-use Rattle.books.specs.Picture.{Picture, Dir, across, down, size}
+use Rattle.books.specs.Picture.{Picture, size}
+use Rattle.books.specs.declared.rule.Dir.the-variants.{Across as across, Down as down}
+use Rattle.books.specs.declared.rule.Dir.{Dir}
 use Rattle.books.specs.Derives.{Derives, paint, join}
 
 pub derives-size : (d : Dir) {b : Contents} {a : ℕ} {p : Picture} → Derives b a p → 1 ≤ size d p

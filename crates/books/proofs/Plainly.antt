@@ -5,7 +5,8 @@ use native.Mathlib.Omega.{arith}
 use lib.ListN.{length}
 use Rattle.names.specs.Name.{Name}
 use Rattle.books.specs.Contents.{Contents, Called}
-use Rattle.books.specs.Picture.{Picture, across, down}
+use Rattle.books.specs.Picture.{Picture}
+use Rattle.books.specs.declared.rule.Dir.the-variants.{Across as across, Down as down}
 use Rattle.books.specs.Derives.{Derives, paint, join}
 use Rattle.books.specs.Plain.{Plain, coloured, joined-across, joined-down}
 

@@ -4,7 +4,9 @@ use mathlib.Core.Path.{_≡_, refl, sym, _∙_, ap}
 use mathlib.Core.Logic.{_↔_}
 use native.Mathlib.Omega.{arith}
 use Rattle.books.specs.Contents.{Contents}
-use Rattle.books.specs.Picture.{Picture, Same, Dir, across, down, size, first, rest}
+use Rattle.books.specs.Picture.{Picture, Same, size, first, rest}
+use Rattle.books.specs.declared.rule.Dir.the-variants.{Across as across, Down as down}
+use Rattle.books.specs.declared.rule.Dir.{Dir}
 use Rattle.books.specs.Derives.{Derives, paint, join}
 
 pub same-refl : (p : Picture) → Same p p

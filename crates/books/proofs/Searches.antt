@@ -9,36 +9,15 @@ use native.Mathlib.Nat.{eq-or-lt-of-le}
 use native.Mathlib.Omega.{arith}
 use lib.Dec.{eqb}
 use borrow.Author.Tests.{eqb-true, eq-eqb}
-use Rattle.books.specs.Picture.{Dir, across, down, joins}
-use Rattle.books.specs.Search.{andThen, orElse, Cutting, Ruled, Gives, paint, join, anyCut, fitsBody, anyRule, givesIn, Lessens}
+use Rattle.names.proofs.Tests.{and-both, and-make, or-either, or-left, or-right, both-ways}
+use Rattle.books.specs.Picture.{joins}
+use Rattle.books.specs.declared.rule.Dir.the-variants.{Across as across, Down as down}
+use Rattle.books.specs.declared.rule.Dir.{Dir}
+use Rattle.books.specs.Search.{Cutting, Ruled, Gives, paint, join, anyCut, fitsBody, anyRule, givesIn, Lessens}
+use Rattle.names.specs.Pick.{andThen, orElse}
 use Rattle.books.specs.declared.rule.Rule.{Rule}
 use Rattle.books.specs.declared.rule.Body.{Body}
 use Rattle.books.specs.declared.rule.Body.the-variants.{Colour, Across, Down}
-
-pub and-both : (t : Bool) (k : Unit {0} → Bool) → andThen t k ≡ true → (t ≡ true) × (k tt ≡ true)
-unfolding andThen
-and-both true k e = (refl, e)
-and-both false k e = absurd (false≢true e)
-
-pub and-make : (t : Bool) (k : Unit {0} → Bool) → t ≡ true → k tt ≡ true → andThen t k ≡ true
-unfolding andThen
-and-make true k e f = f
-and-make false k e f = e
-
-pub or-either : (t : Bool) (k : Unit {0} → Bool) → orElse t k ≡ true → (t ≡ true) ⊎ (k tt ≡ true)
-unfolding orElse
-or-either true k e = inl refl
-or-either false k e = inr e
-
-pub or-left : (t : Bool) (k : Unit {0} → Bool) → t ≡ true → orElse t k ≡ true
-unfolding orElse
-or-left true k e = refl
-or-left false k e = absurd (false≢true e)
-
-pub or-right : (t : Bool) (k : Unit {0} → Bool) → k tt ≡ true → orElse t k ≡ true
-unfolding orElse
-or-right true k e = refl
-or-right false k e = e
 
 -- One row and one column are tested first, of whatever is a cell.
 pub one-cell : {P : Type 0} (m n : ℕ) (t : Bool) → (t ≡ true) ↔ P
@@ -47,12 +26,6 @@ one-cell m n t right = (
   λ e. let (x, u) = and-both (eqb m 1) _ e in let (y, z) = and-both (eqb n 1) _ u in (eqb-true m 1 x, eqb-true n 1 y, right .0 z),
   λ (e, f, g). and-make (eqb m 1) _ (eq-eqb m 1 e) (and-make (eqb n 1) _ (eq-eqb n 1 f) (right .1 g)),
 )
-
--- Two tests that are true together are the same test.
-pub both-ways : (s t : Bool) → (s ≡ true → t ≡ true) → (t ≡ true → s ≡ true) → s ≡ t
-both-ways true t f g = sym (f refl)
-both-ways false true f g = g refl
-both-ways false false f g = refl
 
 module _ {X : Type 0} (c : Cutting X) (rules : List Rule) (bulk : X → ℕ) (less : Lessens c bulk) where
   -- A cut at n or below it is found exactly where one is.

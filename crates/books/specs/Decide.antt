@@ -7,7 +7,8 @@ use lib.ListN.{length}
 use Rattle.names.specs.Name.{Name, sameName}
 use Rattle.books.specs.Contents.{Contents, Called, name}
 use Rattle.books.specs.Picture.{Picture, size, first, rest}
-use Rattle.books.specs.Search.{andThen, Cutting, givesIn}
+use Rattle.books.specs.Search.{Cutting, givesIn}
+use Rattle.names.specs.Pick.{andThen}
 
 -- whether the colour with a number has a name
 unfoldable pub called? : Contents → ℕ → Name → Bool

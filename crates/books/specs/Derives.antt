@@ -2,7 +2,8 @@
 use Prim.Native.Nat.{ℕ, _≤_, _<_}
 use mathlib.Core.Path.{_≡_}
 use Rattle.books.specs.Contents.{Contents, Has, Called}
-use Rattle.books.specs.Picture.{Picture, Dir, joins, size, first, rest}
+use Rattle.books.specs.Picture.{Picture, joins, size, first, rest}
+use Rattle.books.specs.declared.rule.Dir.{Dir}
 use Rattle.books.specs.declared.rule.Body.the-variants.{Colour}
 
 pub data Derives (b : Contents) : ℕ → Picture → Type 0 where

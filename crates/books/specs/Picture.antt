@@ -4,6 +4,8 @@ use mathlib.Core.Path.{_≡_}
 use Rattle.names.specs.Name.{Name}
 use Rattle.books.specs.declared.rule.Body.{Body}
 use Rattle.books.specs.declared.rule.Body.the-variants.{Across, Down}
+use Rattle.books.specs.declared.rule.Dir.{Dir}
+use Rattle.books.specs.declared.rule.Dir.the-variants.{Across as across, Down as down}
 
 -- rows, columns, and the colour name of each cell; names outside the rows and columns mean nothing
 pub record Picture : Type 0 where
@@ -16,11 +18,6 @@ pub record Same (p q : Picture) : Type 0 where
   pub same-rows : p .rows ≡ q .rows
   pub same-cols : p .cols ≡ q .cols
   pub same-cell : (i j : ℕ) → i < p .rows → j < p .cols → p .cell i j ≡ q .cell i j
-
--- the two ways of joining
-pub data Dir : Type 0 where
-  across : Dir
-  down : Dir
 
 abbrev pub joins : Dir → ℕ → ℕ → Body
 joins across l r = Across l r

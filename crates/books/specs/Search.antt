@@ -5,19 +5,13 @@ use mathlib.Core.Bool.{Bool, true, false}
 use mathlib.Core.List.{List, [], _∷_, List·Memᴰ}
 use mathlib.Core.Logic.{_↔_}
 use lib.Dec.{eqb}
-use Rattle.books.specs.Picture.{Dir, across, down, joins}
+use Rattle.names.specs.Pick.{andThen, orElse}
+use Rattle.books.specs.Picture.{joins}
+use Rattle.books.specs.declared.rule.Dir.the-variants.{Across as across, Down as down}
+use Rattle.books.specs.declared.rule.Dir.{Dir}
 use Rattle.books.specs.declared.rule.Rule.{Rule}
 use Rattle.books.specs.declared.rule.Body.{Body}
 use Rattle.books.specs.declared.rule.Body.the-variants.{Colour, Across, Down}
-
--- the second test is made only where the first leaves it open
-unfoldable pub andThen : Bool → (Unit {0} → Bool) → Bool
-andThen true k = k tt
-andThen false k = false
-
-unfoldable pub orElse : Bool → (Unit {0} → Bool) → Bool
-orElse true k = true
-orElse false k = k tt
 
 -- how far a thing reaches in a direction, its first k columns or rows, the rest, and when it is one cell of a colour of the book, said and computed
 pub record Cutting (X : Type 0) : Type 1 where

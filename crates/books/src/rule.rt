@@ -1,5 +1,11 @@
 // A rule is a head motif with one of three bodies.
 
+// The two ways of joining: side by side, or one above the other.
+pub enum Dir {
+    Across,
+    Down,
+}
+
 // A colour; a left and a right motif; an upper and a lower motif.
 pub enum Body {
     Colour(u8),

@@ -13,7 +13,8 @@ use Rattle.books.specs.Contents.{Contents}
 use Rattle.books.specs.Book.{bookOf}
 use Rattle.books.specs.Derives.{Member}
 use Rattle.books.specs.Keeps.{Sound, Keeps}
-use Rattle.books.specs.Picture.{Picture, across, down}
+use Rattle.books.specs.Picture.{Picture}
+use Rattle.books.specs.declared.rule.Dir.the-variants.{Across as across, Down as down}
 use Rattle.books.specs.SpellBook.{spellBook}
 use Rattle.books.specs.declared.answer.Answer.{Answer}
 use Rattle.books.proofs.ReadingBooks.{BookSpelled, book-accepted}

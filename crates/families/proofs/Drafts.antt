@@ -11,7 +11,8 @@ use Rattle.names.specs.declared.colours.Colours.{Colours}
 use Rattle.names.proofs.ReadingColours.{names-count}
 use Rattle.books.specs.Contents.{Contents}
 use Rattle.books.specs.ContentsIn.{contentsIn}
-use Rattle.books.specs.Picture.{Dir, joins}
+use Rattle.books.specs.Picture.{joins}
+use Rattle.books.specs.declared.rule.Dir.{Dir}
 use Rattle.books.specs.declared.family.Family.{Family}
 use Rattle.books.specs.declared.rule.Rule.{Rule}
 use Rattle.books.specs.declared.rule.Body.{Body}

@@ -12,7 +12,8 @@ use Rattle.names.proofs.ReadingColours.{names-count, name-at}
 use Rattle.books.specs.Contents.{Contents}
 use Rattle.books.specs.ContentsIn.{contentsIn}
 use Rattle.books.specs.Keeps.{BodyFits}
-use Rattle.books.specs.Picture.{Dir, joins}
+use Rattle.books.specs.Picture.{joins}
+use Rattle.books.specs.declared.rule.Dir.{Dir}
 use Rattle.books.specs.declared.family.Family.{Family}
 use Rattle.books.specs.declared.rule.Rule.{Rule}
 use Rattle.books.specs.declared.rule.Body.{Body}
@@ -20,7 +21,7 @@ use Rattle.books.specs.declared.rule.Body.the-variants.{Colour, Across, Down}
 use Rattle.families.specs.Merged.{merged}
 use Rattle.families.specs.inner.Merges.{Merges}
 use Rattle.families.specs.Combine.{moved, renumbered, raised, copies, joined, either-of}
-use Rattle.families.specs.inner.Asked.{direction, paired}
+use Rattle.families.specs.inner.Asked.{paired}
 use Rattle.families.specs.inner.Gathered.{standing, followed, raisedBy}
 use Rattle.families.specs.inner.Lent.{rulesOf, Lent}
 use Rattle.families.specs.Within.{few?, within?}
@@ -118,7 +119,7 @@ module _ (s t : List ℕ) (f g : Family) (m : Merged) (lf : Lent s f) (lg : Lent
 
   pub pair-test : (p : Pairing) → within? (paired p first second) ≡ tested (addedBy p f g)
   pair-test EitherOf = either-of-test
-  pair-test (Joined way) = joined-test (direction way)
+  pair-test (Joined way) = joined-test way
 
   pub pair-makes : (p : Pairing) → f .count + g .count + addedBy p f g ≤ 200 → within? (paired p first second) ≡ true
       → MakesPair p s f t g (draftedAs f (m .more) (f .motifs + g .motifs + 1) (f .motifs + g .motifs) (pairRules p f g (m .numbers)))
@@ -140,10 +141,10 @@ module _ (s t : List ℕ) (f g : Family) (m : Merged) (lf : Lent s f) (lg : Lent
       small
   pair-makes (Joined way) room small =
       let both : List Rule = first .rules ++ risen in
-      let new : Rule = record { head = f .motifs + g .motifs; body = joins (direction way) (f .start) (f .motifs + g .start) } in
+      let new : Rule = record { head = f .motifs + g .motifs; body = joins way (f .start) (f .motifs + g .start) } in
       let last : length both + 1 ≤ 200 = omega (arith, length-append (first .rules) risen, first-count, risen-count) in
       let st = followed-stands (bothRules f g (m .numbers)) both (both-stand (omega arith)) (new ∷ []) last in
-      drafted-makes s t f (m .more) (pairRules (Joined way) f g (m .numbers)) (joined (direction way) first second) (lf .fitted .sized) more-few (st .rows)
+      drafted-makes s t f (m .more) (pairRules (Joined way) f g (m .numbers)) (joined way first second) (lf .fitted .sized) more-few (st .rows)
       (mm .names)
       (st .are ∙ simp (risen-are, append-assoc))
       small

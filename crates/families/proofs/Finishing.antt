@@ -27,7 +27,7 @@ use Rattle.families.specs.Limits.{WithinLimits}
 use Rattle.families.specs.Within.{within?}
 use Rattle.families.specs.inner.Made.{Makes}
 use Rattle.families.specs.Outcome.{Outcome, written, made, Leaves}
-use Rattle.families.specs.inner.Asked.{direction, changedBody, paired, alone}
+use Rattle.families.specs.inner.Asked.{changedBody, paired, alone}
 use Rattle.families.specs.inner.Finished.{finished, Finishes}
 use Rattle.families.specs.declared.making.Made.{Made}
 use Rattle.families.specs.declared.asked.Change.{Change}
@@ -38,7 +38,7 @@ use Rattle.families.specs.declared.asked.Single.{Single}
 use Rattle.families.specs.declared.asked.Single.the-variants.{Repeated, Changed}
 use Rattle.families.proofs.Testing.{within-limits}
 use Rattle.families.proofs.Keeping.{KeptTwo, KeptOne, joined-keeps, either-of-keeps, repeated-keeps, transposed-keeps, swapping-keeps}
-use Rattle.books.specs.Picture.{across, down}
+use Rattle.books.specs.declared.rule.Dir.the-variants.{Across as across, Down as down}
 
 -- A choice whose test is known.
 picked : {A : Type 0} (x y : A) (b : Bool) → b ≡ true → pick b x y ≡ x
@@ -62,7 +62,7 @@ written-by c out =
 -- A combination of books that keep the rules keeps them where it is within the limits.
 pub paired-keeps : (p : Pairing) → KeptTwo (paired p)
 paired-keeps EitherOf = either-of-keeps
-paired-keeps (Joined way) = joined-keeps (direction way)
+paired-keeps (Joined way) = joined-keeps way
 
 changed-keeps : (change : Change) (f : Contents) → Keeps f → Keeps (rebodied (changedBody change) f)
 changed-keeps Mirrored = swapping-keeps across
@@ -70,7 +70,7 @@ changed-keeps Flipped = swapping-keeps down
 changed-keeps Transposed = transposed-keeps
 
 pub alone-keeps : (p : Single) → KeptOne (alone p)
-alone-keeps (Repeated way) = repeated-keeps (direction way)
+alone-keeps (Repeated way) = repeated-keeps way
 alone-keeps (Changed change) = λ f k _. changed-keeps change f k
 
 module _ (s t : List ℕ) (c : Contents) (m : Made) (makes : Makes s t c m) where

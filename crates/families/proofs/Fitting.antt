@@ -8,7 +8,9 @@ use native.Mathlib.Omega.{arith}
 use lib.ListN.{length}
 use Rattle.names.proofs.Listing.{getD-mem, listed-found}
 use Rattle.books.specs.Contents.{Contents, name}
-use Rattle.books.specs.Picture.{Dir, across, down, joins}
+use Rattle.books.specs.Picture.{joins}
+use Rattle.books.specs.declared.rule.Dir.the-variants.{Across as across, Down as down}
+use Rattle.books.specs.declared.rule.Dir.{Dir}
 use Rattle.books.specs.Keeps.{BodyFits, RuleFits, Sound}
 use Rattle.books.specs.declared.rule.Rule.{Rule}
 use Rattle.books.specs.declared.rule.Body.{Body}

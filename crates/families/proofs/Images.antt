@@ -6,7 +6,9 @@ use mathlib.Core.List.{List, map, map-map, map-id, Memᴰ·map}
 use mathlib.Core.Logic.{_↔_}
 use native.Mathlib.Omega.{arith}
 use Rattle.books.specs.Contents.{Contents}
-use Rattle.books.specs.Picture.{Picture, Same, Dir, across, down, first, rest}
+use Rattle.books.specs.Picture.{Picture, Same, first, rest}
+use Rattle.books.specs.declared.rule.Dir.the-variants.{Across as across, Down as down}
+use Rattle.books.specs.declared.rule.Dir.{Dir}
 use Rattle.books.specs.Derives.{Derives, paint, join, Member}
 use Rattle.books.specs.declared.rule.Rule.{Rule}
 use Rattle.books.specs.declared.rule.Body.{Body}

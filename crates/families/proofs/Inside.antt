@@ -5,7 +5,9 @@ use mathlib.Core.Path.{_≡_, refl, sym, _∙_, ap}
 use mathlib.Core.List.{Memᴰ·cast}
 use lib.ListN.{length}
 use Rattle.books.specs.Contents.{Contents, Has, Called, name}
-use Rattle.books.specs.Picture.{Picture, Dir, across, down, joins}
+use Rattle.books.specs.Picture.{Picture, joins}
+use Rattle.books.specs.declared.rule.Dir.the-variants.{Across as across, Down as down}
+use Rattle.books.specs.declared.rule.Dir.{Dir}
 use Rattle.books.specs.Derives.{Derives, paint, join}
 use Rattle.books.specs.Keeps.{BodyFits, Sound}
 use Rattle.books.specs.declared.rule.Body.{Body}

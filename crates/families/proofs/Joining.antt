@@ -10,7 +10,9 @@ use borrow.Author.Tests.{lt-ltb, le-ltb}
 use Rattle.names.specs.Pick.{pick}
 use Rattle.names.specs.Name.{Name}
 use Rattle.names.proofs.Tests.{lt-or-le}
-use Rattle.books.specs.Picture.{Picture, Same, Dir, across, down, size, first, rest}
+use Rattle.books.specs.Picture.{Picture, Same, size, first, rest}
+use Rattle.books.specs.declared.rule.Dir.the-variants.{Across as across, Down as down}
+use Rattle.books.specs.declared.rule.Dir.{Dir}
 use Rattle.books.proofs.SamePictures.{same-refl, same-trans, same-size, same-first, same-rest}
 use Rattle.families.specs.Joined.{Joined, Both, other, glued}
 use Rattle.families.specs.Images.{transpose}

@@ -5,7 +5,8 @@ use mathlib.Core.List.{[], _∷_, List·Memᴰ·head, List·Memᴰ·eq-of-single
 use mathlib.Core.Logic.{_↔_}
 use native.Mathlib.Omega.{arith}
 use Rattle.books.specs.Contents.{Contents, Has}
-use Rattle.books.specs.Picture.{Picture, Dir, joins}
+use Rattle.books.specs.Picture.{Picture, joins}
+use Rattle.books.specs.declared.rule.Dir.{Dir}
 use Rattle.books.specs.Derives.{Derives, Member}
 use Rattle.books.specs.Keeps.{Sound}
 use Rattle.books.specs.declared.rule.Rule.{Rule}

@@ -5,7 +5,8 @@ use native.Mathlib.Omega.{arith}
 use lib.ListN.{length, length-append}
 use Rattle.names.specs.Spelling.{ColoursOk}
 use Rattle.books.specs.Contents.{Contents}
-use Rattle.books.specs.Picture.{Dir, across, down}
+use Rattle.books.specs.declared.rule.Dir.the-variants.{Across as across, Down as down}
+use Rattle.books.specs.declared.rule.Dir.{Dir}
 use Rattle.books.specs.Keeps.{Sound, Keeps}
 use Rattle.books.specs.declared.rule.Body.{Body}
 use Rattle.families.specs.Combine.{either-of, joined, repeated, rebodied, turned, swapped, transposed, swapping}

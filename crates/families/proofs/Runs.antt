@@ -6,7 +6,8 @@ use mathlib.Core.List.{[], _∷_, _++_, append-nil, List·Memᴰ·head, List·Me
 use mathlib.Core.Logic.{_↔_, _⊎_, inl, inr, ⊎-elim}
 use native.Mathlib.Omega.{arith}
 use Rattle.books.specs.Contents.{Contents, Has}
-use Rattle.books.specs.Picture.{Picture, Dir, joins, size, first, rest}
+use Rattle.books.specs.Picture.{Picture, joins, size, first, rest}
+use Rattle.books.specs.declared.rule.Dir.{Dir}
 use Rattle.books.specs.Derives.{Derives, paint, join, Member}
 use Rattle.books.specs.Keeps.{Sound}
 use Rattle.books.specs.declared.rule.Rule.{Rule}

@@ -2,7 +2,8 @@
 use mathlib.Core.Path.{_≡_}
 use mathlib.Core.Logic.{_↔_, _⊎_}
 use Rattle.books.specs.Contents.{Contents}
-use Rattle.books.specs.Picture.{Picture, across, down}
+use Rattle.books.specs.Picture.{Picture}
+use Rattle.books.specs.declared.rule.Dir.the-variants.{Across as across, Down as down}
 use Rattle.books.specs.Derives.{Member}
 use Rattle.books.specs.Keeps.{Sound, Keeps}
 use Rattle.families.specs.Joined.{Both, Run}

@@ -5,7 +5,9 @@ use lib.Dec.{eqb}
 use Rattle.names.specs.Pick.{pick}
 use Rattle.names.specs.Name.{listed}
 use Rattle.books.specs.Contents.{Contents, name}
-use Rattle.books.specs.Picture.{Dir, across, down, joins}
+use Rattle.books.specs.Picture.{joins}
+use Rattle.books.specs.declared.rule.Dir.the-variants.{Across as across, Down as down}
+use Rattle.books.specs.declared.rule.Dir.{Dir}
 use Rattle.books.specs.declared.rule.Rule.{Rule}
 use Rattle.books.specs.declared.rule.Body.{Body}
 use Rattle.books.specs.declared.rule.Body.the-variants.{Colour, Across, Down}

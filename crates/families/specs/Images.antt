@@ -1,6 +1,8 @@
 -- Pictures reversed and transposed, and what that makes of a set of pictures.
 use Prim.Native.Nat.{_-_}
-use Rattle.books.specs.Picture.{Picture, Same, Dir, across, down}
+use Rattle.books.specs.Picture.{Picture, Same}
+use Rattle.books.specs.declared.rule.Dir.the-variants.{Across as across, Down as down}
+use Rattle.books.specs.declared.rule.Dir.{Dir}
 
 -- left and right exchanged, or top and bottom
 abbrev pub reversed : Dir → Picture → Picture

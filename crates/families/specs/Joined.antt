@@ -3,7 +3,9 @@ use Prim.Native.Nat.{_+_, _-_}
 use mathlib.Core.Path.{_≡_}
 use lib.Dec.{ltb}
 use Rattle.names.specs.Pick.{pick}
-use Rattle.books.specs.Picture.{Picture, Same, Dir, across, down, size, first, rest}
+use Rattle.books.specs.Picture.{Picture, Same, size, first, rest}
+use Rattle.books.specs.declared.rule.Dir.the-variants.{Across as across, Down as down}
+use Rattle.books.specs.declared.rule.Dir.{Dir}
 
 -- r is p joined with q: p stands first, and q is the rest
 pub record Joined (d : Dir) (p q r : Picture) : Type 0 where

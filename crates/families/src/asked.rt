@@ -1,10 +1,5 @@
 // Which combination a call asks for.
-
-// The direction in which sheets are joined.
-pub(crate) enum Way {
-    Across,
-    Down,
-}
+use books::rule::Dir;
 
 // Mirrored exchanges left and right, flipped upper and lower, transposed rows and columns.
 pub(crate) enum Change {
@@ -16,11 +11,11 @@ pub(crate) enum Change {
 // Two books: either of them, or joined, which is beside or above.
 pub(crate) enum Pairing {
     EitherOf,
-    Joined(Way),
+    Joined(Dir),
 }
 
 // One book: repeated, which is run or stack, or changed.
 pub(crate) enum Single {
-    Repeated(Way),
+    Repeated(Dir),
     Changed(Change),
 }

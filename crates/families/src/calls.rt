@@ -3,7 +3,7 @@ use crate::answering;
 use crate::asked::Change;
 use crate::asked::Pairing;
 use crate::asked::Single;
-use crate::asked::Way;
+use books::rule::Dir;
 ghost use Rattle.families.specs.Combine.{either-of, beside, above, run, stack, mirrored, flipped, transposed};
 ghost use Rattle.families.specs.Outcome.{onOne, onTwo, Leaves};
 
@@ -20,7 +20,7 @@ pub extern "C" fn dv_either_of(first: &[u8], second: &[u8], out: &mut [u8]) -> u
 pub extern "C" fn dv_beside(first: &[u8], second: &[u8], out: &mut [u8]) -> u64
     ensures { λ r. ⌜ Leaves (onTwo beside (now (first .entry)) (now (second .entry)) (now (out .entry))) r (now (out .exit)) ⌝ }
 {
-    answering::on_two(Pairing::Joined(Way::Across), first, second, out)
+    answering::on_two(Pairing::Joined(Dir::Across), first, second, out)
 }
 
 // The first book's sheets with the second's below them.
@@ -28,7 +28,7 @@ pub extern "C" fn dv_beside(first: &[u8], second: &[u8], out: &mut [u8]) -> u64
 pub extern "C" fn dv_above(first: &[u8], second: &[u8], out: &mut [u8]) -> u64
     ensures { λ r. ⌜ Leaves (onTwo above (now (first .entry)) (now (second .entry)) (now (out .entry))) r (now (out .exit)) ⌝ }
 {
-    answering::on_two(Pairing::Joined(Way::Down), first, second, out)
+    answering::on_two(Pairing::Joined(Dir::Down), first, second, out)
 }
 
 // One or more of the book's sheets side by side.
@@ -36,7 +36,7 @@ pub extern "C" fn dv_above(first: &[u8], second: &[u8], out: &mut [u8]) -> u64
 pub extern "C" fn dv_run(book: &[u8], out: &mut [u8]) -> u64
     ensures { λ r. ⌜ Leaves (onOne run (now (book .entry)) (now (out .entry))) r (now (out .exit)) ⌝ }
 {
-    answering::on_one(Single::Repeated(Way::Across), book, out)
+    answering::on_one(Single::Repeated(Dir::Across), book, out)
 }
 
 // One or more of the book's sheets on top of each other.
@@ -44,7 +44,7 @@ pub extern "C" fn dv_run(book: &[u8], out: &mut [u8]) -> u64
 pub extern "C" fn dv_stack(book: &[u8], out: &mut [u8]) -> u64
     ensures { λ r. ⌜ Leaves (onOne stack (now (book .entry)) (now (out .entry))) r (now (out .exit)) ⌝ }
 {
-    answering::on_one(Single::Repeated(Way::Down), book, out)
+    answering::on_one(Single::Repeated(Dir::Down), book, out)
 }
 
 // The book's sheets with left and right exchanged.

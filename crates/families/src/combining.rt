@@ -1,15 +1,14 @@
 // The rules of a combination, gathered from the families of one or two books.
 use crate::asked::Pairing;
-use crate::asked::Way;
 use crate::gathering;
 use crate::gathering::Rules;
 use books::family::Family;
+use books::rule::Dir;
 use books::rule::Body;
 use books::rule::Rule;
 ghost use mathlib.Core.Path.{_≡_};
 ghost use Prim.Native.Nat.{_+_, _≤_, _<_};
 ghost use Rattle.books.specs.Picture.{joins};
-ghost use Rattle.families.specs.inner.Asked.{direction};
 ghost use Rattle.families.specs.inner.Counts.{headed};
 ghost use Rattle.families.specs.inner.Gathered.{standing};
 ghost use Rattle.families.specs.inner.Lent.{rulesOf, Sized};
@@ -46,16 +45,16 @@ pub(crate) fn added_by(pairing: Pairing, f: Family, g: Family) -> usize
 }
 
 // The rule that joins two motifs.
-fn join_rule(way: Way, head: usize, first: usize, second: usize) -> Rule
+fn join_rule(way: Dir, head: usize, first: usize, second: usize) -> Rule
     requires { ⌜ (head < 256) × (first < 256) × (second < 256) ⌝ }
-    ensures { λ r. ⌜ r ≡ record { head = head; body = joins (direction way) first second } ⌝ }
+    ensures { λ r. ⌜ r ≡ record { head = head; body = joins way first second } ⌝ }
 {
     match way {
-        Way::Across => Rule {
+        Dir::Across => Rule {
             head: head as u8,
             body: Body::Across(first as u8, second as u8),
         },
-        Way::Down => Rule {
+        Dir::Down => Rule {
             head: head as u8,
             body: Body::Down(first as u8, second as u8),
         },
@@ -82,9 +81,9 @@ pub(crate) fn pair_rules(pairing: Pairing, f: Family, g: Family, numbers: [u8; 6
 }
 
 // Run or stack: copies of the start's rules under the new start, which joins the old start with itself.
-pub(crate) fn repeated_rules(way: Way, f: Family) -> Rules
+pub(crate) fn repeated_rules(way: Dir, f: Family) -> Rules
     requires { ⌜ Sized f × (f .count + headed (f .start) (standing (rulesOf f)) + 1 ≤ 200) ⌝ }
-    ensures { λ r. ⌜ r ≡ repeatedRules (direction way) f ⌝ }
+    ensures { λ r. ⌜ r ≡ repeatedRules way f ⌝ }
 {
     let own = rules_of(f);
     let longer = gathering::add_copies(own, own, f.start, f.motifs);

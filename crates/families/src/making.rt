@@ -2,7 +2,6 @@
 use crate::asked::Change;
 use crate::asked::Pairing;
 use crate::asked::Single;
-use crate::asked::Way;
 use crate::changing;
 use crate::combining;
 use crate::gathering::Rules;
@@ -11,6 +10,7 @@ use books::draft::Draft;
 use books::family::Family;
 use names::colours;
 use names::colours::Colours;
+use books::rule::Dir;
 ghost use mathlib.Core.Path.{_≡_};
 ghost use Rattle.families.specs.Within.{few?};
 ghost use Rattle.families.specs.inner.Lent.{Sized, Lent};
@@ -86,7 +86,7 @@ pub(crate) fn make_pair(pairing: Pairing, first: &[u8], f: Family, second: &[u8]
 }
 
 // Run or stack: one rule for each that is copied from the start, and the rule that joins.
-fn make_repeated(way: Way, f: Family) -> Made
+fn make_repeated(way: Dir, f: Family) -> Made
     requires { ⌜ Sized f ⌝ }
     ensures { λ r. ⌜ MakesSingle (Single.Repeated way) f r ⌝ }
 {

@@ -4,7 +4,7 @@ use Prim.Native.Nat.{ℕ}
 use mathlib.Core.Path.{_≡_, refl}
 use mathlib.Core.List.{List, [], _∷_}
 use lib.ListN.{length, replicate}
-use Rattle.names.specs.Pick.{fault}
+use Rattle.names.specs.Pick.{fault, andThen, orElse}
 use Rattle.names.specs.Number.{lastGroup, longerAt, numberAt, numberIn, numberBelow, spellNumber}
 use Rattle.names.specs.Name.{leastAt, nameOf, sameName, listed}
 use Rattle.names.specs.Colours.{findName, colourAt, coloursOf}
@@ -16,12 +16,14 @@ use Rattle.books.specs.Book.{figuresAt, ruledAt, figuredAt, bookOf}
 use Rattle.books.specs.Size.{sizeAt}
 use Rattle.books.specs.Cells.{cellsOf}
 use Rattle.books.specs.Sheet.{filledAt, sheetOf}
-use Rattle.books.specs.Search.{andThen, orElse, anyCut, fitsBody, anyRule, givesIn}
+use Rattle.books.specs.Search.{anyCut, fitsBody, anyRule, givesIn}
 use Rattle.books.specs.Decide.{called?, derives?}
-use Rattle.pieces.specs.Pieces.{each, pieces}
-use Rattle.pieces.specs.Table.{bits, entry, table}
+use Rattle.pieces.specs.Pieces.{pieces}
+use Rattle.pieces.specs.Table.{entry, table}
+use Rattle.names.specs.Bits.{bits}
 use Rattle.pieces.specs.Direction.{reach, front, back}
-use Rattle.pieces.specs.Choice.{least, works, cutOf, covers, fits, takes, taken, lowest, chosen, choose}
+use Rattle.pieces.specs.Choice.{works, cutOf, covers, fits, takes, taken, lowest, chosen, choose}
+use Rattle.names.specs.Counted.{least, each}
 use Rattle.pieces.specs.Tree.{treeWithin, treeOf}
 use Rattle.pieces.specs.Derivation.{judged, roomed, derivation}
 use Rattle.families.specs.Merged.{without, merged}

@@ -1,5 +1,7 @@
 pub mod Count
 pub mod Tests
+pub mod Least
+pub mod Bits
 pub mod Picking
 pub mod Onwards
 pub mod SameNames

@@ -1,4 +1,6 @@
 pub mod Pick
+pub mod Counted
+pub mod Bits
 pub mod Onward
 pub mod Number
 pub mod Put

@@ -4,7 +4,7 @@ use mathlib.Core.List.{List}
 use Prim.Native.Nat.{ℕ, _-_}
 use native.Mathlib.Omega.{arith}
 use lib.ListN.{getD}
-use Rattle.books.specs.Picture.{Dir}
+use Rattle.books.specs.declared.rule.Dir.{Dir}
 use Rattle.pieces.specs.Pieces.{Inside}
 use Rattle.pieces.specs.Parts.{extent}
 use Rattle.pieces.specs.inner.Course.{courseOf}

@@ -23,7 +23,8 @@ use Rattle.books.proofs.ReadingBooks.{book-accepted}
 use Rattle.pieces.specs.declared.asking.Asked.{Asked}
 use Rattle.pieces.specs.declared.piece.Piece.{Piece}
 use Rattle.pieces.specs.Pieces.{Inside, slotOf}
-use Rattle.pieces.specs.Table.{bit, cut}
+use Rattle.pieces.specs.Table.{cut}
+use Rattle.names.specs.Bits.{bit}
 use Rattle.pieces.specs.Derivation.{Derivation, entriesNeeded, numbersNeeded, filled, derivation}
 use Rattle.pieces.specs.Asking.{Asking, unwritten, tabled, asking, Asks}
 use Rattle.pieces.proofs.Entries.{entry-derives, derives-entry}

@@ -33,7 +33,8 @@ use Rattle.books.proofs.ReadingSheets.{sheet-lies}
 use Rattle.pieces.specs.Area.{whole}
 use Rattle.pieces.specs.Asking.{SplitFrom, Splits, Asking, unwritten, tabled, asking, Asks}
 use Rattle.pieces.specs.Derivation.{entriesNeeded, filled}
-use Rattle.pieces.specs.Table.{bit, entry}
+use Rattle.pieces.specs.Table.{entry}
+use Rattle.names.specs.Bits.{bit}
 use Rattle.pieces.specs.declared.asking.Split.{Split}
 use Rattle.pieces.specs.declared.masks.Joins.{Joins}
 use Rattle.pieces.specs.inner.Layout.{mostRules, allMasks}

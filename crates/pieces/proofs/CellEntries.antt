@@ -16,7 +16,9 @@ use Rattle.names.proofs.ReadingColours.{names-count}
 use Rattle.books.specs.Contents.{Contents, Has, name}
 use Rattle.books.specs.ContentsIn.{contentsIn}
 use Rattle.books.specs.Keeps.{Keeps}
-use Rattle.books.specs.Picture.{Picture, Dir, across, down, size}
+use Rattle.books.specs.Picture.{Picture, size}
+use Rattle.books.specs.declared.rule.Dir.the-variants.{Across as across, Down as down}
+use Rattle.books.specs.declared.rule.Dir.{Dir}
 use Rattle.books.specs.Decide.{pictures}
 use Rattle.books.specs.declared.family.Family.{Family}
 use Rattle.books.specs.declared.rule.Rule.{Rule}
@@ -26,8 +28,9 @@ use Rattle.books.specs.Rules.{noRule}
 use Rattle.books.proofs.Deciding.{given}
 use Rattle.pieces.specs.inner.Painted.{painterOf, painterAt, paintersOf}
 use Rattle.pieces.specs.inner.Rights.{Painted}
-use Rattle.pieces.specs.Table.{bit, entry}
-use Rattle.pieces.proofs.Bits.{none-set, bit-pow, pow-has}
+use Rattle.pieces.specs.Table.{entry}
+use Rattle.names.specs.Bits.{bit}
+use Rattle.names.proofs.Bits.{none-set, bit-pow, pow-has}
 use Rattle.pieces.proofs.PartsRight.{cell-right}
 use Rattle.pieces.proofs.Gathered.{gathered-has, has-gathered}
 use Rattle.pieces.proofs.LaidJoins.{member-at}

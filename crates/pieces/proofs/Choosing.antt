@@ -9,12 +9,11 @@ use native.Mathlib.Omega.{arith}
 use lib.Dec.{eqb}
 use lib.ListN.{length, getD}
 use borrow.Author.Tests.{eqb-true, eq-eqb, ltb-true, lt-ltb}
-use Rattle.names.proofs.Tests.{lt-or-le}
+use Rattle.names.proofs.Tests.{lt-or-le, and-both, and-make}
 use Rattle.books.specs.Picture.{joins}
 use Rattle.books.specs.declared.rule.Rule.{Rule}
 use Rattle.books.specs.declared.rule.Body.{Body}
 use Rattle.books.specs.declared.rule.Body.the-variants.{Colour, Across as AcrossBody, Down as DownBody}
-use Rattle.books.proofs.Searches.{and-both, and-make}
 use Rattle.pieces.specs.declared.piece.Piece.{Piece}
 use Rattle.pieces.specs.declared.part.Direction.{Direction}
 use Rattle.pieces.specs.declared.part.Direction.the-variants.{Across, Down}
@@ -23,9 +22,10 @@ use Rattle.pieces.specs.declared.choice.Choice.the-variants.{Leaf, Join}
 use Rattle.pieces.specs.Direction.{dirOf, reach}
 use Rattle.books.specs.Rules.{noRule}
 use Rattle.pieces.specs.View.{View}
-use Rattle.pieces.specs.Choice.{least, works, cutOf, covers, fits, takes, taken, lowest, chosen, choose}
+use Rattle.pieces.specs.Choice.{works, cutOf, covers, fits, takes, taken, lowest, chosen, choose}
+use Rattle.names.specs.Counted.{least}
 use Rattle.pieces.specs.inner.Fitted.{BothSet, Suits, RuleFits}
-use Rattle.pieces.proofs.Least.{Least, least-is}
+use Rattle.names.proofs.Least.{Least, least-is}
 use Rattle.pieces.proofs.Fitting.{covers-cell}
 
 -- rule number i is the lowest that is taken, and has this body

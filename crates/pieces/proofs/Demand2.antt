@@ -20,7 +20,8 @@ use Rattle.books.proofs.Deciding.{decided, refused}
 use Rattle.books.proofs.ReadingBooks.{book-accepted}
 use Rattle.pieces.specs.declared.piece.Piece.{Piece}
 use Rattle.pieces.specs.Pieces.{Inside, slotOf}
-use Rattle.pieces.specs.Table.{bit, cut, table}
+use Rattle.pieces.specs.Table.{cut, table}
+use Rattle.names.specs.Bits.{bit}
 use Rattle.pieces.specs.Given.{Given}
 use Rattle.pieces.specs.Derivation.{Derivation, entriesNeeded, filled, derivation, Left, Leaves, LeavesPacked}
 use Rattle.pieces.proofs.Entries.{entry-derives, derives-entry}

@@ -6,6 +6,7 @@ use mathlib.Core.List.{List}
 use mathlib.Core.Logic.{_↔_}
 use native.Mathlib.Omega.{arith}
 use lib.ListN.{length}
+use Rattle.names.proofs.Tests.{together, neither}
 use Rattle.books.specs.Contents.{Contents}
 use Rattle.books.specs.Picture.{Picture}
 use Rattle.books.specs.Derives.{Member}
@@ -17,12 +18,6 @@ use Rattle.books.proofs.ReadingSheets.{sheet-refused}
 use Rattle.pieces.specs.Derivation.{Derivation, entriesNeeded, numbersNeeded, derivation, Leaves, LeavesPacked}
 use Rattle.pieces.proofs.DerivationAnswers.{derivation-packs}
 use Rattle.pieces.proofs.Endings.{contents, shown, Accepted, Roomy, derivation-ends}
-
-neither : {A B : Type 0} → (A → ⊥) → (B → ⊥) → A ↔ B
-neither f g = (λ a. absurd (f a), λ b. absurd (g b))
-
-together : {A B : Type 0} → A → B → A ↔ B
-together a b = (λ _. b, λ _. a)
 
 module _ (book sheet entries numbers : List ℕ) where
   abbrev b : Contents

@@ -14,8 +14,9 @@ use Rattle.books.specs.Picture.{Picture}
 use Rattle.books.specs.Derives.{Derives}
 use Rattle.books.specs.Decide.{derives?}
 use Rattle.books.proofs.Deciding.{decided}
-use Rattle.pieces.specs.Table.{bit, bits, entry}
-use Rattle.pieces.proofs.Bits.{bit-pow, pow-has, or-split, or-left, or-right, none-set}
+use Rattle.pieces.specs.Table.{entry}
+use Rattle.names.specs.Bits.{bit, bits}
+use Rattle.names.proofs.Bits.{bit-pow, pow-has, or-split, or-left, or-right, none-set}
 
 -- ---- the number with chosen bits
 

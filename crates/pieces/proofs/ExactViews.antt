@@ -21,7 +21,8 @@ use Rattle.books.specs.declared.rule.Body.the-variants.{Colour}
 use Rattle.books.proofs.Deciding.{called, decided}
 use Rattle.pieces.specs.declared.piece.Piece.{Piece}
 use Rattle.pieces.specs.Pieces.{Inside, slotOf}
-use Rattle.pieces.specs.Table.{bit, cut, entry}
+use Rattle.pieces.specs.Table.{cut, entry}
+use Rattle.names.specs.Bits.{bit}
 use Rattle.pieces.specs.View.{View, named}
 use Rattle.pieces.specs.inner.Seen.{sized, hasBit, hasColour, seen}
 use Rattle.pieces.proofs.Entries.{entry-derives, derives-entry}

@@ -7,9 +7,9 @@ use native.Mathlib.Decide.{ℕ-discrete}
 use native.Mathlib.Numerals.{add-one}
 use lib.Bits.{bitAnd, bitOr}
 use borrow.Author.Tests.{eq-eqb, ne-eqb}
-use Rattle.pieces.specs.Table.{bit}
+use Rattle.names.specs.Bits.{bit}
 use Rattle.pieces.specs.inner.Firing.{firing, gathered}
-use Rattle.pieces.proofs.Bits.{none-set, or-split, or-left, or-right, bit-pow, pow-has, and-pow-zero, and-pow-some}
+use Rattle.names.proofs.Bits.{none-set, or-split, or-left, or-right, bit-pow, pow-has, and-pow-zero, and-pow-some}
 
 pub gathered-next : (n : ℕ) (f : ℕ → ℕ) → gathered (n + 1) f ≡ bitOr (gathered n f) (f n)
 unfolding gathered

@@ -7,7 +7,9 @@ use native.Mathlib.Omega.{arith}
 use lib.ListN.{length, getD}
 use Rattle.names.proofs.Listing.{getD-mem}
 use Rattle.books.specs.Contents.{Contents, Has}
-use Rattle.books.specs.Picture.{Picture, Dir, across, down, joins, first, rest}
+use Rattle.books.specs.Picture.{Picture, joins, first, rest}
+use Rattle.books.specs.declared.rule.Dir.the-variants.{Across as across, Down as down}
+use Rattle.books.specs.declared.rule.Dir.{Dir}
 use Rattle.books.specs.Derives.{Derives, paint, join}
 use Rattle.books.specs.declared.rule.Rule.{Rule}
 use Rattle.books.specs.declared.rule.Body.{Body}

@@ -27,7 +27,8 @@ use Rattle.books.proofs.Deciding.{decided, refused}
 use Rattle.pieces.specs.declared.piece.Piece.{Piece}
 use Rattle.pieces.specs.Pieces.{pieces, Inside, slotOf, total}
 use Rattle.pieces.specs.Area.{whole, treeSize}
-use Rattle.pieces.specs.Table.{bit, cut, entry, table}
+use Rattle.pieces.specs.Table.{cut, entry, table}
+use Rattle.names.specs.Bits.{bit}
 use Rattle.pieces.specs.inner.Seen.{sized, hasBit, seen}
 use Rattle.pieces.proofs.ExactViews.{Exact}
 use Rattle.pieces.specs.Tree.{treeOf}

@@ -6,8 +6,10 @@ use Prim.Native.Nat.{ℕ, suc, _^_, _<_}
 use native.Mathlib.Omega.{arith}
 use lib.ListN.{length, getD}
 use Rattle.names.proofs.Listing.{getD-mem}
-use Rattle.books.specs.Picture.{Dir, across, down, joins}
-use Rattle.pieces.specs.Table.{bit}
+use Rattle.books.specs.Picture.{joins}
+use Rattle.books.specs.declared.rule.Dir.the-variants.{Across as across, Down as down}
+use Rattle.books.specs.declared.rule.Dir.{Dir}
+use Rattle.names.specs.Bits.{bit}
 use Rattle.pieces.specs.inner.Firing.{firing, gathered, allFired}
 use Rattle.pieces.specs.inner.Masks.{Join, join, joinOf, joinsIn, Laid, Serves}
 use Rattle.pieces.specs.inner.Rights.{Fires}

@@ -9,7 +9,8 @@ use native.Mathlib.Numerals.{add-one}
 use lib.Bits.{bitOr, or-zero-r}
 use lib.ListN.{length, getD, take, set, drop, replicate, length-append, length-set, length-drop, length-take, getD-replicate, List·getD-append, List·getD-eq-default}
 use lib.Seq.{getD-set-same, getD-set-other, getD-append-seam, take-suc, take-all, take-set-lt, take-set-le, drop-set-lt, drop-set-add, length-take-le}
-use Rattle.books.specs.Picture.{Dir, across, down}
+use Rattle.books.specs.declared.rule.Dir.the-variants.{Across as across, Down as down}
+use Rattle.books.specs.declared.rule.Dir.{Dir}
 use Rattle.books.specs.declared.rule.Rule.{Rule}
 use Rattle.books.specs.declared.rule.Body.{Body}
 use Rattle.books.specs.declared.rule.Body.the-variants.{Colour, Across, Down}

@@ -5,7 +5,6 @@ pub mod PartsOfPieces
 pub mod NextPiece
 pub mod CellsFirst
 pub mod Courses
-pub mod Bits
 pub mod Gathered
 pub mod AllCuts
 pub mod Settling
@@ -19,7 +18,6 @@ pub mod CellEntries
 pub mod WholeTable
 pub mod AcceptedInputs
 pub mod TableEntries
-pub mod Least
 pub mod Searching
 pub mod Cutting
 pub mod Fitting

@@ -7,13 +7,15 @@ use mathlib.Core.List.{List, List·Memᴰ}
 use mathlib.Core.Logic.{_↔_, ⊎-elim}
 use native.Mathlib.Omega.{arith}
 use lib.Bits.{bitOr}
-use Rattle.books.specs.Picture.{Dir, across, down, joins}
+use Rattle.books.specs.Picture.{joins}
+use Rattle.books.specs.declared.rule.Dir.the-variants.{Across as across, Down as down}
+use Rattle.books.specs.declared.rule.Dir.{Dir}
 use Rattle.books.specs.Search.{Cutting, Ruled, Gives, paint, join}
 use Rattle.books.specs.declared.rule.Rule.{Rule}
 use Rattle.books.specs.declared.rule.Body.{Body}
-use Rattle.pieces.specs.Table.{bit, bits}
+use Rattle.names.specs.Bits.{bit, bits}
 use Rattle.pieces.specs.inner.Rights.{Right, Fires, Painted, cutsOf}
-use Rattle.pieces.proofs.Bits.{or-split, or-left, or-right, same-bit, all-bits}
+use Rattle.names.proofs.Bits.{or-split, or-left, or-right, same-bit, all-bits}
 use Rattle.pieces.proofs.Entries.{bits-has, has-bits}
 use Rattle.pieces.proofs.Gathered.{gathered-has, has-gathered}
 

@@ -12,9 +12,8 @@ use lib.ListN.{length, getD, drop, drop-of-length-le}
 use lib.Seq.{drop-cons}
 use Rattle.names.proofs.Picking.{pick-ind}
 use Rattle.names.proofs.Settled.{Settles, settles}
-use Rattle.names.proofs.Tests.{true-or-false}
-use Rattle.books.specs.Search.{andThen}
-use Rattle.books.proofs.Searches.{and-both, and-make}
+use Rattle.names.proofs.Tests.{true-or-false, and-both, and-make, and-on, and-off}
+use Rattle.names.specs.Pick.{andThen}
 use Rattle.pieces.specs.declared.piece.Piece.{Piece}
 use Rattle.pieces.specs.Pieces.{piece, Inside, pieces, total, slotOf}
 use Rattle.pieces.specs.Area.{area}
@@ -24,7 +23,6 @@ use Rattle.pieces.specs.inner.NextTo.{NextTo}
 use Rattle.pieces.specs.inner.Room.{most, Room}
 use Rattle.pieces.proofs.CellsFirst.{slot-cell}
 use Rattle.pieces.proofs.Cutting.{area-pos}
-use Rattle.pieces.proofs.Least.{and-on, and-off}
 use Rattle.pieces.proofs.Slots.{slot-lt, getD-slot, slot-onto, length-pieces, pieces-inside}
 
 -- ── The loop ──

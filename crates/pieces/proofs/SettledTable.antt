@@ -10,7 +10,9 @@ use lib.ListN.{length, getD, take}
 use lib.Seq.{ext-getD, getD-take, length-take-le}
 use Rattle.books.specs.Contents.{Contents}
 use Rattle.books.specs.Keeps.{Sound}
-use Rattle.books.specs.Picture.{Picture, Dir, across, down, size, first, rest}
+use Rattle.books.specs.Picture.{Picture, size, first, rest}
+use Rattle.books.specs.declared.rule.Dir.the-variants.{Across as across, Down as down}
+use Rattle.books.specs.declared.rule.Dir.{Dir}
 use Rattle.books.specs.Decide.{pictures}
 use Rattle.books.proofs.Deciding.{given}
 use Rattle.pieces.specs.Pieces.{piece, Inside, total, slotOf}

@@ -7,7 +7,8 @@ use native.Mathlib.Decide.{decLt}
 use lib.Bits.{bitOr}
 use lib.ListN.{length, getD, set, length-set}
 use lib.Seq.{getD-set-same, getD-set-other}
-use Rattle.books.specs.Picture.{Dir, across, down}
+use Rattle.books.specs.declared.rule.Dir.the-variants.{Across as across, Down as down}
+use Rattle.books.specs.declared.rule.Dir.{Dir}
 use Rattle.pieces.specs.Pieces.{piece, Inside, total, slotOf}
 use Rattle.pieces.specs.inner.NextTo.{NextTo}
 use Rattle.pieces.specs.Parts.{extent}

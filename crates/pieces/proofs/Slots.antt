@@ -6,7 +6,8 @@ use Prim.Native.Nat.{ℕ, suc, _+_, _-_, _*_, _<_}
 use native.Mathlib.Nat.{mul-one, mul-comm}
 use native.Mathlib.Omega.{arith}
 use lib.ListN.{length, getD}
-use Rattle.pieces.specs.Pieces.{piece, Inside, each, pieces, total, stretches, slotAt, slotOf}
+use Rattle.pieces.specs.Pieces.{piece, Inside, pieces, total, stretches, slotAt, slotOf}
+use Rattle.names.specs.Counted.{each}
 use Rattle.pieces.specs.declared.piece.Piece.{Piece}
 use Rattle.pieces.proofs.Sums.{sum, sum-same, sum-below, sum-const, sum-scale, sum-find, length-each, getD-each, member-each}
 use Rattle.pieces.proofs.Stretches.{stretches-sum, total-stretches}

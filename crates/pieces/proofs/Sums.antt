@@ -9,7 +9,7 @@ use native.Mathlib.Omega.{arith}
 use native.Mathlib.Decide.{ℕ-discrete, decLt}
 use lib.ListN.{length, getD, length-append, List·getD-append}
 use lib.Seq.{getD-append-add}
-use Rattle.pieces.specs.Pieces.{each}
+use Rattle.names.specs.Counted.{each}
 
 -- f 0 + f 1 + .. + f (n - 1).
 unfoldable pub sum : ℕ → (ℕ → ℕ) → ℕ

@@ -11,7 +11,8 @@ use Rattle.books.specs.Picture.{Picture, Same}
 use Rattle.books.specs.Derives.{Derives}
 use Rattle.books.proofs.SamePictures.{derives-same, same-sym}
 use Rattle.pieces.specs.Pieces.{piece, Inside, pieces, total, slotOf}
-use Rattle.pieces.specs.Table.{bit, cut, entry, table}
+use Rattle.pieces.specs.Table.{cut, entry, table}
+use Rattle.names.specs.Bits.{bit}
 use Rattle.pieces.specs.declared.piece.Piece.{Piece}
 use Rattle.pieces.proofs.Entries.{entry-derives, derives-entry}
 use Rattle.pieces.proofs.NextPiece.{slot-whole}

@@ -4,7 +4,8 @@ use mathlib.Core.Bool.{Bool, true, false}
 use mathlib.Core.List.{List}
 use lib.Dec.{eqb, ltb}
 use lib.ListN.{length, getD}
-use Rattle.books.specs.Search.{andThen}
+use Rattle.names.specs.Counted.{least}
+use Rattle.names.specs.Pick.{andThen}
 use Rattle.books.specs.declared.rule.Rule.{Rule}
 use Rattle.books.specs.declared.rule.Body.{Body}
 use Rattle.books.specs.declared.rule.Body.the-variants.{Colour, Across as AcrossBody, Down as DownBody}
@@ -16,11 +17,6 @@ use Rattle.pieces.specs.declared.choice.Choice.the-variants.{Leaf, Join}
 use Rattle.pieces.specs.Direction.{reach, front, back}
 use Rattle.books.specs.Rules.{noRule}
 use Rattle.pieces.specs.View.{View}
-
--- the least of n numbers from i on that a test accepts, or the number after them
-unfoldable pub least : (ℕ → Bool) → ℕ → ℕ → ℕ
-least t i zero = i
-least t i (suc n) = elim (t i) [ true ↦ i | false ↦ least t (suc i) n ]
 
 -- a cut works where both parts have their bits
 unfoldable pub works : (ℕ → Piece → Bool) → Direction → ℕ → ℕ → Piece → ℕ → Bool

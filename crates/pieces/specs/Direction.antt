@@ -1,6 +1,7 @@
 -- The direction of a join in the code, and the two parts that its cut makes of a piece.
 use Prim.Native.Nat.{ℕ}
-use Rattle.books.specs.Picture.{Dir, across, down}
+use Rattle.books.specs.declared.rule.Dir.the-variants.{Across as across, Down as down}
+use Rattle.books.specs.declared.rule.Dir.{Dir}
 use Rattle.pieces.specs.declared.piece.Piece.{Piece}
 use Rattle.pieces.specs.declared.part.Direction.{Direction}
 use Rattle.pieces.specs.declared.part.Direction.the-variants.{Across, Down}

@@ -4,12 +4,11 @@ use mathlib.Core.Bool.{Bool}
 use mathlib.Core.List.{List, [], _∷_}
 use lib.Dec.{eqb, ltb, leb}
 use lib.ListN.{length, getD}
-use Rattle.names.specs.Pick.{pick}
-use Rattle.books.specs.Search.{andThen}
+use Rattle.names.specs.Pick.{pick, andThen}
 use Rattle.pieces.specs.declared.piece.Piece.{Piece}
 use Rattle.pieces.specs.Pieces.{piece, pieces, total, slotOf}
 use Rattle.pieces.specs.Area.{area}
-use Rattle.pieces.specs.Table.{bit}
+use Rattle.names.specs.Bits.{bit}
 use Rattle.pieces.specs.inner.Room.{most}
 
 -- no piece has no rows

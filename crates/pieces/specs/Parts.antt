@@ -1,6 +1,7 @@
 -- The two parts of a piece that a cut makes, across or down.
 use Prim.Native.Nat.{ℕ, _+_, _-_}
-use Rattle.books.specs.Picture.{Dir, across, down}
+use Rattle.books.specs.declared.rule.Dir.the-variants.{Across as across, Down as down}
+use Rattle.books.specs.declared.rule.Dir.{Dir}
 use Rattle.pieces.specs.Pieces.{piece}
 use Rattle.pieces.specs.declared.piece.Piece.{Piece}
 

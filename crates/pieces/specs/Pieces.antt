@@ -1,6 +1,7 @@
 -- The pieces of a sheet of m rows and n columns, in the order of the table, and the slot of each.
 use Prim.Native.Nat.{ℕ, zero, suc, _+_, _-_, _*_, _/_, _≤_}
 use mathlib.Core.List.{List, [], _∷_, _++_}
+use Rattle.names.specs.Counted.{each}
 use Rattle.pieces.specs.declared.piece.Piece.{Piece}
 
 abbrev pub piece : ℕ → ℕ → ℕ → ℕ → Piece
@@ -12,11 +13,6 @@ pub record Inside (m n : ℕ) (p : Piece) : Type 0 where
   pub wide : 1 ≤ p .width
   pub low : p .top + p .height ≤ m
   pub right : p .left + p .width ≤ n
-
--- f 0, then f 1, .., then f (n - 1)
-unfoldable pub each : {A : Type 0} → ℕ → (ℕ → List A) → List A
-each zero f = []
-each (suc n) f = each n f ++ f n
 
 -- by height, then width, then top row, then left column, each rising
 unfoldable pub pieces : ℕ → ℕ → List Piece

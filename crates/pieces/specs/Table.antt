@@ -2,26 +2,17 @@
 use Prim.Native.Nat.{ℕ, zero, suc, _+_, _/_, _%_, _^_}
 use mathlib.Core.Bool.{Bool}
 use mathlib.Core.List.{List, map}
-use Rattle.names.specs.Pick.{pick}
+use Rattle.names.specs.Bits.{bits}
 use Rattle.books.specs.Contents.{Contents}
 use Rattle.books.specs.Picture.{Picture}
 use Rattle.books.specs.Decide.{derives?}
 use Rattle.pieces.specs.Pieces.{pieces}
 use Rattle.pieces.specs.declared.piece.Piece.{Piece}
 
--- bit a of a number, which is 0 or 1
-unfoldable pub bit : ℕ → ℕ → ℕ
-bit x a = x / 2 ^ a % 2
-
 -- the piece of a picture, as a picture by itself
 abbrev pub cut : Picture → Piece → Picture
 cut p q =
     record { rows = q .height; cols = q .width; cell = λ i j. p .cell (q .top + i) (q .left + j) }
-
--- the number of which bit a is set exactly where a is below k and the test holds of a
-unfoldable pub bits : ℕ → (ℕ → Bool) → ℕ
-bits zero test = 0
-bits (suc a) test = bits a test + pick (test a) (2 ^ a) 0
 
 -- the motifs that derive a picture
 unfoldable pub entry : Contents → Picture → ℕ

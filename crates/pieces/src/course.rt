@@ -2,7 +2,7 @@
 use crate::piece;
 use crate::piece::Piece;
 ghost use mathlib.Core.Path.{_≡_};
-ghost use Rattle.books.specs.Picture.{across, down};
+ghost use Rattle.books.specs.declared.rule.Dir.the-variants.{Across as across, Down as down};
 ghost use Rattle.pieces.specs.Pieces.{Inside, slotOf};
 ghost use Rattle.pieces.specs.inner.Room.{Room};
 ghost use Rattle.pieces.specs.inner.Course.{step, Steps, courseOf};

@@ -7,6 +7,7 @@ use mathlib.Core.List.{List, _++_}
 use mathlib.Core.Logic.{_↔_, _⊎_, inl, inr}
 use native.Mathlib.Omega.{arith}
 use lib.ListN.{length, drop}
+use Rattle.names.proofs.Tests.{together, neither}
 use Rattle.books.specs.Contents.{Contents}
 use Rattle.books.specs.Picture.{Picture}
 use Rattle.books.specs.Derives.{Member}
@@ -25,12 +26,6 @@ use Rattle.reasons.specs.Holds.{First}
 use Rattle.reasons.specs.Why.{Outcome, whyNot, Answers, Leaves}
 use Rattle.reasons.proofs.Apart.{values-read, reason-read, Packable, why-not-packs}
 use Rattle.reasons.proofs.Endings.{why-not-ends}
-
-neither : {A B : Type 0} → (A → ⊥) → (B → ⊥) → A ↔ B
-neither f g = (λ a. absurd (f a), λ b. absurd (g b))
-
-together : {A B : Type 0} → A → B → A ↔ B
-together a b = (λ _. b, λ _. a)
 
 -- a number on which nothing is written
 unread : (n : ℕ) → 1 ≤ n → n ≤ 9 → (n ≡ 0) ⊎ (n ≡ 15) → ⊥

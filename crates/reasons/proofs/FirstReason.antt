@@ -16,7 +16,7 @@ use Rattle.books.proofs.Deciding.{decided}
 use Rattle.pieces.specs.Table.{cut}
 use Rattle.pieces.specs.declared.piece.Piece.{Piece}
 use Rattle.pieces.proofs.CellsFirst.{cell-before}
-use Rattle.pieces.proofs.Least.{Least, least-is}
+use Rattle.names.proofs.Least.{Least, least-is}
 use Rattle.pieces.proofs.Searching.{Finds, nothing, something, largest-finds}
 use Rattle.sizes.specs.Card.{sized?}
 use Rattle.sizes.specs.Promise.{Sized}

@@ -12,23 +12,25 @@ use lib.Dec.{eqb}
 use lib.ListN.{length, getD}
 use Rattle.names.proofs.Tests.{true-or-false}
 use Rattle.books.specs.Contents.{Contents}
-use Rattle.books.specs.Picture.{Picture, across, down}
+use Rattle.books.specs.Picture.{Picture}
+use Rattle.books.specs.declared.rule.Dir.the-variants.{Across as across, Down as down}
 use Rattle.books.specs.Derives.{Derives, paint, join}
 use Rattle.books.specs.Decide.{derives?}
 use Rattle.books.specs.Keeps.{Sound}
 use Rattle.books.proofs.Deciding.{decided, refused}
-use Rattle.pieces.specs.Choice.{least}
+use Rattle.names.specs.Counted.{least}
 use Rattle.pieces.specs.Pieces.{piece, Inside, slotOf}
-use Rattle.pieces.specs.Table.{bit, bits, cut, entry}
+use Rattle.pieces.specs.Table.{cut, entry}
+use Rattle.names.specs.Bits.{bit, bits}
 use Rattle.pieces.specs.Largest.{marked, largestIn}
 use Rattle.pieces.specs.inner.Room.{Room}
 use Rattle.pieces.specs.declared.piece.Piece.{Piece}
-use Rattle.pieces.proofs.Bits.{none-set}
+use Rattle.names.proofs.Bits.{none-set}
 use Rattle.pieces.proofs.CellsFirst.{slot-cell}
 use Rattle.pieces.proofs.Entries.{entry-derives, derives-entry}
 use Rattle.pieces.proofs.ExactViews.{motif-below}
 use Rattle.pieces.proofs.Judging.{Holds, held-long, held-entry}
-use Rattle.pieces.proofs.Least.{least-same}
+use Rattle.names.proofs.Least.{least-same}
 use Rattle.pieces.proofs.Searching.{room-fits, in-table, largest-same}
 use Rattle.sizes.specs.Card.{sized?}
 use Rattle.reasons.specs.declared.reason.Reason.the-variants.{NoSuchSize}

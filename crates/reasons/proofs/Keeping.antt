@@ -8,10 +8,9 @@ use native.Mathlib.Omega.{arith}
 use borrow.Author.Tests.{eq-eqb, ne-eqb, eqb-true, eqb-false}
 use lib.Dec.{eqb}
 use lib.ListN.{getD}
-use Rattle.names.proofs.Tests.{true-or-false}
-use Rattle.books.proofs.Searches.{and-make}
-use Rattle.pieces.specs.Choice.{least}
-use Rattle.pieces.proofs.Least.{and-on, and-off, least-found, least-passed, least-none}
+use Rattle.names.proofs.Tests.{true-or-false, and-make, and-on, and-off}
+use Rattle.names.specs.Counted.{least}
+use Rattle.names.proofs.Least.{least-found, least-passed, least-none}
 use Rattle.reasons.specs.inner.FromTable.{bare, keptFirst}
 
 -- ── One step ──

@@ -9,7 +9,7 @@ use Rattle.books.specs.Contents.{Contents, Called}
 use Rattle.books.specs.declared.rule.Rule.{Rule}
 use Rattle.books.specs.declared.rule.Body.{Body}
 use Rattle.books.specs.declared.rule.Body.the-variants.{Colour, Across, Down}
-use Rattle.books.proofs.Searches.{or-either, or-left, or-right}
+use Rattle.names.proofs.Tests.{or-either, or-left, or-right}
 use Rattle.books.proofs.Deciding.{called}
 use Rattle.reasons.specs.Holds.{Named}
 use Rattle.reasons.specs.Why.{bodyNames, rulesName}

@@ -6,12 +6,11 @@ use mathlib.Core.List.{List, [], _∷_}
 use lib.Dec.{eqb, ltb}
 use lib.ListN.{length}
 use Rattle.names.specs.Name.{Name}
-use Rattle.names.specs.Pick.{pick}
+use Rattle.names.specs.Pick.{pick, orElse}
 use Rattle.books.specs.Contents.{Contents}
 use Rattle.books.specs.Picture.{Picture}
 use Rattle.books.specs.Grid.{picture}
 use Rattle.books.specs.ContentsIn.{contentsIn, gridIn}
-use Rattle.books.specs.Search.{orElse}
 use Rattle.books.specs.Decide.{called?, derives?}
 use Rattle.books.specs.Book.{bookOf}
 use Rattle.books.specs.Sheet.{sheetOf}
@@ -20,7 +19,7 @@ use Rattle.books.specs.declared.answer.Answer.{Answer}
 use Rattle.books.specs.declared.rule.Rule.{Rule}
 use Rattle.books.specs.declared.rule.Body.{Body}
 use Rattle.books.specs.declared.rule.Body.the-variants.{Colour, Across, Down}
-use Rattle.pieces.specs.Choice.{least}
+use Rattle.names.specs.Counted.{least}
 use Rattle.pieces.specs.Table.{cut}
 use Rattle.pieces.specs.Largest.{largestOf}
 use Rattle.pieces.specs.Derivation.{entriesNeeded, filled}

@@ -3,7 +3,7 @@ ghost use mathlib.Core.Path.{_≡_};
 ghost use Prim.Native.Nat.{_≤_};
 ghost use lib.ListN.{length};
 ghost use Rattle.books.specs.Size.{room};
-ghost use Rattle.pieces.specs.Choice.{least};
+ghost use Rattle.names.specs.Counted.{least};
 ghost use Rattle.reasons.specs.inner.FromTable.{bare, keptFirst};
 
 // What is found with one more entry: the first that is 0 is kept, and so many means that none was found yet.

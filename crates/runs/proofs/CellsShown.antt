@@ -26,7 +26,8 @@ use Rattle.books.specs.ContentsIn.{contentsIn}
 use Rattle.books.specs.Decide.{called?}
 use Rattle.books.specs.Derives.{Derives, Member, paint, join}
 use Rattle.books.specs.Order.{numberOf, numbersOf}
-use Rattle.books.specs.Picture.{Picture, across, down}
+use Rattle.books.specs.Picture.{Picture}
+use Rattle.books.specs.declared.rule.Dir.the-variants.{Across as across, Down as down}
 use Rattle.books.specs.Sheet.{sheetOf}
 use Rattle.books.specs.declared.family.Family.{Family}
 use Rattle.books.specs.declared.sheet.Sheet.{Sheet}

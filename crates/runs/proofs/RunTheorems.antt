@@ -13,7 +13,7 @@ use Rattle.names.specs.Pick.{fault}
 use Rattle.names.specs.declared.number.Read.the-variants.{Value}
 use Rattle.books.specs.Book.{bookOf}
 use Rattle.books.specs.Calls.{ticketOf}
-use Rattle.pieces.specs.Pieces.{each}
+use Rattle.names.specs.Counted.{each}
 use Rattle.runs.specs.Run.{frameAt, sheetIn, walkFrom, framing, sheetsOf}
 use Rattle.runs.specs.Figures.{answerOf, answering, accepted, got, cellsOf, tickets, answersGiven, figuresOf, noFigures}
 use Rattle.runs.specs.Lists.{those, howMany, addedUp, anyIn, leastOf, greatestOf}

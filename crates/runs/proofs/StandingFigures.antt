@@ -6,7 +6,7 @@ use native.Mathlib.Decide.{ℕ-discrete}
 use native.Mathlib.Omega.{arith}
 use lib.ListN.{length, getD, take, drop, length-append, length-drop, List·getD-append, take-append-drop}
 use lib.Seq.{ext-getD, getD-take, getD-drop, getD-at, length-take-le, drop-cons, drop-drop}
-use Rattle.pieces.specs.Pieces.{each}
+use Rattle.names.specs.Counted.{each}
 use Rattle.pieces.proofs.TableEntries.{getD-map}
 use Rattle.runs.specs.Figures.{got, cellsOf, tickets, answersGiven, mostColours, figuresOf, figuresLong, inARow}
 use Rattle.runs.specs.Lists.{anyIn, leastOf, greatestOf}

@@ -14,7 +14,8 @@ use Rattle.books.specs.Sheet.{sheetOf}
 use Rattle.books.specs.Size.{greatest}
 use Rattle.pieces.specs.Area.{whole, treeSize}
 use Rattle.pieces.specs.Derivation.{derivation}
-use Rattle.pieces.specs.Pieces.{each, total}
+use Rattle.pieces.specs.Pieces.{total}
+use Rattle.names.specs.Counted.{each}
 use Rattle.runs.specs.Lists.{those, howMany, addedUp, anyIn, leastOf, greatestOf}
 use Rattle.runs.specs.declared.figures.Figures.{Figures}
 

@@ -25,7 +25,7 @@ use Rattle.books.specs.declared.rule.Body.{Body}
 use Rattle.books.specs.declared.rule.Body.the-variants.{Colour, Across, Down}
 use Rattle.books.proofs.Packing.{plain-packs, book-placed}
 use Rattle.books.proofs.ReadingBooks.{book-lies, book-accepted}
-use Rattle.pieces.specs.Pieces.{each}
+use Rattle.names.specs.Counted.{each}
 use Rattle.sizes.specs.Size.{by}
 use Rattle.sizes.specs.Card.{sized?, sizesOf}
 use Rattle.sizes.specs.Outcome.{Outcome, refused, carded, roomed, sizeCard, Answers}

@@ -12,9 +12,9 @@ use lib.Pow.{pow-mono}
 use lib.Seq.{ext-getD}
 use Rattle.names.specs.Pick.{pick}
 use Rattle.books.specs.Contents.{Contents}
-use Rattle.pieces.specs.Pieces.{each}
-use Rattle.pieces.specs.Table.{bit}
-use Rattle.pieces.proofs.Bits.{bit-zero, bit-high, same-bit, same-bits}
+use Rattle.names.specs.Counted.{each}
+use Rattle.names.specs.Bits.{bit}
+use Rattle.names.proofs.Bits.{bit-zero, bit-high, same-bit, same-bits}
 use Rattle.pieces.proofs.Entries.{bits-lt, bits-has, has-bits}
 use Rattle.sizes.specs.Size.{Size, by}
 use Rattle.sizes.specs.Promise.{Sized, SizeCard}

@@ -19,8 +19,8 @@ use Rattle.books.specs.Contents.{Contents}
 use Rattle.books.specs.Keeps.{Sound}
 use Rattle.books.specs.Size.{greatest, room}
 use Rattle.books.specs.declared.rule.Rule.{Rule}
-use Rattle.pieces.specs.Pieces.{each}
-use Rattle.pieces.specs.Table.{bit, bits}
+use Rattle.names.specs.Counted.{each}
+use Rattle.names.specs.Bits.{bit, bits}
 use Rattle.pieces.proofs.Entries.{bits-lt, bits-has, has-bits}
 use Rattle.sizes.specs.Size.{Size, by}
 use Rattle.sizes.specs.Test.{hasSize?}

@@ -12,7 +12,7 @@ use Rattle.books.specs.Contents.{Contents}
 use Rattle.books.specs.ContentsIn.{contentsIn}
 use Rattle.books.specs.Size.{greatest}
 use Rattle.books.proofs.Packing.{apart}
-use Rattle.pieces.specs.Table.{bit}
+use Rattle.names.specs.Bits.{bit}
 use Rattle.sizes.specs.declared.calls.CardAnswer.{CardAnswer}
 use Rattle.sizes.specs.Promise.{Sized, SizeCard}
 use Rattle.sizes.specs.Card.{card, sizesOf, setBits}

@@ -9,8 +9,8 @@ use lib.Count.{ones, ones-cat, ones-ones}
 use lib.ListN.{length, length-append}
 use Rattle.names.specs.Pick.{pick}
 use Rattle.books.specs.Contents.{Contents}
-use Rattle.pieces.specs.Pieces.{each}
-use Rattle.pieces.specs.Table.{bits}
+use Rattle.names.specs.Counted.{each}
+use Rattle.names.specs.Bits.{bits}
 use Rattle.pieces.proofs.Entries.{bits-lt}
 use Rattle.sizes.specs.Size.{by}
 use Rattle.sizes.specs.Card.{sized?, cardRow, card, sizesOf, setBits}

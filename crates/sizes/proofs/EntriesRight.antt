@@ -7,7 +7,8 @@ use lib.Bits.{bitOr}
 use lib.ListN.{getD}
 use Rattle.books.specs.Contents.{Contents}
 use Rattle.books.specs.Keeps.{Sound}
-use Rattle.books.specs.Picture.{Dir, across, down}
+use Rattle.books.specs.declared.rule.Dir.the-variants.{Across as across, Down as down}
+use Rattle.books.specs.declared.rule.Dir.{Dir}
 use Rattle.pieces.specs.inner.Firing.{allFired}
 use Rattle.pieces.specs.inner.Rights.{cutsOf}
 use Rattle.pieces.proofs.Gathered.{gathered-same}

@@ -4,15 +4,17 @@ use mathlib.Core.Path.{_≡_, sym, ap, subst}
 use mathlib.Core.List.{List, List·Memᴰ}
 use lib.ListN.{length}
 use Rattle.books.specs.Contents.{Contents}
-use Rattle.books.specs.Picture.{Dir, across, down, joins}
+use Rattle.books.specs.Picture.{joins}
+use Rattle.books.specs.declared.rule.Dir.the-variants.{Across as across, Down as down}
+use Rattle.books.specs.declared.rule.Dir.{Dir}
 use Rattle.books.specs.Rules.{noRule}
 use Rattle.books.specs.declared.rule.Rule.{Rule}
 use Rattle.books.specs.declared.rule.Body.{Body}
 use Rattle.books.specs.declared.rule.Body.the-variants.{Colour, Across, Down}
-use Rattle.pieces.specs.Table.{bit}
+use Rattle.names.specs.Bits.{bit}
 use Rattle.pieces.specs.inner.Firing.{firing, allFired}
 use Rattle.pieces.specs.inner.Rights.{Fires}
-use Rattle.pieces.proofs.Bits.{none-set}
+use Rattle.names.proofs.Bits.{none-set}
 use Rattle.pieces.proofs.Gathered.{firing-has, has-firing}
 use Rattle.pieces.proofs.LaidJoins.{all-has, has-all, fires-by}
 use Rattle.sizes.specs.inner.Entries.{Joins, Serves}

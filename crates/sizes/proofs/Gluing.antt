@@ -7,7 +7,9 @@ use lib.Dec.{ltb}
 use borrow.Author.Tests.{lt-ltb, le-ltb}
 use Rattle.names.specs.Pick.{pick}
 use Rattle.names.specs.Name.{Name}
-use Rattle.books.specs.Picture.{Picture, Same, Dir, across, down, size, first, rest}
+use Rattle.books.specs.Picture.{Picture, Same, size, first, rest}
+use Rattle.books.specs.declared.rule.Dir.the-variants.{Across as across, Down as down}
+use Rattle.books.specs.declared.rule.Dir.{Dir}
 
 -- q stands right of p, or below it
 abbrev pub glued : Dir → Picture → Picture → Picture

@@ -14,10 +14,9 @@ use Rattle.books.specs.Book.{bookOf}
 use Rattle.books.specs.Size.{greatest, room}
 use Rattle.books.specs.declared.book.BookRead.{BookRead}
 use Rattle.books.specs.declared.rule.Rule.{Rule}
-use Rattle.books.proofs.Searches.{and-both, and-make}
+use Rattle.names.proofs.Tests.{and-both, and-make, and-on, and-off}
 use Rattle.books.proofs.ReadingBooks.{book-accepted}
-use Rattle.pieces.specs.Table.{bit}
-use Rattle.pieces.proofs.Least.{and-on, and-off}
+use Rattle.names.specs.Bits.{bit}
 use Rattle.sizes.specs.Size.{by}
 use Rattle.sizes.specs.Test.{hasSize?}
 use Rattle.sizes.specs.Promise.{Sized}

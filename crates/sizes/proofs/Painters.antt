@@ -7,15 +7,16 @@ use lib.ListN.{length, getD, take}
 use lib.Seq.{getD-take, length-take-le}
 use Rattle.books.specs.Contents.{Contents}
 use Rattle.books.specs.Keeps.{Sound}
-use Rattle.books.specs.Picture.{Dir, across, down}
+use Rattle.books.specs.declared.rule.Dir.the-variants.{Across as across, Down as down}
+use Rattle.books.specs.declared.rule.Dir.{Dir}
 use Rattle.books.specs.Rules.{noRule}
 use Rattle.books.specs.declared.rule.Rule.{Rule}
 use Rattle.books.specs.declared.rule.Body.{Body}
 use Rattle.books.specs.declared.rule.Body.the-variants.{Colour, Across, Down}
-use Rattle.pieces.specs.Table.{bit}
+use Rattle.names.specs.Bits.{bit}
 use Rattle.pieces.specs.inner.Firing.{gathered}
 use Rattle.pieces.specs.inner.Rights.{Painted}
-use Rattle.pieces.proofs.Bits.{none-set, bit-pow, pow-has}
+use Rattle.names.proofs.Bits.{none-set, bit-pow, pow-has}
 use Rattle.pieces.proofs.Gathered.{gathered-same}
 use Rattle.pieces.proofs.LaidJoins.{all-has, has-all}
 use Rattle.pieces.proofs.PartsRight.{cell-right}

@@ -5,7 +5,9 @@ use mathlib.Core.Path.{refl, sym, _∙_}
 use mathlib.Core.Logic.{_↔_}
 use native.Mathlib.Omega.{arith}
 use Rattle.books.specs.Contents.{Contents, Has, name}
-use Rattle.books.specs.Picture.{Picture, Dir, across, down, joins}
+use Rattle.books.specs.Picture.{Picture, joins}
+use Rattle.books.specs.declared.rule.Dir.the-variants.{Across as across, Down as down}
+use Rattle.books.specs.declared.rule.Dir.{Dir}
 use Rattle.books.specs.Derives.{Derives, paint, join}
 use Rattle.books.specs.Search.{paint as cell, join as join-sizes}
 use Rattle.books.proofs.NothingEmpty.{derives-size}

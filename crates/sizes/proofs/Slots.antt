@@ -5,7 +5,8 @@ use mathlib.Core.Path.{_≡_}
 use native.Mathlib.Nat.{add-mul, mul-le-mul-right, one-mul, mul-one}
 use native.Mathlib.Omega.{arith}
 use lib.Arith.{digits-div, digits-mod}
-use Rattle.books.specs.Picture.{Dir, across, down}
+use Rattle.books.specs.declared.rule.Dir.the-variants.{Across as across, Down as down}
+use Rattle.books.specs.declared.rule.Dir.{Dir}
 use Rattle.sizes.specs.Size.{Size, reach, firstPart, restPart}
 use Rattle.sizes.specs.inner.Entries.{OfTable, slot}
 

@@ -7,7 +7,8 @@ use native.Mathlib.Omega.{arith}
 use lib.ListN.{length}
 use borrow.Author.Tests.{ltb-true, lt-ltb}
 use Rattle.books.specs.Contents.{Contents}
-use Rattle.books.specs.Picture.{Dir, across, down}
+use Rattle.books.specs.declared.rule.Dir.the-variants.{Across as across, Down as down}
+use Rattle.books.specs.declared.rule.Dir.{Dir}
 use Rattle.books.specs.Search.{Lessens}
 use Rattle.books.proofs.Searches.{one-cell, searched}
 use Rattle.sizes.specs.Size.{Size, reach, firstPart, restPart}

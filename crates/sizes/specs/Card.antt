@@ -4,12 +4,11 @@ use mathlib.Core.Bool.{Bool}
 use mathlib.Core.List.{List, [], _∷_}
 use lib.Count.{ones}
 use lib.Dec.{ltb, leb}
-use Rattle.names.specs.Pick.{pick}
+use Rattle.names.specs.Pick.{pick, andThen}
 use Rattle.books.specs.Contents.{Contents}
-use Rattle.books.specs.Search.{andThen}
 use Rattle.books.specs.Size.{greatest}
-use Rattle.pieces.specs.Pieces.{each}
-use Rattle.pieces.specs.Table.{bits}
+use Rattle.names.specs.Counted.{each}
+use Rattle.names.specs.Bits.{bits}
 use Rattle.sizes.specs.Size.{Size, by}
 use Rattle.sizes.specs.Test.{hasSize?}
 

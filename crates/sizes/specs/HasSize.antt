@@ -5,7 +5,8 @@ use mathlib.Core.Path.{_≡_}
 use lib.Dec.{eqb, ltb}
 use lib.ListN.{length}
 use Rattle.books.specs.Contents.{Contents}
-use Rattle.books.specs.Search.{andThen, Cutting, Gives}
+use Rattle.books.specs.Search.{Cutting, Gives}
+use Rattle.names.specs.Pick.{andThen}
 use Rattle.sizes.specs.Size.{Size, reach, firstPart, restPart}
 
 abbrev pub sizes : Contents → Cutting Size

@@ -7,7 +7,7 @@ use lib.ListN.{length, getD}
 use Rattle.books.specs.Contents.{Contents}
 use Rattle.books.specs.Picture.{Picture}
 use Rattle.books.specs.Derives.{Derives}
-use Rattle.pieces.specs.Table.{bit}
+use Rattle.names.specs.Bits.{bit}
 
 -- motif a derives some picture of r rows and c columns, in any colours
 pub record SomeSheet (b : Contents) (a r c : ℕ) : Type 0 where

@@ -1,6 +1,7 @@
 -- Sizes: so many rows and columns, and how they come apart across and down. A size has no colours.
 use Prim.Native.Nat.{ℕ, _-_}
-use Rattle.books.specs.Picture.{Dir, across, down}
+use Rattle.books.specs.declared.rule.Dir.the-variants.{Across as across, Down as down}
+use Rattle.books.specs.declared.rule.Dir.{Dir}
 
 pub record Size : Type 0 where
   pub rows : ℕ

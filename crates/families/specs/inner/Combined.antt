@@ -1,10 +1,10 @@
 -- The rules of a combination, as they are gathered from families that were read. A colour of a second family gets its number from a list.
 use Prim.Native.Nat.{ℕ, _+_, _≤_}
 use mathlib.Core.List.{List, [], _∷_}
-use Rattle.books.specs.Picture.{Dir, joins}
+use Rattle.books.specs.Picture.{joins}
+use Rattle.books.specs.declared.rule.Dir.{Dir}
 use Rattle.books.specs.declared.family.Family.{Family}
 use Rattle.families.specs.Combine.{copies}
-use Rattle.families.specs.inner.Asked.{direction}
 use Rattle.families.specs.inner.Counts.{headed}
 use Rattle.families.specs.inner.Gathered.{standing, followed, raisedBy, changed}
 use Rattle.families.specs.inner.Lent.{rulesOf, Sized, Fitted}
@@ -37,7 +37,7 @@ pairRules EitherOf f g numbers =
     (followed (bothRules f g numbers) (copies (f .motifs + g .motifs) (f .start) (standing (rulesOf f))))
     (copies (f .motifs + g .motifs) (f .motifs + g .start) (standing (raisedRules f g numbers)))
 pairRules (Joined way) f g numbers =
-    followed (bothRules f g numbers) (record { head = f .motifs + g .motifs; body = joins (direction way) (f .start) (f .motifs + g .start) } ∷ [])
+    followed (bothRules f g numbers) (record { head = f .motifs + g .motifs; body = joins way (f .start) (f .motifs + g .start) } ∷ [])
 
 unfoldable pub repeatedRules : Dir → Family → Rules
 repeatedRules d f =

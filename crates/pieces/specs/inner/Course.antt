@@ -1,6 +1,7 @@
 -- The course of the cuts of a piece: the slots of the two parts, carried from cut to cut by additions alone.
 use Prim.Native.Nat.{ℕ, zero, suc, _+_, _-_, _*_, _≤_, _<_, _^_}
-use Rattle.books.specs.Picture.{Dir, across, down}
+use Rattle.books.specs.declared.rule.Dir.the-variants.{Across as across, Down as down}
+use Rattle.books.specs.declared.rule.Dir.{Dir}
 use Rattle.pieces.specs.Pieces.{stretches, slotOf}
 use Rattle.pieces.specs.Parts.{extent, firstPart}
 use Rattle.pieces.specs.declared.piece.Piece.{Piece}

@@ -3,11 +3,12 @@ use Prim.Native.Nat.{ℕ, _+_, _-_}
 use mathlib.Core.Path.{_≡_}
 use mathlib.Core.List.{List}
 use mathlib.Core.Logic.{_↔_}
-use Rattle.books.specs.Picture.{Dir, joins}
+use Rattle.books.specs.Picture.{joins}
+use Rattle.books.specs.declared.rule.Dir.{Dir}
 use Rattle.books.specs.Search.{Cutting, Ruled, Gives}
 use Rattle.books.specs.declared.rule.Rule.{Rule}
 use Rattle.books.specs.declared.rule.Body.the-variants.{Colour}
-use Rattle.pieces.specs.Table.{bit}
+use Rattle.names.specs.Bits.{bit}
 use Rattle.pieces.specs.inner.Firing.{gathered}
 
 -- the number whose bits are the motifs that the rules give a thing

@@ -4,13 +4,13 @@ use mathlib.Core.Bool.{Bool}
 use mathlib.Core.List.{List}
 use lib.Dec.{eqb}
 use lib.ListN.{length, getD}
-use Rattle.books.specs.Search.{andThen}
+use Rattle.names.specs.Pick.{andThen}
 use Rattle.pieces.specs.declared.piece.Piece.{Piece}
 use Rattle.pieces.specs.declared.piece.Size.{Size}
 use Rattle.pieces.specs.declared.part.Parts.{Parts}
 use Rattle.pieces.specs.Pieces.{Inside, slotOf, total}
 use Rattle.pieces.specs.Area.{whole}
-use Rattle.pieces.specs.Table.{bit}
+use Rattle.names.specs.Bits.{bit}
 use Rattle.pieces.specs.View.{View}
 use Rattle.pieces.specs.inner.Room.{Room}
 

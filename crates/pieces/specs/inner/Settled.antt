@@ -4,7 +4,8 @@ use mathlib.Core.Path.{_≡_}
 use mathlib.Core.List.{List}
 use lib.Bits.{bitOr}
 use lib.ListN.{getD, take}
-use Rattle.books.specs.Picture.{Dir, across, down}
+use Rattle.books.specs.declared.rule.Dir.the-variants.{Across as across, Down as down}
+use Rattle.books.specs.declared.rule.Dir.{Dir}
 use Rattle.books.specs.declared.rule.Rule.{Rule}
 use Rattle.pieces.specs.Pieces.{Inside, total, slotOf}
 use Rattle.pieces.specs.Parts.{extent, firstPart, restPart}

@@ -4,11 +4,10 @@ use mathlib.Core.Bool.{Bool}
 use mathlib.Core.List.{List}
 use lib.Dec.{eqb, ltb}
 use lib.ListN.{getD}
-use Rattle.names.specs.Pick.{pick}
-use Rattle.books.specs.Search.{andThen}
+use Rattle.names.specs.Pick.{pick, andThen}
 use Rattle.books.specs.Size.{greatest}
 use Rattle.books.specs.declared.answer.Answer.{Answer}
-use Rattle.pieces.specs.Choice.{least}
+use Rattle.names.specs.Counted.{least}
 use Rattle.pieces.specs.Largest.{largestIn}
 use Rattle.reasons.specs.declared.calls.WhyNot.{WhyNot}
 use Rattle.reasons.specs.declared.reason.Reason.{Reason}

@@ -6,10 +6,11 @@ use lib.Bits.{bitOr}
 use lib.ListN.{length, getD, take}
 use Rattle.books.specs.Contents.{Contents}
 use Rattle.books.specs.Keeps.{Sound}
-use Rattle.books.specs.Picture.{Dir, across, down}
+use Rattle.books.specs.declared.rule.Dir.the-variants.{Across as across, Down as down}
+use Rattle.books.specs.declared.rule.Dir.{Dir}
 use Rattle.books.specs.Size.{greatest}
 use Rattle.books.specs.declared.rule.Rule.{Rule}
-use Rattle.pieces.specs.Table.{bits}
+use Rattle.names.specs.Bits.{bits}
 use Rattle.pieces.specs.inner.Firing.{gathered, allFired}
 use Rattle.pieces.specs.inner.Layout.{mostRules, joinMasks}
 use Rattle.sizes.specs.Size.{Size, by}

@@ -5,7 +5,6 @@ use mathlib.Core.List.{List}
 use native.Mathlib.Omega.{arith}
 use Rattle.books.specs.ContentsIn.{contentsIn}
 use Rattle.families.specs.Combine.{repeated}
-use Rattle.families.specs.inner.Asked.{direction}
 use Rattle.families.specs.inner.Counts.{headed}
 use Rattle.families.specs.inner.Gathered.{standing}
 use Rattle.families.specs.inner.Lent.{rulesOf}
@@ -39,10 +38,10 @@ counts : (c : tie.After-within) → let f = began (c .before) .args .f in
     c .within .result ≡ few? (f .colours .count) (f .motifs + 1) (f .count + headed (f .start) (standing (rulesOf f)) + 1)
 counts c = rw (copied (c .before) .start-rules .ensures) at (c .within .ensures)
 
-tested : (c : tie.After-within) (s : List ℕ) → let a = began (c .before) .args in c .within .result ≡ within? (repeated (direction (a .way)) (contentsIn s (a .f)))
+tested : (c : tie.After-within) (s : List ℕ) → let a = began (c .before) .args in c .within .result ≡ within? (repeated (a .way) (contentsIn s (a .f)))
 tested c s =
     let a = began (c .before) .args in
-    counts c ∙ sym (repeated-test s s (a .f) (began (c .before) .pre) (direction (a .way)))
+    counts c ∙ sym (repeated-test s s (a .f) (began (c .before) .pre) (a .way))
 
 room : (c : tie.Then1) → let f = began (c .before .before) .args .f in f .count + headed (f .start) (standing (rulesOf f)) + 1 ≤ 200
 room c = few-true _ _ _ (sym (counts (c .before)) ∙ c .if1 .taken) .2
@@ -55,7 +54,7 @@ returns c s t =
     let then = c .before .before .before .before in
     let start = began (then .before .before) in
     simp (c .drafting .ensures, c .before .before .no-colours .ensures, c .before .before .before .repeated-rules .ensures)
-    (repeated-makes s t (start .args .f) (start .pre) (direction (start .args .way)) (room then) (sym (tested (then .before) s) ∙ then .if1 .taken))
+    (repeated-makes s t (start .args .f) (start .pre) (start .args .way) (room then) (sym (tested (then .before) s) ∙ then .if1 .taken))
 
 returns-2 : tie.Need-returns-2
 returns-2 c s t =

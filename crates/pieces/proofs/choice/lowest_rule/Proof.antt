@@ -8,10 +8,11 @@ use native.Mathlib.Omega.{arith}
 use lib.ListN.{length, getD, length-map}
 use denote.Ref.{now}
 use borrow.Author.Needs.{needs}
-use Rattle.pieces.specs.Choice.{least, takes, taken, lowest}
+use Rattle.pieces.specs.Choice.{takes, taken, lowest}
+use Rattle.names.specs.Counted.{least}
 use Rattle.pieces.specs.inner.Lent.{ruleFrom, rulesFrom}
 use Rattle.pieces.specs.inner.Seen.{seen}
-use Rattle.pieces.proofs.Least.{least-found, least-passed, least-none}
+use Rattle.names.proofs.Least.{least-found, least-passed, least-none}
 use Rattle.pieces.proofs.Fitting.{takes-own, takes-other}
 use Rattle.pieces.proofs.LentRules.{rule-of-row}
 use Rattle.pieces.proofs.choice.lowest_rule.Statement.{statement}

@@ -5,9 +5,10 @@ use native.Mathlib.Omega.{arith}
 use denote.Ref.{now}
 use borrow.Author.Needs.{needs}
 use Rattle.pieces.specs.inner.Seen.{hasBit}
-use Rattle.pieces.specs.Choice.{least, works, cutOf}
+use Rattle.pieces.specs.Choice.{works, cutOf}
+use Rattle.names.specs.Counted.{least}
 use Rattle.pieces.proofs.Cutting.{front-inside, back-inside}
-use Rattle.pieces.proofs.Least.{least-found, least-passed, least-none}
+use Rattle.names.proofs.Least.{least-found, least-passed, least-none}
 use Rattle.pieces.proofs.choice.smallest_cut.Statement.{statement}
 use Rattle.pieces.proofs.choice.smallest_cut.Tie as tie
 

@@ -2,7 +2,7 @@
 use mathlib.Core.Path.{refl, ap}
 use Prim.Native.Nat.{ℕ, _+_, _-_}
 use native.Mathlib.Omega.{arith}
-use Rattle.books.specs.Picture.{across}
+use Rattle.books.specs.declared.rule.Dir.the-variants.{Across as across}
 use Rattle.pieces.proofs.Courses.{course-made, rise-begins, fall-begins}
 use borrow.Author.Needs.{needs}
 use Rattle.pieces.proofs.course.across_course.Statement.{statement}

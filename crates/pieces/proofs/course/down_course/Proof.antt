@@ -2,7 +2,7 @@
 use mathlib.Core.Path.{ap, ap₂, _∙_}
 use Prim.Native.Nat.{ℕ, _+_, _-_, _*_}
 use native.Mathlib.Omega.{arith}
-use Rattle.books.specs.Picture.{down}
+use Rattle.books.specs.declared.rule.Dir.the-variants.{Down as down}
 use Rattle.pieces.proofs.Courses.{course-made, rise-begins, fall-begins}
 use borrow.Author.Needs.{needs}
 use Rattle.pieces.proofs.course.down_course.Statement.{statement}

@@ -1,6 +1,6 @@
 -- The first part is tried, and where it has its bit the second.
 use mathlib.Core.Path.{sym, _∙_}
-use Rattle.pieces.proofs.Least.{and-on, and-off}
+use Rattle.names.proofs.Tests.{and-on, and-off}
 use borrow.Author.Needs.{needs}
 use Rattle.pieces.proofs.cut.both_have.Statement.{statement}
 use Rattle.pieces.proofs.cut.both_have.Tie as tie

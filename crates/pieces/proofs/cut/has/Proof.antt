@@ -2,8 +2,8 @@
 use lib.ListN.{getD}
 use Rattle.pieces.specs.Pieces.{slotOf}
 use Rattle.pieces.specs.inner.Seen.{hasBit}
-use Rattle.pieces.specs.Table.{bit}
-use Rattle.pieces.proofs.Bits.{bit-high}
+use Rattle.names.specs.Bits.{bit}
+use Rattle.names.proofs.Bits.{bit-high}
 use borrow.Author.Needs.{needs}
 use Rattle.pieces.proofs.cut.has.Statement.{statement}
 use Rattle.pieces.proofs.cut.has.Tie as tie

@@ -3,7 +3,7 @@ use mathlib.Core.Path.{sym, ap, _∙_}
 use lib.Dec.{leb}
 use Prim.Native.Nat.{ℕ}
 use Rattle.pieces.specs.Largest.{fitsTable}
-use Rattle.pieces.proofs.Least.{and-on, and-off}
+use Rattle.names.proofs.Tests.{and-on, and-off}
 use Rattle.pieces.proofs.Searching.{within-room}
 use borrow.Author.Needs.{needs}
 use Rattle.pieces.proofs.largest.fits_table.Statement.{statement}

@@ -1,9 +1,9 @@
 -- An entry, below 2 to the power 32, has no bit from the 32nd on.
 use mathlib.Core.Path.{refl}
 use native.Mathlib.Omega.{arith}
-use Rattle.pieces.specs.Table.{bit}
+use Rattle.names.specs.Bits.{bit}
 use Rattle.pieces.specs.inner.Larger.{withBit}
-use Rattle.pieces.proofs.Bits.{bit-high}
+use Rattle.names.proofs.Bits.{bit-high}
 use borrow.Author.Needs.{needs}
 use Rattle.pieces.proofs.largest.with_bit.Statement.{statement}
 use Rattle.pieces.proofs.largest.with_bit.Tie as tie

@@ -1,6 +1,6 @@
 -- Both bounds are tested.
 use borrow.Author.Tests.{lt-ltb, le-ltb}
-use Rattle.books.specs.Search.{andThen}
+use Rattle.names.specs.Pick.{andThen}
 use Rattle.pieces.specs.Largest.{within}
 use Rattle.pieces.proofs.largest.within.Statement.{statement}
 use Rattle.pieces.proofs.largest.within.Tie as tie

@@ -4,7 +4,7 @@ use native.Mathlib.Omega.{arith}
 use lib.Bits.{bitOr}
 use lib.ListN.{drop, length-drop}
 use lib.Seq.{length-take-le}
-use Rattle.books.specs.Picture.{across, down}
+use Rattle.books.specs.declared.rule.Dir.the-variants.{Across as across, Down as down}
 use Rattle.pieces.specs.inner.Firing.{along}
 use Rattle.pieces.specs.inner.Settled.{plan}
 use Rattle.pieces.specs.declared.course.Course.{Course}

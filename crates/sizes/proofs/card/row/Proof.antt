@@ -6,8 +6,8 @@ use native.Mathlib.Omega.{arith}
 use lib.ListN.{getD}
 use lib.Pow.{shl-exact, pow-mono}
 use Rattle.books.specs.Size.{greatest}
-use Rattle.pieces.specs.Table.{bit, bits}
-use Rattle.pieces.proofs.Bits.{bit-lt}
+use Rattle.names.specs.Bits.{bit, bits}
+use Rattle.names.proofs.Bits.{bit-lt}
 use Rattle.sizes.specs.inner.Rows.{rowOf}
 use Rattle.sizes.proofs.CardRows.{rowUpTo, row-more, row-lt}
 use borrow.Author.Needs.{needs}

@@ -6,7 +6,7 @@ use native.Mathlib.Omega.{arith}
 use lib.Count.{ones}
 use lib.ListN.{length, drop}
 use Rattle.books.specs.Size.{greatest}
-use Rattle.pieces.specs.Pieces.{each}
+use Rattle.names.specs.Counted.{each}
 use Rattle.sizes.specs.Card.{setBits}
 use Rattle.sizes.specs.inner.Rows.{rowsOf}
 use Rattle.sizes.proofs.CardRows.{row-ones, written-length, one-written, one-counted, all-written}

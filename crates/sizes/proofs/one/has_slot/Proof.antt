@@ -1,5 +1,5 @@
 -- The entry of the slot is the last that was filled.
-use Rattle.pieces.specs.Table.{bit}
+use Rattle.names.specs.Bits.{bit}
 use Rattle.sizes.proofs.OneSize.{slot-told}
 use borrow.Author.Needs.{needs}
 use Rattle.sizes.proofs.one.has_slot.Statement.{statement}

@@ -1,6 +1,6 @@
 -- The rows are tested, and then the columns.
 use mathlib.Core.Path.{sym, _∙_}
-use Rattle.pieces.proofs.Least.{and-on, and-off}
+use Rattle.names.proofs.Tests.{and-on, and-off}
 use Rattle.sizes.specs.Card.{onCard}
 use borrow.Author.Needs.{needs}
 use Rattle.sizes.proofs.one.on_card.Statement.{statement}

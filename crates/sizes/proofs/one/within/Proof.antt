@@ -1,6 +1,6 @@
 -- Both bounds are tested.
 use borrow.Author.Tests.{lt-ltb, le-ltb}
-use Rattle.books.specs.Search.{andThen}
+use Rattle.names.specs.Pick.{andThen}
 use Rattle.sizes.specs.Card.{within}
 use Rattle.sizes.proofs.one.within.Statement.{statement}
 use Rattle.sizes.proofs.one.within.Tie as tie

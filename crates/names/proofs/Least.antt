@@ -6,9 +6,8 @@ use mathlib.Core.Bool.{Bool, true, false, true≢false, false≢true}
 use mathlib.Core.Logic.{_⊎_, inl, inr, ⊎-elim}
 use native.Mathlib.Nat.{eq-or-lt-of-le}
 use native.Mathlib.Omega.{arith}
 use Rattle.names.proofs.Tests.{true-or-false}
-use Rattle.books.specs.Search.{andThen}
-use Rattle.pieces.specs.Choice.{least}
+use Rattle.names.specs.Counted.{least}
 
 -- one step, by the test of the first number
 here : (t : ℕ → Bool) (i n : ℕ) → t i ≡ true → least t i (suc n) ≡ i
@@ -67,14 +66,3 @@ module _ (t : ℕ → Bool) (k end : ℕ) where
   pub least-none : end ≤ k → least t k (end - k) ≡ k
   unfolding least
   least-none h = let e : end - k ≡ 0 = omega arith in ap (least t k) e
-
--- The second of two tests is made only where the first is passed.
-pub and-on : (t : Bool) (k : Unit {0} → Bool) → t ≡ true → andThen t k ≡ k tt
-unfolding andThen
-and-on true k e = refl
-and-on false k e = absurd (false≢true e)
-
-pub and-off : (t : Bool) (k : Unit {0} → Bool) → t ≡ false → andThen t k ≡ false
-unfolding andThen
-and-off true k e = absurd (true≢false e)
-and-off false k e = refl

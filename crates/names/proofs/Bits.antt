@@ -7,7 +7,7 @@ use native.Mathlib.Decide.{decLt, ℕ-discrete}
 use native.Mathlib.Omega.{arith}
 use lib.Bits.{bitAnd, bitOr, or-shr, or-mod, and-high}
 use lib.Pow.{pow-pos, pow-mono, pow-lt, pow-add, shl-shr, shr-shr}
-use Rattle.pieces.specs.Table.{bit}
+use Rattle.names.specs.Bits.{bit}
 
 pub bit-lt : (x a : ℕ) → bit x a < 2
 unfolding bit
