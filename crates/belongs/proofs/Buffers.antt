@@ -10,7 +10,8 @@ use Rattle.names.specs.declared.number.Fault.{Fault}
 use Rattle.books.specs.Answer.{blaming}
 use Rattle.books.specs.Book.{bookOf}
 use Rattle.books.specs.Contents.{Contents}
-use Rattle.books.specs.ContentsIn.{contentsIn, gridIn}
+use Rattle.books.specs.Lent.{contentsOf}
+use Rattle.books.specs.ContentsIn.{gridIn}
 use Rattle.books.specs.Grid.{Grid, picture}
 use Rattle.books.specs.Sheet.{sheetOf}
 use Rattle.books.proofs.FarBytes.{enough}
@@ -24,7 +25,7 @@ derived entries numbers f b e g =
     (leaving (blaming 1 f) entries numbers)
 
 derived-so : (book sheet entries numbers : List ℕ) → derivation book sheet entries numbers
-    ≡ derived entries numbers (bookOf book .fault) (contentsIn book (bookOf book .family)) (sheetOf sheet .fault) (gridIn sheet (sheetOf sheet .sheet))
+    ≡ derived entries numbers (bookOf book .fault) (contentsOf book) (sheetOf sheet .fault) (gridIn sheet (sheetOf sheet .sheet))
 unfolding derivation derived
 derived-so book sheet entries numbers = refl
 

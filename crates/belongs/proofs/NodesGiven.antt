@@ -14,9 +14,8 @@ use Rattle.names.specs.declared.number.Fault.{Fault}
 use Rattle.names.proofs.Picking.{pick-ind}
 use Rattle.names.proofs.Tests.{true-or-false}
 use Rattle.books.specs.Contents.{Contents}
-use Rattle.books.specs.ContentsIn.{contentsIn, gridIn}
+use Rattle.books.specs.Lent.{contentsOf, pictureOf}
 use Rattle.books.specs.Picture.{Picture}
-use Rattle.books.specs.Grid.{picture}
 use Rattle.books.specs.Answer.{blaming}
 use Rattle.books.specs.Book.{bookOf}
 use Rattle.books.specs.Decide.{derives?}
@@ -41,17 +40,17 @@ pub nodes-few : (s : List ℕ) (n : ℕ) → n ≡ nodesOf s → n ≤ 287
 nodes-few s n e = omega (arith, cells-few s)
 
 -- whatever the family and the motif, the derivation given of the sheet has so many nodes
-pub nodes-given : (b : Contents) (a : ℕ) (s xs : List ℕ) → Given b a (picture (gridIn s (sheetOf s .sheet))) xs → length xs ≡ 2 * nodesOf s
-nodes-given b a s xs = given-length b a (picture (gridIn s (sheetOf s .sheet))) xs
+pub nodes-given : (b : Contents) (a : ℕ) (s xs : List ℕ) → Given b a (pictureOf s) xs → length xs ≡ 2 * nodesOf s
+nodes-given b a s xs = given-length b a (pictureOf s) xs
 
 -- ── What is printed on 0 ──
 
 module _ (book sheet numbers : List ℕ) where
   abbrev b : Contents
-  b = contentsIn book (bookOf book .family)
+  b = contentsOf book
 
   abbrev p : Picture
-  p = picture (gridIn sheet (sheetOf sheet .sheet))
+  p = pictureOf sheet
 
   -- so many numbers of the tree slice are the derivation given
   abbrev Prints : Derivation → Type 0

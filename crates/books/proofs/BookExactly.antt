@@ -23,7 +23,7 @@ use Rattle.names.proofs.Exactly.{number-in-exactly, number-below-exactly}
 use Rattle.names.proofs.FirstFault.{FirstFault, first-fault}
 use Rattle.names.proofs.ListExactly.{list-first, list-read-exactly}
 use Rattle.books.specs.Contents.{Contents}
-use Rattle.books.specs.ContentsIn.{contentsIn}
+use Rattle.books.specs.Lent.{contentsOf}
 use Rattle.books.specs.Keeps.{Keeps}
 use Rattle.books.specs.SpellBook.{spellBook}
 use Rattle.books.specs.Rules.{noRules, refusedRules, ruleAt, rulesFrom, rulesAt}
@@ -188,6 +188,6 @@ book-one-fault s = book-first s .one
 -- what nothing refuses is the spelling of contents that keep the rules
 pub book-faultless-exactly : (s : List ℕ) → Bytes s → ((f : Fault) → BookFault s f → ⊥) ↔ ((b : Contents) × Keeps b × (s ≡ spellBook b))
 book-faultless-exactly s bytes = (
-  λ no. let a = book-accepted s bytes (book-first s .none .0 no) in (contentsIn s (bookOf s .family), a .keeps, a .spelled),
+  λ no. let a = book-accepted s bytes (book-first s .none .0 no) in (contentsOf s, a .keeps, a .spelled),
   λ x. book-first s .none .1 (rw (x .2) (ap (λ (f : Fault). f .number) (book-read-back (x .0) (x .1) .0))),
 )

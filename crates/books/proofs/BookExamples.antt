@@ -8,7 +8,7 @@ use Rattle.names.specs.Number.{lastGroup, longerAt, numberAt, numberIn, numberB
 use Rattle.names.specs.Name.{Name, leastAt, nameOf, sameName, listed}
 use Rattle.names.specs.Colours.{findName, colourAt, coloursOf}
 use Rattle.books.specs.Contents.{Contents}
-use Rattle.books.specs.ContentsIn.{contentsIn}
+use Rattle.books.specs.Lent.{contentsOf}
 use Rattle.books.specs.Rules.{colourNumberAt, joinAt, bodyAt, ruleAt, rulesAt}
 use Rattle.books.specs.Book.{figuresAt, ruledAt, figuredAt, bookOf}
 use Rattle.books.specs.SpellBook.{spellBook}
@@ -48,7 +48,7 @@ houseContents =
 pub record Books : Type 0 where
   pub bytes-34 : length house ≡ 34
   pub fine : bookOf house .fault ≡ fault 0 0
-  pub contents : contentsIn house (bookOf house .family) ≡ houseContents
+  pub contents : contentsOf house ≡ houseContents
   pub spelled : spellBook houseContents ≡ house
   pub empty : bookOf [] .fault ≡ fault 1 0
   pub no-motif : bookOf (book (0 ∷ 0 ∷ 4 ∷ []) (joins ++ colours)) .fault ≡ fault 3 17

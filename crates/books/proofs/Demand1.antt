@@ -14,7 +14,8 @@ use Rattle.names.proofs.Picking.{pick-ind}
 use Rattle.names.proofs.ReadingNumbers.{Blamed}
 use Rattle.names.proofs.SpellingNumbers.{Bytes}
 use Rattle.books.specs.Contents.{Contents}
-use Rattle.books.specs.ContentsIn.{contentsIn, gridIn}
+use Rattle.books.specs.Lent.{contentsOf}
+use Rattle.books.specs.ContentsIn.{gridIn}
 use Rattle.books.specs.Keeps.{Keeps}
 use Rattle.books.specs.Grid.{Grid, GridKeeps}
 use Rattle.books.specs.SpellBook.{spellBook}
@@ -99,7 +100,7 @@ read-book-told s r e =
       tells = t;
       refused = λ f some. let first = told-first s _ f r t some in let row = book-refused-exactly s f some in (λ h. row .0 (first .0 h), λ x. first .1 (row .1 x));
       accepted = λ bytes. (
-        λ z. let a = book-accepted s bytes (sym (t .number-is) ∙ z) in (contentsIn s (bookOf s .family), a .keeps, a .spelled),
+        λ z. let a = book-accepted s bytes (sym (t .number-is) ∙ z) in (contentsOf s, a .keeps, a .spelled),
         λ x. t .number-is ∙ rw (x .2) (ap (λ (f : Fault). f .number) (book-read-back (x .0) (x .1) .0)),
       );
       count = rw e (apart (bookAnswer s) 0 packs .count-is);

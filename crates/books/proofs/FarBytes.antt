@@ -18,7 +18,8 @@ use Rattle.names.proofs.Tests.{true-or-false, lt-or-le}
 use Rattle.names.proofs.ReadingNumbers.{number-lies, number-in, number-below}
 use Rattle.names.proofs.ReadingColours.{Places, places-none, colours-lie}
 use Rattle.names.proofs.FarBytes.{onward-same, faultless-same, number-far, number-in-far, number-below-far, names-in-far, colours-far}
-use Rattle.books.specs.ContentsIn.{contentsIn, gridIn}
+use Rattle.books.specs.Lent.{contentsOf}
+use Rattle.books.specs.ContentsIn.{gridIn}
 use Rattle.books.specs.Rules.{colourNumberAt, joinAt, bodyAt, ruleAt, refusedRules, afterRule, rulesFrom, rulesAt}
 use Rattle.books.specs.Book.{refusedBook, figuresAt, afterFigures, ruledAt, figuredAt, bookOf}
 use Rattle.books.specs.Size.{greatest, sizeAt, afterSize}
@@ -210,7 +211,7 @@ front-of f limit far s n h =
     (lt-or-le n (length s))
 
 -- the contents of a book, and of a sheet, that is cut off far on
-contents-far : (t u : List ℕ) → 5164 < length t → contentsIn (t ++ u) (bookOf (t ++ u) .family) ≡ contentsIn t (bookOf t .family)
+contents-far : (t u : List ℕ) → 5164 < length t → contentsOf (t ++ u) ≡ contentsOf t
 contents-far t u h = rw (book-far t u h, names-in-far t u (bookOf t .family .colours) (book-places t))
 
 grid-far : (t u : List ℕ) → farthest < length t → gridIn (t ++ u) (sheetOf (t ++ u) .sheet) ≡ gridIn t (sheetOf t .sheet)
@@ -219,7 +220,7 @@ grid-far t u h = rw (sheet-far t u h, names-in-far t u (sheetOf t .sheet .colour
 -- the first n bytes of a file are read as the file: the same fault, the same contents
 pub record Enough (s : List ℕ) (n : ℕ) : Type 0 where
   pub book-fault : bookOf (take n s) .fault ≡ bookOf s .fault
-  pub book-contents : contentsIn (take n s) (bookOf (take n s) .family) ≡ contentsIn s (bookOf s .family)
+  pub book-contents : contentsOf (take n s) ≡ contentsOf s
   pub sheet-fault : sheetOf (take n s) .fault ≡ sheetOf s .fault
   pub sheet-grid : gridIn (take n s) (sheetOf (take n s) .sheet) ≡ gridIn s (sheetOf s .sheet)
 
@@ -227,7 +228,7 @@ pub enough : (s : List ℕ) (n : ℕ) → 8192 ≤ n → Enough s n
 enough s n h =
     record {
       book-fault = ap (λ (r : BookRead). r .fault) (front-of bookOf 5164 book-far s n (omega arith));
-      book-contents = front-of (λ (x : List ℕ). contentsIn x (bookOf x .family)) 5164 contents-far s n (omega arith);
+      book-contents = front-of (λ (x : List ℕ). contentsOf x) 5164 contents-far s n (omega arith);
       sheet-fault = ap (λ (r : SheetRead). r .fault) (front-of sheetOf farthest sheet-far s n (omega arith));
       sheet-grid = front-of (λ (x : List ℕ). gridIn x (sheetOf x .sheet)) farthest grid-far s n (omega arith);
     }

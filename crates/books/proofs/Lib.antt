@@ -28,6 +28,7 @@ pub mod InARow
 pub mod SpellingOn
 pub mod SpellingDrafts
 pub mod Packing
+pub mod LentEnds
 pub mod Demand1
 pub mod Showing
 pub mod Settled

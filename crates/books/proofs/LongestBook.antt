@@ -10,7 +10,7 @@ use Rattle.names.specs.Spelling.{spellColours}
 use Rattle.names.proofs.SpellingNumbers.{Bytes, spell-short, spell-two}
 use Rattle.books.specs.Contents.{Contents}
 use Rattle.books.specs.Keeps.{BodyFits, RuleFits, Keeps}
-use Rattle.books.specs.ContentsIn.{contentsIn}
+use Rattle.books.specs.Lent.{contentsOf}
 use Rattle.books.specs.Book.{bookOf}
 use Rattle.books.specs.Rules.{noRule}
 use Rattle.books.specs.SpellBook.{spellBody, spellRule, spellRules, spellBook}
@@ -49,7 +49,7 @@ pub spelling-length : (b : Contents) → Keeps b → length (spellBook b) ≤ 34
 spelling-length b keeps = book-few b keeps .few
 
 pub longest-book : (s : List ℕ) → Bytes s → bookOf s .fault .number ≡ 0 → length s ≤ 3429
-longest-book s bytes z = let a = book-accepted s bytes z in omega (arith, ap length (a .spelled), spelling-length (contentsIn s (bookOf s .family)) (a .keeps))
+longest-book s bytes z = let a = book-accepted s bytes z in omega (arith, ap length (a .spelled), spelling-length (contentsOf s) (a .keeps))
 
 -- ── One is as long ──
 

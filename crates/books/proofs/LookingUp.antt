@@ -10,7 +10,8 @@ use borrow.Author.Tests.{lt-ltb, le-ltb}
 use lib.ListN.{length, getD}
 use lib.Seq.{getD-take, length-take-le}
 use Rattle.names.proofs.Tests.{lt-or-le}
-use Rattle.books.specs.ContentsIn.{contentsIn, gridIn}
+use Rattle.books.specs.Lent.{contentsOf}
+use Rattle.books.specs.ContentsIn.{gridIn}
 use Rattle.books.specs.Keeps.{BodyFits, RuleFits}
 use Rattle.books.specs.Rules.{noRule}
 use Rattle.books.specs.Book.{bookOf}
@@ -84,7 +85,7 @@ size-apart z h = record { rows-is = omega arith; columns-is = omega arith }
 module _ (s : List ℕ) where
   -- the rules of the contents; a refused book has none
   abbrev pub rules : List Rule
-  rules = contentsIn s (bookOf s .family) .rules
+  rules = contentsOf s .rules
 
   refused-rules : (bookOf s .fault .number ≡ 0 → ⊥) → length rules ≡ 0
   refused-rules d = rw (book-refused s d .empty)

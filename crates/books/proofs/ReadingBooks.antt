@@ -20,6 +20,7 @@ use Rattle.names.proofs.SpellingNumbers.{Bytes}
 use Rattle.names.proofs.ReadingColours.{Places, places-none, names-count, colours-lie, colours-refused}
 use Rattle.names.proofs.SpellingColours.{colours-accepted}
 use Rattle.books.specs.Contents.{Contents}
+use Rattle.books.specs.Lent.{contentsOf}
 use Rattle.books.specs.ContentsIn.{contentsIn}
 use Rattle.books.specs.Keeps.{RuleFits, Keeps}
 use Rattle.books.specs.Rules.{noRule, rulesAt}
@@ -149,7 +150,7 @@ pub book-refused : (s : List ℕ) → (bookOf s .fault .number ≡ 0 → ⊥) �
 book-refused s z = ⊎-elim (λ a. absurd (z (ap (λ (f : Fault). f .number) (a .lies .fine)))) (λ r. r) (book-ended s)
 
 -- an accepted book keeps the rules, and is the spelling of its contents
-pub book-accepted : (s : List ℕ) → Bytes s → bookOf s .fault .number ≡ 0 → BookSpelled s (contentsIn s (bookOf s .family))
+pub book-accepted : (s : List ℕ) → Bytes s → bookOf s .fault .number ≡ 0 → BookSpelled s (contentsOf s)
 book-accepted s bytes z = ⊎-elim (λ a. a .spells bytes) (λ r. absurd (omega (arith, r .blamed .some))) (book-ended s)
 
 -- refused or not, every place of a name lies within the input, and there are 200 places for rules

@@ -17,7 +17,7 @@ use Rattle.names.proofs.Listing.{getD-mem}
 use Rattle.names.proofs.SpellingNumbers.{Bytes}
 use Rattle.names.proofs.Tests.{true-or-false, lt-or-le}
 use Rattle.names.proofs.ReadingColours.{name-at, names-count}
-use Rattle.books.specs.ContentsIn.{contentsIn}
+use Rattle.books.specs.Lent.{contentsOf}
 use Rattle.books.specs.Book.{bookOf}
 use Rattle.books.specs.Calls.{shown, shownStart, shownPlace}
 use Rattle.books.proofs.ReadingBooks.{book-accepted, book-places, book-refused}
@@ -68,12 +68,12 @@ module _ (s : List ℕ) (k : ℕ) where
       (lt-or-le k (bookOf s .family .colours .count))
 
   -- a name of an accepted book keeps the rules of names, and so is never empty
-  pub shown-ok : Bytes s → bookOf s .fault .number ≡ 0 → k < length (contentsIn s (bookOf s .family) .colours) → NameOk (shown s k)
+  pub shown-ok : Bytes s → bookOf s .fault .number ≡ 0 → k < length (contentsOf s .colours) → NameOk (shown s k)
   shown-ok bytes z h = book-accepted s bytes z .keeps .colours-ok .each (shown s k) (getD-mem (namesIn s (bookOf s .family .colours)) k [] h)
 
   -- there is no such colour: the book is refused, or the number is not below the count
   abbrev pub None : Type 0
-  None = (bookOf s .fault .number ≡ 0 → ⊥) ⊎ (length (contentsIn s (bookOf s .family) .colours) ≤ k)
+  None = (bookOf s .fault .number ≡ 0 → ⊥) ⊎ (length (contentsOf s .colours) ≤ k)
 
   -- what dv_colour answers
   pub record Shows (r : ℕ) : Type 0 where
@@ -105,9 +105,9 @@ module _ (s : List ℕ) (k : ℕ) where
         none = (
           λ z. ⊎-elim
               (λ t. ⊎-elim
-              (λ (h : k < length (contentsIn s (bookOf s .family) .colours)). absurd (omega (arith, shown-ok bytes (eqb-true (bookOf s .fault .number) 0 t) h .some)))
-              (λ (h : length (contentsIn s (bookOf s .family) .colours) ≤ k). inr h)
-              (lt-or-le k (length (contentsIn s (bookOf s .family) .colours))))
+              (λ (h : k < length (contentsOf s .colours)). absurd (omega (arith, shown-ok bytes (eqb-true (bookOf s .fault .number) 0 t) h .some)))
+              (λ (h : length (contentsOf s .colours) ≤ k). inr h)
+              (lt-or-le k (length (contentsOf s .colours))))
               (λ t. inl (eqb-false (bookOf s .fault .number) 0 t))
               (true-or-false (eqb (bookOf s .fault .number) 0)),
           λ x.

@@ -17,7 +17,7 @@ use Rattle.names.proofs.SpellingNumbers.{Bytes}
 use Rattle.names.proofs.ReadingColours.{names-count}
 use Rattle.names.proofs.SpellingColours.{colours-read-back}
 use Rattle.books.specs.Contents.{Contents}
-use Rattle.books.specs.ContentsIn.{contentsIn}
+use Rattle.books.specs.Lent.{contentsOf}
 use Rattle.books.specs.Keeps.{Keeps}
 use Rattle.books.specs.Rules.{noRule}
 use Rattle.books.specs.Book.{figuresAt, familyOf, ruledAt, figuredAt, bookOf}
@@ -78,7 +78,7 @@ module _ (b : Contents) (keeps : Keeps b) (s : List ℕ) where
       )
 
 -- reading the spelling of contents that keep the rules accepts it and gives them back
-pub book-read-back : (b : Contents) → Keeps b → (bookOf (spellBook b) .fault ≡ fault 0 0) × (contentsIn (spellBook b) (bookOf (spellBook b) .family) ≡ b)
+pub book-read-back : (b : Contents) → Keeps b → (bookOf (spellBook b) .fault ≡ fault 0 0) × (contentsOf (spellBook b) ≡ b)
 unfolding bookOf
 book-read-back b keeps =
     let s = spellBook b in
@@ -96,5 +96,5 @@ book-read-back b keeps =
 
 -- two accepted inputs with the same contents are equal
 pub one-spelling : (s t : List ℕ) → Bytes s → Bytes t → bookOf s .fault .number ≡ 0 → bookOf t .fault .number ≡ 0
-    → contentsIn s (bookOf s .family) ≡ contentsIn t (bookOf t .family) → s ≡ t
+    → contentsOf s ≡ contentsOf t → s ≡ t
 one-spelling s t bs bt zs zt e = book-accepted s bs zs .spelled ∙ (ap spellBook e ∙ sym (book-accepted t bt zt .spelled))

@@ -6,7 +6,7 @@ use lib.ListN.{length, getD}
 use Rattle.names.specs.Pick.{pick}
 use Rattle.names.specs.Name.{Name}
 use Rattle.books.specs.Contents.{name}
-use Rattle.books.specs.ContentsIn.{contentsIn}
+use Rattle.books.specs.Lent.{contentsOf}
 use Rattle.books.specs.Book.{bookOf}
 use Rattle.books.specs.Sheet.{sheetOf}
 use Rattle.books.specs.Answer.{blaming}
@@ -24,7 +24,7 @@ ticketOf s = sheetOf s .sheet .ticket
 
 -- the name of a colour of the book, and nothing where there is no such colour: a refused book has none
 abbrev pub shown : List ℕ → ℕ → Name
-shown s k = name (contentsIn s (bookOf s .family)) k
+shown s k = name (contentsOf s) k
 
 -- where that name starts in the book, 0 where there is none
 abbrev pub shownStart : List ℕ → ℕ → ℕ

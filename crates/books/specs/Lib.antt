@@ -18,6 +18,7 @@ pub mod Cells
 pub mod Sheet
 pub mod SpellSheet
 pub mod Answer
+pub mod Lent
 pub mod Calls
 pub mod Lookups
 pub mod Order

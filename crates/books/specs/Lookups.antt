@@ -6,9 +6,9 @@ use lib.ListN.{length, getD}
 use Rattle.names.specs.Pick.{pick}
 use Rattle.books.specs.Contents.{Contents}
 use Rattle.books.specs.Grid.{Grid}
-use Rattle.books.specs.ContentsIn.{contentsIn, gridIn}
+use Rattle.books.specs.Lent.{contentsOf}
+use Rattle.books.specs.ContentsIn.{gridIn}
 use Rattle.books.specs.Rules.{noRule}
-use Rattle.books.specs.Book.{bookOf}
 use Rattle.books.specs.Sheet.{sheetOf}
 use Rattle.books.specs.declared.rule.Rule.{Rule}
 use Rattle.books.specs.declared.rule.Body.{Body}
@@ -25,7 +25,7 @@ ruleIn b k = pick (ltb k (length (b .rules))) (There (getD (b .rules) k noRule))
 
 -- that of a lent book; a refused one has no rules
 abbrev pub ruleOf : List ℕ → ℕ → RuleFound
-ruleOf s k = ruleIn (contentsIn s (bookOf s .family)) k
+ruleOf s k = ruleIn (contentsOf s) k
 
 abbrev pub sizeIn : Grid → SheetSize
 sizeIn g = record { rows = g .rows; columns = g .cols }

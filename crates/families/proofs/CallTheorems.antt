@@ -25,7 +25,8 @@ use Rattle.families.specs.Images.{reversed, transpose, Image}
 use Rattle.families.specs.Combine.{either-of, beside, above, run, stack, mirrored, flipped, transposed}
 use Rattle.families.specs.Limits.{WithinLimits}
 use Rattle.families.specs.Outcome.{Outcome, made, onOne, onSecond, onTwo, Leaves}
-use Rattle.families.specs.NewBook.{Accepted, bookIn, Held, NewBook}
+use Rattle.books.specs.Lent.{contentsOf}
+use Rattle.families.specs.NewBook.{IsBook, Held, NewBook}
 use Rattle.families.specs.Answers.{answerOf, countOf}
 use Rattle.families.proofs.Keeping.{KeptTwo, KeptOne, joined-keeps, either-of-keeps, repeated-keeps, transposed-keeps, swapping-keeps, keeps-within}
 use Rattle.families.proofs.Outcomes.{made-wrote, lent-went, front-put, beyond-put}
@@ -46,7 +47,7 @@ HoldsOne op X = (book out left : List ℕ) (r : ℕ) → Bytes book
 
 -- An accepted book and two slices that are as long: both calls answer 0, and the second has written the lent book byte for byte.
 abbrev pub GivesBack : (Contents → Contents) → Type 0
-GivesBack op = (book out left out′ left′ : List ℕ) (r r′ : ℕ) → Bytes book → Accepted book
+GivesBack op = (book out left out′ left′ : List ℕ) (r r′ : ℕ) → Bytes book → IsBook book
     → length book ≤ length out → Leaves (onOne op book out) r left
     → length book ≤ length out′ → Leaves (onOne op (take (countOf r) left) out′) r′ left′
     → (answerOf r .number ≡ 0) × (answerOf r′ .number ≡ 0) × (take (countOf r′) left′ ≡ book)
@@ -60,15 +61,15 @@ record Spelled (c : Contents) (out left : List ℕ) (count : ℕ) : Type 0 where
   as-long : length left ≡ length out
 
 -- It is read back.
-spelled-accepted : (c : Contents) (s : List ℕ) → Keeps c → s ≡ spellBook c → Accepted s
+spelled-accepted : (c : Contents) (s : List ℕ) → Keeps c → s ≡ spellBook c → IsBook s
 spelled-accepted c s keeps e = ap (λ (t : List ℕ). bookOf t .fault) e ∙ book-read-back c keeps .0
 
-spelled-contents : (c : Contents) (s : List ℕ) → Keeps c → s ≡ spellBook c → bookIn s ≡ c
-spelled-contents c s keeps e = ap bookIn e ∙ book-read-back c keeps .1
+spelled-contents : (c : Contents) (s : List ℕ) → Keeps c → s ≡ spellBook c → contentsOf s ≡ c
+spelled-contents c s keeps e = ap contentsOf e ∙ book-read-back c keeps .1
 
 new-book : (c : Contents) (X : Picture → Type 0) (out left : List ℕ) (count : ℕ) → ((p : Picture) → Member c p ↔ X p) → Spelled c out left count → NewBook out left count X
 new-book c X out left count holds w =
-    let contents : bookIn (take count left) ≡ c = spelled-contents c (take count left) (w .keeps) (w .front) in
+    let contents : contentsOf (take count left) ≡ c = spelled-contents c (take count left) (w .keeps) (w .front) in
     record {
       accepted = spelled-accepted c (take count left) (w .keeps) (w .front);
       keeps = subst Keeps (sym contents) (w .keeps);
@@ -108,28 +109,28 @@ two-new op X keeps holds first second out left r bf bs leaves z =
     let read = two-read op keeps first second out left r bf bs leaves in
     let zero = zero-is o left r read z in
     let (zf, ef) = lent-went 1 first out (λ f. onSecond (op f) second out) zero in
-    let (zs, es) = lent-went 2 second out (λ g. made (op (bookIn first) g) out) (sym (ap (λ (p : Outcome). p .answer .number) ef) ∙ zero) in
+    let (zs, es) = lent-went 2 second out (λ g. made (op (contentsOf first) g) out) (sym (ap (λ (p : Outcome). p .answer .number) ef) ∙ zero) in
     let kf = book-accepted first bf zf .keeps in
     let ks = book-accepted second bs zs .keeps in
-    new-book (op (bookIn first) (bookIn second)) (X (Held first) (Held second)) out left (countOf r)
-    (holds (bookIn first) (bookIn second) (kf .sound) (ks .sound))
-    (made-spelled (op (bookIn first) (bookIn second)) out o left r (keeps (bookIn first) (bookIn second) kf ks) (ef ∙ es) read z)
+    new-book (op (contentsOf first) (contentsOf second)) (X (Held first) (Held second)) out left (countOf r)
+    (holds (contentsOf first) (contentsOf second) (kf .sound) (ks .sound))
+    (made-spelled (op (contentsOf first) (contentsOf second)) out o left r (keeps (contentsOf first) (contentsOf second) kf ks) (ef ∙ es) read z)
 
 -- One lent book: it was accepted, and that of the combination is written.
 one-spelled : (op : Contents → Contents) → KeptOne op → (book out left : List ℕ) (r : ℕ) → Bytes book → Leaves (onOne op book out) r left → answerOf r .number ≡ 0
-    → Keeps (bookIn book) × Spelled (op (bookIn book)) out left (countOf r)
+    → Keeps (contentsOf book) × Spelled (op (contentsOf book)) out left (countOf r)
 one-spelled op keeps book out left r bytes leaves z =
     let o : Outcome = onOne op book out in
     let read = one-read op keeps book out left r bytes leaves in
     let (zb, eb) = lent-went 1 book out (λ f. made (op f) out) (zero-is o left r read z) in
     let k = book-accepted book bytes zb .keeps in
-    (k, made-spelled (op (bookIn book)) out o left r (keeps (bookIn book) k) eb read z)
+    (k, made-spelled (op (contentsOf book)) out o left r (keeps (contentsOf book) k) eb read z)
 
 one-new : (op : Contents → Contents) (X : (Picture → Type 0) → Picture → Type 0) → KeptOne op
     → ((f : Contents) → Sound f → (p : Picture) → Member (op f) p ↔ X (Member f) p) → HoldsOne op X
 one-new op X keeps holds book out left r bytes leaves z =
     let (k, w) = one-spelled op keeps book out left r bytes leaves z in
-    new-book (op (bookIn book)) (X (Held book)) out left (countOf r) (holds (bookIn book) (k .sound)) w
+    new-book (op (contentsOf book)) (X (Held book)) out left (countOf r) (holds (contentsOf book) (k .sound)) w
 
 -- A change that keeps the rules, is undone by being made again, and leaves the spelling as long as it was.
 module _ (op : Contents → Contents) (keeps : (f : Contents) → Keeps f → Keeps (op f)) (again : (f : Contents) → op (op f) ≡ f)
@@ -137,30 +138,30 @@ module _ (op : Contents → Contents) (keeps : (f : Contents) → Keeps f → Ke
   kept : KeptOne op
   kept f k _ = keeps f k
 
-  spelled : (book : List ℕ) → Bytes book → Accepted book → BookSpelled book (bookIn book)
+  spelled : (book : List ℕ) → Bytes book → IsBook book → BookSpelled book (contentsOf book)
   spelled book bytes accepted = book-accepted book bytes (ap (λ (f : Fault). f .number) accepted)
 
-  changed-length : (book : List ℕ) → Bytes book → Accepted book → length (spellBook (op (bookIn book))) ≡ length book
-  changed-length book bytes accepted = as-long (bookIn book) ∙ sym (ap length (spelled book bytes accepted .spelled))
+  changed-length : (book : List ℕ) → Bytes book → IsBook book → length (spellBook (op (contentsOf book))) ≡ length book
+  changed-length book bytes accepted = as-long (contentsOf book) ∙ sym (ap length (spelled book bytes accepted .spelled))
 
   -- a slice as long as the book has room
-  one-zero : (book out left : List ℕ) (r : ℕ) → Bytes book → Accepted book → length book ≤ length out → Leaves (onOne op book out) r left → answerOf r .number ≡ 0
+  one-zero : (book out left : List ℕ) (r : ℕ) → Bytes book → IsBook book → length book ≤ length out → Leaves (onOne op book out) r left → answerOf r .number ≡ 0
   one-zero book out left r bytes accepted room leaves =
       one-verdict op kept book out left r bytes accepted leaves .zero .1
       (keeps-within _ (keeps _ (spelled book bytes accepted .keeps)), rw (changed-length book bytes accepted) room)
 
   given-back : GivesBack op
   given-back book out left out′ left′ r r′ bytes accepted room leaves room′ leaves′ =
-      let c : Contents = op (bookIn book) in
+      let c : Contents = op (contentsOf book) in
       let new : List ℕ = take (countOf r) left in
       let z = one-zero book out left r bytes accepted room leaves in
       let (_, w) = one-spelled op kept book out left r bytes leaves z in
       let new-bytes : Bytes new = subst Bytes (sym (w .front)) (spelling-bytes c (w .keeps)) in
-      let new-accepted : Accepted new = spelled-accepted c new (w .keeps) (w .front) in
+      let new-accepted : IsBook new = spelled-accepted c new (w .keeps) (w .front) in
       let size : length new ≡ length book = ap length (w .front) ∙ changed-length book bytes accepted in
       let z′ = one-zero new out′ left′ r′ new-bytes new-accepted (rw size room′) leaves′ in
       let (_, w′) = one-spelled op kept new out′ left′ r′ new-bytes leaves′ z′ in
-      let back : op (bookIn new) ≡ bookIn book = ap op (spelled-contents c new (w .keeps) (w .front)) ∙ again (bookIn book) in
+      let back : op (contentsOf new) ≡ contentsOf book = ap op (spelled-contents c new (w .keeps) (w .front)) ∙ again (contentsOf book) in
       (z, z′, w′ .front ∙ (ap spellBook back ∙ sym (spelled book bytes accepted .spelled)))
 
 -- Either-of: what the first book or the second holds.

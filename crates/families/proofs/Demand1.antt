@@ -21,7 +21,8 @@ use Rattle.books.specs.declared.answer.Answer.{Answer}
 use Rattle.books.proofs.ReadingBooks.{book-lies, book-refused}
 use Rattle.families.specs.Within.{within?}
 use Rattle.families.specs.Outcome.{Outcome, refused, written, made, lent, onOne, onSecond, onTwo, Leaves}
-use Rattle.families.specs.NewBook.{Accepted, bookIn}
+use Rattle.books.specs.Lent.{contentsOf}
+use Rattle.families.specs.NewBook.{IsBook}
 use Rattle.families.specs.Answers.{answerOf, countOf, Blames, Answers}
 use Rattle.families.specs.EachCall.{EachCall}
 use Rattle.families.proofs.Keeping.{KeptTwo, KeptOne, each-call}
@@ -29,7 +30,7 @@ use Rattle.families.proofs.ReadingOff.{ReadOff, one-read, two-read}
 
 -- in which book a fault stands
 abbrev pub FaultyTwo : List ℕ → List ℕ → Answer → Type 0
-FaultyTwo first second a = Blames 1 first a ⊎ (Accepted first × Blames 2 second a)
+FaultyTwo first second a = Blames 1 first a ⊎ (IsBook first × Blames 2 second a)
 
 abbrev pub AnswersTwo : (Contents → Contents → Contents) → Type 0
 AnswersTwo op = (first second out left : List ℕ) (r : ℕ) → Bytes first → Bytes second → Leaves (onTwo op first second out) r left
@@ -75,11 +76,11 @@ module _ (Faulty : Answer → Type 0) (out : List ℕ) where
           refusal = λ _. (refl, refl);
         }
 
-    lent-told : (go : Contents → Outcome) → (Accepted s → Tells (go (bookIn s))) → Tells (lent input s out go)
+    lent-told : (go : Contents → Outcome) → (IsBook s → Tells (go (contentsOf s))) → Tells (lent input s out go)
     unfolding lent
     lent-told go told =
         let f = bookOf s .fault in
-        pick-ind Tells (eqb (f .number) 0) (go (bookIn s)) (refused (blaming input f) out)
+        pick-ind Tells (eqb (f .number) 0) (go (contentsOf s)) (refused (blaming input f) out)
         (λ e. told (book-lies s (eqb-true _ 0 e) .fine))
         (λ e. subst (λ (t : Bool). Tells (refused (pick t (plain 0) (answer (f .number) input (f .place))) out)) (sym e) (refused-told (eqb-false _ 0 e)))
 
@@ -94,7 +95,7 @@ read-told Faulty out o left r told read =
 one-told : (op : Contents → Contents) → KeptOne op → AnswersOne op
 one-told op keeps book out left r bytes leaves =
     read-told (Blames 1 book) out (onOne op book out) left r
-    (lent-told (Blames 1 book) out 1 book (λ _ b. b) (λ f. made (op f) out) (λ _. made-told (Blames 1 book) out (op (bookIn book))))
+    (lent-told (Blames 1 book) out 1 book (λ _ b. b) (λ f. made (op f) out) (λ _. made-told (Blames 1 book) out (op (contentsOf book))))
     (one-read op keeps book out left r bytes leaves)
 
 two-told : (op : Contents → Contents → Contents) → KeptTwo op → AnswersTwo op
@@ -102,8 +103,8 @@ two-told op keeps first second out left r bf bs leaves =
     let F = FaultyTwo first second in
     read-told F out (onTwo op first second out) left r
     (lent-told F out 1 first (λ _ b. inl b) (λ f. onSecond (op f) second out)
-    (λ accepted. lent-told F out 2 second (λ _ b. inr (accepted, b)) (λ g. made (op (bookIn first) g) out)
-    (λ _. made-told F out (op (bookIn first) (bookIn second)))))
+    (λ accepted. lent-told F out 2 second (λ _ b. inr (accepted, b)) (λ g. made (op (contentsOf first) g) out)
+    (λ _. made-told F out (op (contentsOf first) (contentsOf second)))))
     (two-read op keeps first second out left r bf bs leaves)
 
 pub demand1 : EachCall AnswersTwo AnswersOne

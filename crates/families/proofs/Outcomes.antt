@@ -13,7 +13,7 @@ use Rattle.names.specs.Put.{put}
 use Rattle.names.proofs.Picking.{pick-ind}
 use Rattle.names.proofs.Putting.{put-in}
 use Rattle.books.specs.Contents.{Contents}
-use Rattle.books.specs.ContentsIn.{contentsIn}
+use Rattle.books.specs.Lent.{contentsOf}
 use Rattle.books.specs.Book.{bookOf}
 use Rattle.books.specs.SpellBook.{spellBook}
 use Rattle.books.specs.Keeps.{Keeps}
@@ -51,20 +51,20 @@ made-packs c out keeps =
 
 -- A lent book.
 module _ (input : ℕ) (s out : List ℕ) (go : Contents → Outcome) where
-  pub lent-went : lent input s out go .answer .number ≡ 0 → (bookOf s .fault .number ≡ 0) × (lent input s out go ≡ go (contentsIn s (bookOf s .family)))
+  pub lent-went : lent input s out go .answer .number ≡ 0 → (bookOf s .fault .number ≡ 0) × (lent input s out go ≡ go (contentsOf s))
   unfolding lent
   lent-went =
       let f = bookOf s .fault in
-      pick-ind (λ (o : Outcome). o .answer .number ≡ 0 → (f .number ≡ 0) × (o ≡ go (contentsIn s (bookOf s .family)))) (eqb (f .number) 0)
-      (go (contentsIn s (bookOf s .family))) (refused (blaming input f) out)
+      pick-ind (λ (o : Outcome). o .answer .number ≡ 0 → (f .number ≡ 0) × (o ≡ go (contentsOf s))) (eqb (f .number) 0)
+      (go (contentsOf s)) (refused (blaming input f) out)
       (λ e _. (eqb-true _ 0 e, refl))
       (λ e z. absurd (eqb-false _ 0 e (sym (ap (λ (t : Bool). pick t (plain 0) (answer (f .number) input (f .place)) .number) e) ∙ z)))
 
-  pub lent-packs : input < 2 ^ 4 → (bookOf s .fault .number ≡ 0 → Packs (go (contentsIn s (bookOf s .family)) .answer) (go (contentsIn s (bookOf s .family)) .count))
+  pub lent-packs : input < 2 ^ 4 → (bookOf s .fault .number ≡ 0 → Packs (go (contentsOf s) .answer) (go (contentsOf s) .count))
       → Packs (lent input s out go .answer) (lent input s out go .count)
   unfolding lent
   lent-packs few packs =
-      pick-ind (λ (o : Outcome). Packs (o .answer) (o .count)) (eqb (bookOf s .fault .number) 0) (go (contentsIn s (bookOf s .family))) (refused (blaming input (bookOf s .fault)) out)
+      pick-ind (λ (o : Outcome). Packs (o .answer) (o .count)) (eqb (bookOf s .fault .number) 0) (go (contentsOf s)) (refused (blaming input (bookOf s .fault)) out)
       (λ e. packs (eqb-true _ 0 e))
       (λ _. book-placed s input few .packs)
 

@@ -7,6 +7,7 @@ use borrow.Author.Tests.{eq-eqb, ne-eqb}
 use Rattle.names.proofs.SpellingNumbers.{Bytes}
 use Rattle.names.specs.Pick.{pick}
 use Rattle.books.specs.Contents.{Contents}
+use Rattle.books.specs.Lent.{contentsOf}
 use Rattle.books.specs.ContentsIn.{contentsIn}
 use Rattle.books.specs.Answer.{blaming, packed, Packs}
 use Rattle.books.specs.declared.answer.Answer.{Answer}
@@ -67,5 +68,5 @@ module _ (s : List ℕ) (b : BookRead) (read : b ≡ bookOf s) where
     blamed-leaves out go r z e =
         let o : Outcome = refused (blaming input (bookOf s .fault)) out in
         let test = ne-eqb (bookOf s .fault .number) 0 (rw read at z) in
-        subst (λ (p : Outcome). Leaves p r out) (sym (ap (λ (t : Bool). pick t (go (contentsIn s (bookOf s .family))) o) test))
+        subst (λ (p : Outcome). Leaves p r out) (sym (ap (λ (t : Bool). pick t (go (contentsOf s)) o) test))
         (record { answers = simp (blamed, read) at e; leaves = refl })

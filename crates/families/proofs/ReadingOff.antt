@@ -9,7 +9,7 @@ use Rattle.books.specs.Answer.{answer, Packs}
 use Rattle.books.proofs.ReadingBooks.{book-accepted}
 use Rattle.books.proofs.Packing.{apart}
 use Rattle.families.specs.Outcome.{Outcome, onOne, onTwo, Leaves}
-use Rattle.families.specs.NewBook.{bookIn}
+use Rattle.books.specs.Lent.{contentsOf}
 use Rattle.families.specs.Answers.{answerOf, countOf}
 use Rattle.families.proofs.Keeping.{KeptTwo, KeptOne}
 use Rattle.families.proofs.Outcomes.{made-packs, lent-packs}
@@ -33,7 +33,7 @@ pub one-read : (op : Contents → Contents) → KeptOne op → (book out left : 
     → Leaves (onOne op book out) r left → ReadOff (onOne op book out) left r
 one-read op keeps book out left r bytes =
     read-off (onOne op book out) left r
-    (lent-packs 1 book out _ (omega arith) (λ z. made-packs (op (bookIn book)) out (keeps _ (book-accepted book bytes z .keeps))))
+    (lent-packs 1 book out _ (omega arith) (λ z. made-packs (op (contentsOf book)) out (keeps _ (book-accepted book bytes z .keeps))))
 
 -- ... and on two
 pub two-read : (op : Contents → Contents → Contents) → KeptTwo op → (first second out left : List ℕ) (r : ℕ) → Bytes first → Bytes second
@@ -42,4 +42,4 @@ two-read op keeps first second out left r bf bs =
     read-off (onTwo op first second out) left r
     (lent-packs 1 first out _ (omega arith)
     (λ zf. lent-packs 2 second out _ (omega arith)
-    (λ zs. made-packs (op (bookIn first) (bookIn second)) out (keeps _ _ (book-accepted first bf zf .keeps) (book-accepted second bs zs .keeps)))))
+    (λ zs. made-packs (op (contentsOf first) (contentsOf second)) out (keeps _ _ (book-accepted first bf zf .keeps) (book-accepted second bs zs .keeps)))))

@@ -20,7 +20,8 @@ use Rattle.books.specs.declared.answer.Answer.{Answer}
 use Rattle.families.specs.Limits.{WithinLimits}
 use Rattle.families.specs.Within.{within?}
 use Rattle.families.specs.Outcome.{Outcome, refused, written, made, lent, onOne, onSecond, onTwo, Leaves}
-use Rattle.families.specs.NewBook.{Accepted, bookIn}
+use Rattle.books.specs.Lent.{contentsOf}
+use Rattle.families.specs.NewBook.{IsBook}
 use Rattle.families.specs.Answers.{answerOf, countOf, Verdict}
 use Rattle.families.specs.EachCall.{EachCall}
 use Rattle.families.proofs.Testing.{within-limits}
@@ -75,27 +76,27 @@ read-verdict c out o left r e read =
     (subst (Gets c out) (sym e) (made-verdict c out)))
 
 -- An accepted book goes on.
-accepted-goes : (input : ℕ) (s out : List ℕ) (go : Contents → Outcome) → Accepted s → lent input s out go ≡ go (bookIn s)
+accepted-goes : (input : ℕ) (s out : List ℕ) (go : Contents → Outcome) → IsBook s → lent input s out go ≡ go (contentsOf s)
 accepted-goes input s out go a = read-accepted s (bookOf s) refl input out go (ap (λ (f : Fault). f .number) a)
 
 -- Two accepted books, and one.
 abbrev pub VerdictTwo : (Contents → Contents → Contents) → Type 0
-VerdictTwo op = (first second out left : List ℕ) (r : ℕ) → Bytes first → Bytes second → Accepted first → Accepted second
-    → Leaves (onTwo op first second out) r left → Verdict (op (bookIn first) (bookIn second)) out (answerOf r .number) (countOf r)
+VerdictTwo op = (first second out left : List ℕ) (r : ℕ) → Bytes first → Bytes second → IsBook first → IsBook second
+    → Leaves (onTwo op first second out) r left → Verdict (op (contentsOf first) (contentsOf second)) out (answerOf r .number) (countOf r)
 
 abbrev pub VerdictOne : (Contents → Contents) → Type 0
-VerdictOne op = (book out left : List ℕ) (r : ℕ) → Bytes book → Accepted book
-    → Leaves (onOne op book out) r left → Verdict (op (bookIn book)) out (answerOf r .number) (countOf r)
+VerdictOne op = (book out left : List ℕ) (r : ℕ) → Bytes book → IsBook book
+    → Leaves (onOne op book out) r left → Verdict (op (contentsOf book)) out (answerOf r .number) (countOf r)
 
 two-verdict : (op : Contents → Contents → Contents) → KeptTwo op → VerdictTwo op
 two-verdict op keeps first second out left r bf bs af ag leaves =
-    read-verdict (op (bookIn first) (bookIn second)) out (onTwo op first second out) left r
-    (accepted-goes 1 first out (λ f. onSecond (op f) second out) af ∙ accepted-goes 2 second out (λ g. made (op (bookIn first) g) out) ag)
+    read-verdict (op (contentsOf first) (contentsOf second)) out (onTwo op first second out) left r
+    (accepted-goes 1 first out (λ f. onSecond (op f) second out) af ∙ accepted-goes 2 second out (λ g. made (op (contentsOf first) g) out) ag)
     (two-read op keeps first second out left r bf bs leaves)
 
 pub one-verdict : (op : Contents → Contents) → KeptOne op → VerdictOne op
 one-verdict op keeps book out left r bytes accepted leaves =
-    read-verdict (op (bookIn book)) out (onOne op book out) left r
+    read-verdict (op (contentsOf book)) out (onOne op book out) left r
     (accepted-goes 1 book out (λ f. made (op f) out) accepted)
     (one-read op keeps book out left r bytes leaves)
 

@@ -6,27 +6,24 @@ use mathlib.Core.Logic.{_↔_}
 use lib.ListN.{length, take, drop}
 use Rattle.names.specs.Pick.{fault}
 use Rattle.books.specs.Contents.{Contents}
-use Rattle.books.specs.ContentsIn.{contentsIn}
+use Rattle.books.specs.Lent.{contentsOf}
 use Rattle.books.specs.Book.{bookOf}
 use Rattle.books.specs.Derives.{Member}
 use Rattle.books.specs.Keeps.{Keeps}
 use Rattle.books.specs.Picture.{Picture}
 
 -- these bytes are a book
-abbrev pub Accepted : List ℕ → Type 0
-Accepted s = bookOf s .fault ≡ fault 0 0
+abbrev pub IsBook : List ℕ → Type 0
+IsBook s = bookOf s .fault ≡ fault 0 0
 
--- the contents of the book that these bytes are, and the pictures that it holds
-abbrev pub bookIn : List ℕ → Contents
-bookIn s = contentsIn s (bookOf s .family)
-
+-- the pictures that the book holds
 abbrev pub Held : List ℕ → Picture → Type 0
-Held s = Member (bookIn s)
+Held s = Member (contentsOf s)
 
 -- the first count bytes of left are a book that keeps the rules and holds exactly the pictures of X; beyond them left is as out was
 pub record NewBook (out left : List ℕ) (count : ℕ) (X : Picture → Type 0) : Type 0 where
-  pub accepted : Accepted (take count left)
-  pub keeps : Keeps (bookIn (take count left))
+  pub accepted : IsBook (take count left)
+  pub keeps : Keeps (contentsOf (take count left))
   pub holds : (p : Picture) → Held (take count left) p ↔ X p
   pub room : count ≤ length out
   pub beyond : drop count left ≡ drop count out

@@ -2,15 +2,14 @@
 use Prim.Native.Nat.{ℕ}
 use mathlib.Core.Path.{_≡_}
 use mathlib.Core.List.{List}
-use lib.Dec.{eqb, leb}
+use lib.Dec.{leb}
 use lib.ListN.{length}
 use Rattle.names.specs.Pick.{pick}
 use Rattle.names.specs.Put.{put}
 use Rattle.books.specs.Contents.{Contents}
-use Rattle.books.specs.ContentsIn.{contentsIn}
-use Rattle.books.specs.Book.{bookOf}
+use Rattle.books.specs.Lent.{lentBook}
 use Rattle.books.specs.SpellBook.{spellBook}
-use Rattle.books.specs.Answer.{plain, blaming, packed}
+use Rattle.books.specs.Answer.{plain, packed}
 use Rattle.books.specs.declared.answer.Answer.{Answer}
 use Rattle.families.specs.Within.{within?}
 
@@ -35,9 +34,9 @@ written c out =
 unfoldable pub made : Contents → List ℕ → Outcome
 made c out = pick (within? c) (written c out) (refused (plain 12) out)
 
--- a lent book: where it is refused its fault is blamed on it, and else its contents go on
+-- a lent book: where it is refused nothing is written, and else its contents go on
 unfoldable pub lent : ℕ → List ℕ → List ℕ → (Contents → Outcome) → Outcome
-lent input s out go = pick (eqb (bookOf s .fault .number) 0) (go (contentsIn s (bookOf s .family))) (refused (blaming input (bookOf s .fault)) out)
+lent input s out go = lentBook input s (λ a. refused a out) go
 
 -- a combination of one book
 abbrev pub onOne : (Contents → Contents) → List ℕ → List ℕ → Outcome

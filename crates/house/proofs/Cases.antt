@@ -10,6 +10,7 @@ use Rattle.names.specs.Name.{leastAt, nameOf, sameName, listed}
 use Rattle.names.specs.Colours.{findName, colourAt, coloursOf}
 use Rattle.names.specs.Put.{put}
 use Rattle.names.specs.declared.number.Read.the-variants.{Value, Refused}
+use Rattle.books.specs.Lent.{contentsOf}
 use Rattle.books.specs.Answer.{plain}
 use Rattle.books.specs.Rules.{colourNumberAt, joinAt, bodyAt, ruleAt, rulesAt}
 use Rattle.books.specs.Book.{figuresAt, ruledAt, figuredAt, bookOf}
@@ -31,7 +32,7 @@ use Rattle.families.specs.Combine.{copies, joined, repeated, either-of, beside,
 use Rattle.families.specs.Within.{few?, within?}
 use Rattle.families.specs.Outcome.{written, made, lent}
 use Rattle.house.specs.Bytes.{houseBook, houseContents, sheetA, sheetAReordered, sheetASlate, oneCell, oneColumn, oneRow, transposedBook, besideBook, runBook, eitherOfBook}
-use Rattle.house.specs.Asked.{contentsOf, asked, changed, withItself, wrote}
+use Rattle.house.specs.Asked.{asked, changed, withItself, wrote}
 
 -- the derivation of sheet A, rule and cut of each node
 abbrev pub treeOfSheetA : List ℕ

@@ -3,15 +3,9 @@ use Prim.Native.Nat.{ℕ, _-_}
 use mathlib.Core.List.{List, _++_}
 use lib.ListN.{length, replicate}
 use Rattle.books.specs.Contents.{Contents}
-use Rattle.books.specs.ContentsIn.{contentsIn}
-use Rattle.books.specs.Book.{bookOf}
 use Rattle.books.specs.Answer.{plain}
 use Rattle.pieces.specs.Derivation.{Derivation, derivation}
 use Rattle.families.specs.Outcome.{Outcome, onOne, onTwo}
-
--- the contents that reading a book finds
-abbrev pub contentsOf : List ℕ → Contents
-contentsOf book = contentsIn book (bookOf book .family)
 
 -- the outcome of `derive`; the slices are just long enough for sheet A
 abbrev pub asked : List ℕ → List ℕ → Derivation

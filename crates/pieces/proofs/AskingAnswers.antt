@@ -30,7 +30,8 @@ use Rattle.pieces.specs.Asking.{Asking, unwritten, tabled, asking, Asks}
 use Rattle.pieces.proofs.Entries.{entry-derives, derives-entry}
 use Rattle.pieces.proofs.ExactViews.{motif-below}
 use Rattle.pieces.proofs.Judging.{filled-holds, held-entry}
-use Rattle.pieces.proofs.Endings.{contents, shown, Accepted, derivation-ends}
+use Rattle.books.specs.Lent.{contentsOf, pictureOf, Accepted}
+use Rattle.pieces.proofs.Endings.{derivation-ends}
 
 -- ── The order of the answers ──
 
@@ -39,14 +40,14 @@ module _ (book sheet entries : List ℕ) where
   unfolding asking
   sheet-first n = simp (ne-eqb (sheetOf sheet .fault .number) 0 n)
 
-  pub room-second : sheetOf sheet .fault .number ≡ 0 → length entries < entriesNeeded (shown sheet) → asking book sheet entries ≡ unwritten (plain 9) entries
+  pub room-second : sheetOf sheet .fault .number ≡ 0 → length entries < entriesNeeded (pictureOf sheet) → asking book sheet entries ≡ unwritten (plain 9) entries
   unfolding asking
-  room-second z short = simp (eq-eqb (sheetOf sheet .fault .number) 0 z, lt-ltb (length entries) (entriesNeeded (shown sheet)) short)
+  room-second z short = simp (eq-eqb (sheetOf sheet .fault .number) 0 z, lt-ltb (length entries) (entriesNeeded (pictureOf sheet)) short)
 
-  pub table-last : sheetOf sheet .fault .number ≡ 0 → entriesNeeded (shown sheet) ≤ length entries
-      → asking book sheet entries ≡ tabled (contents book) (shown sheet) entries
+  pub table-last : sheetOf sheet .fault .number ≡ 0 → entriesNeeded (pictureOf sheet) ≤ length entries
+      → asking book sheet entries ≡ tabled (contentsOf book) (pictureOf sheet) entries
   unfolding asking
-  table-last z enough = simp (eq-eqb (sheetOf sheet .fault .number) 0 z, le-ltb (length entries) (entriesNeeded (shown sheet)) enough)
+  table-last z enough = simp (eq-eqb (sheetOf sheet .fault .number) 0 z, le-ltb (length entries) (entriesNeeded (pictureOf sheet)) enough)
 
 -- ── With the table written ──
 
@@ -61,12 +62,12 @@ module _ (b : Contents) (p : Picture) (entries : List ℕ) where
 
 -- ── An accepted book and sheet, with room for the table ──
 
-module _ (book sheet entries : List ℕ) (fine : Accepted book sheet) (room : entriesNeeded (shown sheet) ≤ length entries) where
+module _ (book sheet entries : List ℕ) (fine : Accepted book sheet) (room : entriesNeeded (pictureOf sheet) ≤ length entries) where
   abbrev b : Contents
-  b = contents book
+  b = contentsOf book
 
   abbrev p : Picture
-  p = shown sheet
+  p = pictureOf sheet
 
   pub derived-asked : Member b p → asking book sheet entries ≡ unwritten (plain 0) (filled b p entries)
   derived-asked x = table-last book sheet entries (fine .sheet-fine) room ∙ tabled-derived b p entries x
@@ -102,7 +103,7 @@ module _ (book sheet entries : List ℕ) (fine : Accepted book sheet) (room : en
 
 -- ── Asking says what a derivation says ──
 
-module _ (book sheet entries numbers : List ℕ) (fine : bookOf book .fault .number ≡ 0) (long : numbersNeeded (shown sheet) ≤ length numbers) where
+module _ (book sheet entries numbers : List ℕ) (fine : bookOf book .fault .number ≡ 0) (long : numbersNeeded (pictureOf sheet) ≤ length numbers) where
   pub record Says (d : Derivation) : Type 0 where
     pub same-answer : d .answer ≡ asking book sheet entries .answer
     pub same-entries : d .entries ≡ asking book sheet entries .entries

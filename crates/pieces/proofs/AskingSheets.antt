@@ -45,7 +45,7 @@ use Rattle.pieces.specs.inner.Told.{Lays, Shows, fitting, Told, faulty, 
 use Rattle.pieces.proofs.AcceptedInputs.{rules-read, as-read, cells-numbered}
 use Rattle.pieces.proofs.AskingAnswers.{sheet-first, room-second, table-last}
 use Rattle.pieces.proofs.Cutting.{whole-inside, cut-whole}
-use Rattle.pieces.proofs.Endings.{contents, shown}
+use Rattle.books.specs.Lent.{contentsOf, pictureOf}
 use Rattle.pieces.proofs.Entries.{entry-bit, entry-derives}
 use Rattle.pieces.proofs.Judging.{filled-holds, held-entry}
 use Rattle.pieces.proofs.Laying.{split-few}
@@ -142,10 +142,10 @@ module _ (book sheet : List ℕ) (bytes-book : Bytes book) (bytes-sheet : Bytes 
   g = sheetOf sheet .sheet
 
   abbrev b : Contents
-  b = contents book
+  b = contentsOf book
 
   abbrev p : Picture
-  p = shown sheet
+  p = pictureOf sheet
 
   masks-placed : Placed (length masks) (split .joins)
   masks-placed = let few = split-few _ _ _ _ (rules-read book bytes-book (from .accepted)) (from .rules) in (from .sized, few .0, few .1)

@@ -14,7 +14,8 @@ use Rattle.books.proofs.ReadingSheets.{sheet-refused}
 use Rattle.pieces.specs.Table.{table}
 use Rattle.pieces.specs.Derivation.{Derivation, entriesNeeded, derivation, LeavesPacked}
 use Rattle.pieces.proofs.DerivationAnswers.{derivation-packs}
-use Rattle.pieces.proofs.Endings.{contents, shown, derivation-ends}
+use Rattle.books.specs.Lent.{contentsOf, pictureOf}
+use Rattle.pieces.proofs.Endings.{derivation-ends}
 
 -- The fault stands in the book: it is blamed at its place, which is a byte of the book or its end.
 pub record InBook (book : List ℕ) (number blamed place : ℕ) : Type 0 where
@@ -37,7 +38,7 @@ pub record Answered (book sheet work tree : List ℕ) (number blamed place : ℕ
   pub faults : 1 ≤ number → number ≤ 8 → InBook book number blamed place ⊎ InSheet book sheet number blamed place
   pub others : (number ≡ 0) ⊎ (9 ≤ number) → (blamed ≡ 0) × (place ≡ 0)
   pub unwritten : 1 ≤ number → number ≤ 10 → (work-left ≡ work) × (tree-left ≡ tree)
-  pub eleven : number ≡ 11 → (work-left ≡ table (contents book) (shown sheet) ++ drop (entriesNeeded (shown sheet)) work) × (tree-left ≡ tree)
+  pub eleven : number ≡ 11 → (work-left ≡ table (contentsOf book) (pictureOf sheet) ++ drop (entriesNeeded (pictureOf sheet)) work) × (tree-left ≡ tree)
 
 module _ (book sheet work tree : List ℕ) where
   abbrev Obeys : Derivation → Type 0

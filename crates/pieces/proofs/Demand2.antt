@@ -23,11 +23,12 @@ use Rattle.pieces.specs.Pieces.{Inside, slotOf}
 use Rattle.pieces.specs.Table.{cut, table}
 use Rattle.names.specs.Bits.{bit}
 use Rattle.pieces.specs.Given.{Given}
-use Rattle.pieces.specs.Derivation.{Derivation, entriesNeeded, filled, derivation, Left, Leaves, LeavesPacked}
+use Rattle.pieces.specs.Derivation.{Derivation, entriesNeeded, filled, derivation, Left, Leaves, LeavesPacked, Roomy}
 use Rattle.pieces.proofs.Entries.{entry-derives, derives-entry}
 use Rattle.pieces.proofs.ExactViews.{motif-below}
 use Rattle.pieces.proofs.Judging.{filled-holds, held-entry}
-use Rattle.pieces.proofs.Endings.{contents, shown, Accepted, Roomy, derivation-ends}
+use Rattle.books.specs.Lent.{contentsOf, pictureOf, Accepted}
+use Rattle.pieces.proofs.Endings.{derivation-ends}
 
 -- derived: answer 0, and the derivation given stands in the tree slice
 pub record Accepts (b : Contents) (p : Picture) (numbers : List ℕ) (d : Derivation) : Type 0 where
@@ -43,12 +44,12 @@ pub record Declines (numbers : List ℕ) (d : Derivation) : Type 0 where
 
 -- ── The theorems, from bytes ──
 
-module _ (book sheet entries numbers : List ℕ) (fine : Accepted book sheet) (room : Roomy (shown sheet) entries numbers) where
+module _ (book sheet entries numbers : List ℕ) (fine : Accepted book sheet) (room : Roomy (pictureOf sheet) entries numbers) where
   abbrev b : Contents
-  b = contents book
+  b = contentsOf book
 
   abbrev p : Picture
-  p = shown sheet
+  p = pictureOf sheet
 
   abbrev outcome-of : Derivation
   outcome-of = derivation book sheet entries numbers

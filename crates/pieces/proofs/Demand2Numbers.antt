@@ -15,16 +15,17 @@ use Rattle.books.specs.declared.answer.Answer.{Answer}
 use Rattle.books.proofs.Packing.{apart}
 use Rattle.books.proofs.ReadingBooks.{book-refused}
 use Rattle.books.proofs.ReadingSheets.{sheet-refused}
-use Rattle.pieces.specs.Derivation.{Derivation, entriesNeeded, numbersNeeded, derivation, Leaves, LeavesPacked}
+use Rattle.pieces.specs.Derivation.{Derivation, entriesNeeded, numbersNeeded, derivation, Leaves, LeavesPacked, Roomy}
 use Rattle.pieces.proofs.DerivationAnswers.{derivation-packs}
-use Rattle.pieces.proofs.Endings.{contents, shown, Accepted, Roomy, derivation-ends}
+use Rattle.books.specs.Lent.{contentsOf, pictureOf, Accepted}
+use Rattle.pieces.proofs.Endings.{derivation-ends}
 
 module _ (book sheet entries numbers : List ℕ) where
   abbrev b : Contents
-  b = contents book
+  b = contentsOf book
 
   abbrev p : Picture
-  p = shown sheet
+  p = pictureOf sheet
 
   pub record Numbers (n : ℕ) : Type 0 where
     pub faulty : ((1 ≤ n) × (n ≤ 8)) ↔ (Accepted book sheet → ⊥)

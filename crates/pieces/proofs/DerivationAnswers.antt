@@ -7,8 +7,7 @@ use borrow.Author.Tests.{eq-eqb, ne-eqb}
 use Rattle.books.specs.Book.{bookOf}
 use Rattle.books.specs.Sheet.{sheetOf}
 use Rattle.books.specs.Answer.{plain, blaming, Packs}
-use Rattle.books.specs.ContentsIn.{contentsIn, gridIn}
-use Rattle.books.specs.Grid.{picture}
+use Rattle.books.specs.Lent.{contentsOf, pictureOf}
 use Rattle.books.proofs.Packing.{plain-packs, book-placed, sheet-placed}
 use Rattle.pieces.specs.Derivation.{Derivation, leaving, roomed, derivation}
 use Rattle.pieces.proofs.Endings.{derivation-ends}
@@ -26,7 +25,7 @@ module _ (book sheet entries numbers : List ℕ) where
   sheet-second z n = simp (eq-eqb (bookOf book .fault .number) 0 z, ne-eqb (sheetOf sheet .fault .number) 0 n)
 
   pub then-room : bookOf book .fault .number ≡ 0 → sheetOf sheet .fault .number ≡ 0
-      → derivation book sheet entries numbers ≡ roomed (contentsIn book (bookOf book .family)) (picture (gridIn sheet (sheetOf sheet .sheet))) entries numbers
+      → derivation book sheet entries numbers ≡ roomed (contentsOf book) (pictureOf sheet) entries numbers
   unfolding derivation
   then-room z y = simp (eq-eqb (bookOf book .fault .number) 0 z, eq-eqb (sheetOf sheet .fault .number) 0 y)
 

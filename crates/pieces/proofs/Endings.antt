@@ -2,48 +2,31 @@
 use Prim.Native.Nat.{ℕ, _≤_, _<_}
 use mathlib.Core.Path.{_≡_}
 use mathlib.Core.List.{List, _++_}
-use borrow.Author.Tests.{eqb-true, eqb-false, ltb-true, ltb-false}
-use lib.Dec.{eqb, ltb}
+use borrow.Author.Tests.{ltb-true, ltb-false}
+use lib.Dec.{ltb}
 use lib.ListN.{length, drop}
 use Rattle.names.proofs.Picking.{pick-ind}
 use Rattle.books.specs.Contents.{Contents}
 use Rattle.books.specs.Picture.{Picture}
-use Rattle.books.specs.Grid.{picture}
-use Rattle.books.specs.ContentsIn.{contentsIn, gridIn}
+use Rattle.books.specs.Lent.{contentsOf, pictureOf, Accepted}
 use Rattle.books.specs.Derives.{Member}
 use Rattle.books.specs.Decide.{derives?}
 use Rattle.books.specs.Book.{bookOf}
 use Rattle.books.specs.Sheet.{sheetOf}
 use Rattle.books.specs.Answer.{answer, plain}
 use Rattle.books.proofs.Deciding.{decided, refused}
+use Rattle.books.proofs.LentEnds.{both-end}
 use Rattle.pieces.specs.Given.{Given}
 use Rattle.pieces.specs.Tree.{tree}
-use Rattle.pieces.specs.Derivation.{Derivation, leaving, entriesNeeded, numbersNeeded, filled, judged, roomed, derivation}
+use Rattle.pieces.specs.Derivation.{Derivation, leaving, entriesNeeded, numbersNeeded, Roomy, filled, judged, roomed, derivation}
 use Rattle.pieces.proofs.TheTree.{tree-given}
-
--- what a lent book says, and what a lent sheet shows
-abbrev pub contents : List ℕ → Contents
-contents book = contentsIn book (bookOf book .family)
-
-abbrev pub shown : List ℕ → Picture
-shown sheet = picture (gridIn sheet (sheetOf sheet .sheet))
-
--- both inputs are accepted
-pub record Accepted (book sheet : List ℕ) : Type 0 where
-  pub book-fine : bookOf book .fault .number ≡ 0
-  pub sheet-fine : sheetOf sheet .fault .number ≡ 0
-
--- and both slices are long enough
-pub record Roomy (p : Picture) (entries numbers : List ℕ) : Type 0 where
-  pub work-long : entriesNeeded p ≤ length entries
-  pub tree-long : numbersNeeded p ≤ length numbers
 
 module _ (book sheet entries numbers : List ℕ) where
   abbrev b : Contents
-  b = contents book
+  b = contentsOf book
 
   abbrev p : Picture
-  p = shown sheet
+  p = pictureOf sheet
 
   pub record Cases (P : Derivation → Type 0) : Type 0 where
     pub in-book : (bookOf book .fault .number ≡ 0 → ⊥) → P (leaving (answer (bookOf book .fault .number) 1 (bookOf book .fault .place)) entries numbers)
@@ -76,9 +59,5 @@ module _ (book sheet entries numbers : List ℕ) where
     pub derivation-ends : P (derivation book sheet entries numbers)
     unfolding derivation
     derivation-ends =
-        pick-ind P (eqb (bookOf book .fault .number) 0) _ _
-        (λ e. let z = eqb-true (bookOf book .fault .number) 0 e in
-        pick-ind P (eqb (sheetOf sheet .fault .number) 0) _ _
-        (λ f. by-room (record { book-fine = z; sheet-fine = eqb-true (sheetOf sheet .fault .number) 0 f }))
-        (λ f. rw f (cases .in-sheet z (eqb-false (sheetOf sheet .fault .number) 0 f))))
-        (λ e. rw e (cases .in-book (eqb-false (bookOf book .fault .number) 0 e)))
+        both-end P (λ a. leaving a entries numbers) book sheet (λ b p. roomed b p entries numbers)
+        (record { in-book = cases .in-book; in-sheet = cases .in-sheet; in-neither = by-room })

@@ -3,14 +3,10 @@
 use Prim.Native.Nat.{ℕ, _≤_}
 use mathlib.Core.Path.{_≡_, sym, ap, _∙_}
 use mathlib.Core.List.{List}
-use lib.Dec.{eqb}
-use Rattle.names.specs.Pick.{pick}
 use Rattle.names.specs.Number.{greatestNumber}
 use Rattle.books.specs.Grid.{Grid, GridKeeps, picture}
-use Rattle.books.specs.ContentsIn.{contentsIn}
+use Rattle.books.specs.Lent.{lentBook}
 use Rattle.books.specs.SpellSheet.{spellSheet}
-use Rattle.books.specs.Answer.{blaming}
-use Rattle.books.specs.Book.{bookOf}
 use Rattle.books.proofs.SpellingSheets.{sheet-read-back}
 use Rattle.books.proofs.Tickets.{withTicket, ticket-keeps}
 use Rattle.pieces.specs.Derivation.{Derivation, leaving, roomed, derivation}
@@ -18,8 +14,7 @@ use Rattle.pieces.specs.Derivation.{Derivation, leaving, roomed, derivat
 -- the derivation of a sheet that keeps the rules, from its contents
 abbrev of-contents : List ℕ → Grid → List ℕ → List ℕ → Derivation
 of-contents book g entries numbers =
-    pick (eqb (bookOf book .fault .number) 0) (roomed (contentsIn book (bookOf book .family)) (picture g) entries numbers)
-    (leaving (blaming 1 (bookOf book .fault)) entries numbers)
+    lentBook 1 book (λ a. leaving a entries numbers) (λ b. roomed b (picture g) entries numbers)
 
 from-contents : (book : List ℕ) (g : Grid) (entries numbers : List ℕ) → GridKeeps g → derivation book (spellSheet g) entries numbers ≡ of-contents book g entries numbers
 unfolding derivation

@@ -2,18 +2,17 @@
 use Prim.Native.Nat.{ℕ}
 use mathlib.Core.Path.{_≡_}
 use mathlib.Core.List.{List}
-use lib.Dec.{eqb, ltb}
+use lib.Dec.{ltb}
 use lib.ListN.{length}
 use Rattle.names.specs.Pick.{pick}
 use Rattle.books.specs.Contents.{Contents}
 use Rattle.books.specs.Picture.{Picture}
-use Rattle.books.specs.Grid.{picture}
-use Rattle.books.specs.ContentsIn.{contentsIn, gridIn}
+use Rattle.books.specs.Lent.{contentsOf, lentSheet}
 use Rattle.books.specs.Decide.{derives?}
 use Rattle.books.specs.Book.{bookOf}
 use Rattle.books.specs.Sheet.{sheetOf}
 use Rattle.books.specs.Order.{numbersOf}
-use Rattle.books.specs.Answer.{plain, blaming}
+use Rattle.books.specs.Answer.{plain}
 use Rattle.books.specs.declared.answer.Answer.{Answer}
 use Rattle.pieces.specs.Derivation.{entriesNeeded, filled}
 use Rattle.pieces.specs.inner.Layout.{allMasks}
@@ -60,10 +59,8 @@ tabled b p entries = record { answer = plain (pick (derives? b (b .start) p) 0 1
 -- the sheet's fault, then 9 where the work slice is too short; on these nothing is written
 unfoldable pub asking : List ℕ → List ℕ → List ℕ → Asking
 asking book sheet entries =
-    pick (eqb (sheetOf sheet .fault .number) 0)
-    (pick (ltb (length entries) (entriesNeeded (picture (gridIn sheet (sheetOf sheet .sheet))))) (unwritten (plain 9) entries)
-    (tabled (contentsIn book (bookOf book .family)) (picture (gridIn sheet (sheetOf sheet .sheet))) entries))
-    (unwritten (blaming 2 (sheetOf sheet .fault)) entries)
+    lentSheet 2 sheet (λ a. unwritten a entries) (λ p.
+    pick (ltb (length entries) (entriesNeeded p)) (unwritten (plain 9) entries) (tabled (contentsOf book) p entries))
 
 -- what is answered, and the work slice as the call leaves it, are those of asking; the cells have the numbers of their colours in the book
 pub record Asks (book sheet entries : List ℕ) (r : Asked) (left : List ℕ) : Type 0 where

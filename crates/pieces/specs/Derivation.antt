@@ -1,18 +1,15 @@
 -- What asking for a derivation answers, and what it leaves in the two lent slices: `entries` for the table, `numbers` for the tree.
-use Prim.Native.Nat.{ℕ}
+use Prim.Native.Nat.{ℕ, _≤_}
 use mathlib.Core.Path.{_≡_}
 use mathlib.Core.List.{List, _++_}
-use lib.Dec.{eqb, ltb}
+use lib.Dec.{ltb}
 use lib.ListN.{length, drop}
 use Rattle.names.specs.Pick.{pick}
 use Rattle.books.specs.Contents.{Contents}
 use Rattle.books.specs.Picture.{Picture}
-use Rattle.books.specs.Grid.{picture}
-use Rattle.books.specs.ContentsIn.{contentsIn, gridIn}
 use Rattle.books.specs.Decide.{derives?}
-use Rattle.books.specs.Book.{bookOf}
-use Rattle.books.specs.Sheet.{sheetOf}
-use Rattle.books.specs.Answer.{plain, blaming, packed}
+use Rattle.books.specs.Lent.{lentBoth}
+use Rattle.books.specs.Answer.{plain, packed}
 use Rattle.books.specs.declared.answer.Answer.{Answer}
 use Rattle.pieces.specs.Pieces.{total}
 use Rattle.pieces.specs.Area.{whole, treeSize}
@@ -34,6 +31,11 @@ entriesNeeded p = total (p .rows) (p .cols)
 
 abbrev pub numbersNeeded : Picture → ℕ
 numbersNeeded p = treeSize (whole (p .rows) (p .cols))
+
+-- both slices are long enough
+pub record Roomy (p : Picture) (entries numbers : List ℕ) : Type 0 where
+  pub work-long : entriesNeeded p ≤ length entries
+  pub tree-long : numbersNeeded p ≤ length numbers
 
 -- the table, with the slice beyond as it was
 abbrev pub filled : Contents → Picture → List ℕ → List ℕ
@@ -57,11 +59,7 @@ roomed b p entries numbers =
 -- the book's fault, then the sheet's
 unfoldable pub derivation : List ℕ → List ℕ → List ℕ → List ℕ → Derivation
 derivation book sheet entries numbers =
-    pick (eqb (bookOf book .fault .number) 0)
-    (pick (eqb (sheetOf sheet .fault .number) 0)
-    (roomed (contentsIn book (bookOf book .family)) (picture (gridIn sheet (sheetOf sheet .sheet))) entries numbers)
-    (leaving (blaming 2 (sheetOf sheet .fault)) entries numbers))
-    (leaving (blaming 1 (bookOf book .fault)) entries numbers)
+    lentBoth book sheet (λ a. leaving a entries numbers) (λ b p. roomed b p entries numbers)
 
 -- what a caller is told of the answer, and both slices as the call leaves them, are those of a derivation
 pub record Left {A : Type 0} (told : Answer → A) (d : Derivation) (r : A) (entries numbers : List ℕ) : Type 0 where

@@ -12,7 +12,7 @@ use Rattle.books.specs.Sheet.{sheetOf}
 use Rattle.books.specs.Size.{greatest}
 use Rattle.books.proofs.Packing.{plain-packs, book-placed, sheet-placed}
 use Rattle.books.proofs.ReadingSheets.{sheet-lies}
-use Rattle.pieces.proofs.Endings.{contents, shown}
+use Rattle.books.specs.Lent.{contentsOf, pictureOf}
 use Rattle.reasons.specs.declared.reason.Reason.{Reason}
 use Rattle.reasons.specs.declared.reason.Reason.the-variants.{NoReason, Unnamed, NoSuchSize, Largest, NoPiece}
 use Rattle.reasons.specs.Reason.{Values, values, valuesOf, kind, packedValues, packedReason, Fits, valuesIn, reasonWith, reasonRead}
@@ -104,6 +104,6 @@ why-not-packs book sheet entries =
       in-family = λ fine room x. record { fits = no-values; packs = plain-packs 15 0 (omega arith) (omega arith) };
       explained = λ fine room other first.
           let s = sheet-lies sheet (fine .sheet-fine) in
-          let fits = holding-fits (contents book) (shown sheet) (s .rows-few) (s .cols-few) (reasonOf (contents book) (shown sheet)) (first .holds) in
-          record { fits = fits; packs = plain-packs 0 _ (omega arith) (packed-low (reasonOf (contents book) (shown sheet)) fits) };
+          let fits = holding-fits (contentsOf book) (pictureOf sheet) (s .rows-few) (s .cols-few) (reasonOf (contentsOf book) (pictureOf sheet)) (first .holds) in
+          record { fits = fits; packs = plain-packs 0 _ (omega arith) (packed-low (reasonOf (contentsOf book) (pictureOf sheet)) fits) };
     })

@@ -23,7 +23,7 @@ use Rattle.pieces.specs.Asking.{Asking, unwritten, tabled, asking, Asks}
 use Rattle.pieces.specs.Derivation.{entriesNeeded, filled}
 use Rattle.pieces.specs.Pieces.{total}
 use Rattle.pieces.specs.declared.asking.Asked.{Asked}
-use Rattle.pieces.proofs.Endings.{contents, shown}
+use Rattle.books.specs.Lent.{contentsOf, pictureOf}
 use Rattle.pieces.proofs.Judging.{filled-holds, filled-length}
 use Rattle.sizes.specs.Outcome.{cardHas}
 use Rattle.sizes.proofs.OneSize.{on-card, placed-has}
@@ -36,10 +36,10 @@ use Rattle.reasons.proofs.FromTables.{reason-shown}
 
 module _ (book sheet entries : List ℕ) where
   abbrev b : Contents
-  b = contents book
+  b = contentsOf book
 
   abbrev p : Picture
-  p = shown sheet
+  p = pictureOf sheet
 
   abbrev explained : Outcome
   explained = record { answer = plain 0; reason = reasonOf b p; entries = filled b p entries }
@@ -134,7 +134,7 @@ module _ (book sheet entries : List ℕ) (w : WhyNot) (a : Answer) (told : w ≡
 
 -- ── The reason that the code finds ──
 
-pub sheet-sizes : (sheet : List ℕ) → sheetOf sheet .fault .number ≡ 0 → OfSheet (shown sheet .rows) (shown sheet .cols)
+pub sheet-sizes : (sheet : List ℕ) → sheetOf sheet .fault .number ≡ 0 → OfSheet (pictureOf sheet .rows) (pictureOf sheet .cols)
 sheet-sizes sheet fine =
     let s = sheet-lies sheet fine in
     record { rows-some = s .rows-some; rows-few = s .rows-few; cols-some = s .cols-some; cols-few = s .cols-few }
@@ -144,27 +144,27 @@ module _ (book sheet entries left : List ℕ) (r : Asked) (asks : Asks book shee
   called : Called book sheet entries (whyNot book sheet entries) (asking book sheet entries)
   called = follows book sheet entries book-fine .eleven (sym (ap (λ (x : Answer). x .number) (asks .answers)) ∙ eleven)
 
-  holds : left ≡ filled (contents book) (shown sheet) entries
+  holds : left ≡ filled (contentsOf book) (pictureOf sheet) entries
   holds = asks .leaves-work ∙ called .holds
 
   pub sizes-asked : OfSheet (r .rows) (r .cols)
   sizes-asked = rw (asks .rows, asks .cols) (sheet-sizes sheet (called .sheet-fine))
 
   pub room-asked : total (r .rows) (r .cols) ≤ length left
-  room-asked = rw (asks .rows, asks .cols, holds, filled-length (contents book) (shown sheet) entries (called .room)) (called .room)
+  room-asked = rw (asks .rows, asks .cols, holds, filled-length (contentsOf book) (pictureOf sheet) entries (called .room)) (called .room)
 
   reason-found : Bytes book
-      → reasonIn (cardHas book (shown sheet .rows) (shown sheet .cols)) left (bookOf book .family .start) (shown sheet .rows) (shown sheet .cols)
-      ≡ reasonOf (contents book) (shown sheet)
+      → reasonIn (cardHas book (pictureOf sheet .rows) (pictureOf sheet .cols)) left (bookOf book .family .start) (pictureOf sheet .rows) (pictureOf sheet .cols)
+      ≡ reasonOf (contentsOf book) (pictureOf sheet)
   reason-found bytes =
       let s = sheet-lies sheet (called .sheet-fine) in
-      let m = shown sheet .rows in
-      let n = shown sheet .cols in
+      let m = pictureOf sheet .rows in
+      let n = pictureOf sheet .cols in
       let on = on-card m n (record { rows-some = s .rows-some; rows-few = s .rows-few; cols-some = s .cols-some; cols-few = s .cols-few }) in
       ap (λ (has : Bool). reasonIn has left (bookOf book .family .start) m n) (placed-has book m n book-fine on)
-      ∙ reason-shown (contents book) (shown sheet) (book-accepted book bytes book-fine .keeps .sound)
+      ∙ reason-shown (contentsOf book) (pictureOf sheet) (book-accepted book bytes book-fine .keeps .sound)
       (record { rows-some = s .rows-some; rows-few = omega (arith, s .rows-few); cols-some = s .cols-some; cols-few = omega (arith, s .cols-few) })
-      left (rw holds (filled-holds (contents book) (shown sheet) entries))
+      left (rw holds (filled-holds (contentsOf book) (pictureOf sheet) entries))
 
   pub told-reason : Bytes book → (start : ℕ) → start ≡ bookOf book .family .start → (a : Answer) → a ≡ plain 0 → (why : Reason)
       → why ≡ reasonIn (cardHas book (r .rows) (r .cols)) left start (r .rows) (r .cols) → Answers (whyNot book sheet entries) (record { answer = a; reason = why }) left

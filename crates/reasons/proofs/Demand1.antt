@@ -17,7 +17,7 @@ use Rattle.books.proofs.ReadingSheets.{sheet-refused}
 use Rattle.pieces.specs.Derivation.{entriesNeeded}
 use Rattle.pieces.specs.Table.{table}
 use Rattle.pieces.proofs.Demand1.{InBook, InSheet}
-use Rattle.pieces.proofs.Endings.{contents, shown, Accepted}
+use Rattle.books.specs.Lent.{contentsOf, pictureOf, Accepted}
 use Rattle.reasons.specs.declared.calls.WhyNot.{WhyNot}
 use Rattle.reasons.specs.declared.reason.Reason.{Reason}
 use Rattle.reasons.specs.declared.reason.Reason.the-variants.{NoReason}
@@ -34,10 +34,10 @@ unread n h g (inr e) = omega arith
 
 module _ (book sheet work : List ℕ) where
   abbrev b : Contents
-  b = contents book
+  b = contentsOf book
 
   abbrev p : Picture
-  p = shown sheet
+  p = pictureOf sheet
 
   -- both inputs are accepted, and the work slice is long enough
   abbrev pub Ready : Type 0

@@ -2,8 +2,8 @@
 use Prim.Native.Nat.{ℕ, _≤_, _<_}
 use mathlib.Core.Path.{_≡_}
 use mathlib.Core.List.{List}
-use borrow.Author.Tests.{eqb-true, eqb-false, ltb-true, ltb-false}
-use lib.Dec.{eqb, ltb}
+use borrow.Author.Tests.{ltb-true, ltb-false}
+use lib.Dec.{ltb}
 use lib.ListN.{length}
 use Rattle.names.proofs.Picking.{pick-ind}
 use Rattle.books.specs.Contents.{Contents}
@@ -14,19 +14,20 @@ use Rattle.books.specs.Book.{bookOf}
 use Rattle.books.specs.Sheet.{sheetOf}
 use Rattle.books.specs.Answer.{answer, plain}
 use Rattle.books.proofs.Deciding.{decided, refused as not-derived}
+use Rattle.books.proofs.LentEnds.{both-end}
 use Rattle.books.proofs.ReadingSheets.{sheet-lies}
 use Rattle.pieces.specs.Derivation.{entriesNeeded, filled}
-use Rattle.pieces.proofs.Endings.{contents, shown, Accepted}
+use Rattle.books.specs.Lent.{contentsOf, pictureOf, Accepted}
 use Rattle.reasons.specs.Holds.{First}
 use Rattle.reasons.specs.Why.{Outcome, refused, reasonOf, judged, roomed, whyNot}
 use Rattle.reasons.proofs.FirstReason.{reason-first}
 
 module _ (book sheet entries : List ℕ) where
   abbrev b : Contents
-  b = contents book
+  b = contentsOf book
 
   abbrev p : Picture
-  p = shown sheet
+  p = pictureOf sheet
 
   pub record Cases (P : Outcome → Type 0) : Type 0 where
     pub in-book : (bookOf book .fault .number ≡ 0 → ⊥) → P (refused (answer (bookOf book .fault .number) 1 (bookOf book .fault .place)) entries)
@@ -56,9 +57,5 @@ module _ (book sheet entries : List ℕ) where
     pub why-not-ends : P (whyNot book sheet entries)
     unfolding whyNot
     why-not-ends =
-        pick-ind P (eqb (bookOf book .fault .number) 0) _ _
-        (λ e. let z = eqb-true (bookOf book .fault .number) 0 e in
-        pick-ind P (eqb (sheetOf sheet .fault .number) 0) _ _
-        (λ f. by-room (record { book-fine = z; sheet-fine = eqb-true (sheetOf sheet .fault .number) 0 f }))
-        (λ f. rw f (cases .in-sheet z (eqb-false (sheetOf sheet .fault .number) 0 f))))
-        (λ e. rw e (cases .in-book (eqb-false (bookOf book .fault .number) 0 e)))
+        both-end P (λ a. refused a entries) book sheet (λ b p. roomed b p entries)
+        (record { in-book = cases .in-book; in-sheet = cases .in-sheet; in-neither = by-room })

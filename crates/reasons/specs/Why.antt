@@ -9,12 +9,9 @@ use Rattle.names.specs.Name.{Name}
 use Rattle.names.specs.Pick.{pick, orElse}
 use Rattle.books.specs.Contents.{Contents}
 use Rattle.books.specs.Picture.{Picture}
-use Rattle.books.specs.Grid.{picture}
-use Rattle.books.specs.ContentsIn.{contentsIn, gridIn}
+use Rattle.books.specs.Lent.{lentBoth}
 use Rattle.books.specs.Decide.{called?, derives?}
-use Rattle.books.specs.Book.{bookOf}
-use Rattle.books.specs.Sheet.{sheetOf}
-use Rattle.books.specs.Answer.{plain, blaming, packed}
+use Rattle.books.specs.Answer.{plain, packed}
 use Rattle.books.specs.declared.answer.Answer.{Answer}
 use Rattle.books.specs.declared.rule.Rule.{Rule}
 use Rattle.books.specs.declared.rule.Body.{Body}
@@ -92,11 +89,7 @@ roomed b p entries = pick (ltb (length entries) (entriesNeeded p)) (refused (pla
 -- the book's fault, then the sheet's
 unfoldable pub whyNot : List ℕ → List ℕ → List ℕ → Outcome
 whyNot book sheet entries =
-    pick (eqb (bookOf book .fault .number) 0)
-    (pick (eqb (sheetOf sheet .fault .number) 0)
-    (roomed (contentsIn book (bookOf book .family)) (picture (gridIn sheet (sheetOf sheet .sheet))) entries)
-    (refused (blaming 2 (sheetOf sheet .fault)) entries))
-    (refused (blaming 1 (bookOf book .fault)) entries)
+    lentBoth book sheet (λ a. refused a entries) (λ b p. roomed b p entries)
 
 -- what the call answers, and the slice as it leaves it, are those of an outcome
 pub record Answers (o : Outcome) (r : WhyNot) (entries : List ℕ) : Type 0 where

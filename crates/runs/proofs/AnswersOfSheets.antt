@@ -18,7 +18,8 @@ use Rattle.books.proofs.ReadingSheets.{sheet-refused, sheet-lies}
 use Rattle.pieces.specs.Derivation.{Derivation, entriesNeeded, numbersNeeded, derivation}
 use Rattle.pieces.proofs.DerivationAnswers.{sheet-second}
 use Rattle.pieces.proofs.Demand2Numbers.{derive-numbers}
-use Rattle.pieces.proofs.Endings.{contents, shown, Accepted, derivation-ends}
+use Rattle.books.specs.Lent.{contentsOf, pictureOf, Accepted}
+use Rattle.pieces.proofs.Endings.{derivation-ends}
 use Rattle.runs.specs.Figures.{workRoom, treeRoom, answerOf}
 
 -- ── Room enough ──
@@ -29,10 +30,10 @@ half-few n h =
     let double : n * (n + 1) ≤ 12 * 13 = mul-le-mul h more in
     omega arith
 
-pub table-fits : (sheet : List ℕ) → sheetOf sheet .fault .number ≡ 0 → entriesNeeded (shown sheet) ≤ workRoom
+pub table-fits : (sheet : List ℕ) → sheetOf sheet .fault .number ≡ 0 → entriesNeeded (pictureOf sheet) ≤ workRoom
 table-fits sheet z = let l = sheet-lies sheet z in mul-le-mul (half-few _ (l .rows-few)) (half-few _ (l .cols-few))
 
-pub tree-fits : (sheet : List ℕ) → sheetOf sheet .fault .number ≡ 0 → numbersNeeded (shown sheet) ≤ treeRoom
+pub tree-fits : (sheet : List ℕ) → sheetOf sheet .fault .number ≡ 0 → numbersNeeded (pictureOf sheet) ≤ treeRoom
 tree-fits sheet z = let l = sheet-lies sheet z in omega (arith, l .area-few)
 
 -- ── The answers ──
@@ -62,7 +63,7 @@ module _ (book sheet : List ℕ) where
       })
 
   -- an accepted sheet is read, and a member of the family; and every such sheet is accepted
-  pub accepted-exactly : (answerOf book sheet ≡ 0) ↔ (Accepted book sheet × Member (contents book) (shown sheet))
+  pub accepted-exactly : (answerOf book sheet ≡ 0) ↔ (Accepted book sheet × Member (contentsOf book) (pictureOf sheet))
   unfolding answerOf
   accepted-exactly =
       let d = derivation book sheet work tree in

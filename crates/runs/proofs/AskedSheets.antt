@@ -27,7 +27,8 @@ use Rattle.pieces.specs.Table.{table}
 use Rattle.pieces.specs.declared.asking.Asked.{Asked}
 use Rattle.pieces.proofs.AskingAnswers.{sheet-first, derived-asked, other-asked, asked-table, as-derived}
 use Rattle.pieces.proofs.DerivationAnswers.{book-first}
-use Rattle.pieces.proofs.Endings.{contents, shown, Accepted, derivation-ends}
+use Rattle.books.specs.Lent.{contentsOf, pictureOf, Accepted}
+use Rattle.pieces.proofs.Endings.{derivation-ends}
 use Rattle.pieces.proofs.TableEntries.{table-length}
 use Rattle.runs.specs.Figures.{workRoom, treeRoom, answerOf, showing, mostColours, figuresLong}
 use Rattle.runs.specs.Lists.{howMany}
@@ -48,7 +49,7 @@ past-front t s n m size h =
     ap (λ (x : ℕ). drop x (t ++ drop n s)) e ∙ drop-append-add t (drop n s) k ∙ drop-drop k n s ∙ ap (λ (x : ℕ). drop x s) d
 
 module _ (book sheet work : List ℕ) (fine : bookOf book .fault .number ≡ 0) (enough : workRoom ≤ length work) where
-  fits : sheetOf sheet .fault .number ≡ 0 → entriesNeeded (shown sheet) ≤ length work
+  fits : sheetOf sheet .fault .number ≡ 0 → entriesNeeded (pictureOf sheet) ≤ length work
   fits z = omega (arith, table-fits sheet z, enough)
 
   asked-number : asking book sheet work .answer .number ≡ answerOf book sheet
@@ -71,8 +72,8 @@ module _ (book sheet work : List ℕ) (fine : bookOf book .fault .number ≡ 0) 
       go (yes z) =
           let accepted : Accepted book sheet = record { book-fine = fine; sheet-fine = z } in
           ap (drop workRoom) (asked-table book sheet work accepted (fits z))
-          ∙ past-front (table (contents book) (shown sheet)) work (entriesNeeded (shown sheet)) workRoom
-          (table-length (contents book) (shown sheet)) (table-fits sheet z)
+          ∙ past-front (table (contentsOf book) (pictureOf sheet)) work (entriesNeeded (pictureOf sheet)) workRoom
+          (table-length (contentsOf book) (pictureOf sheet)) (table-fits sheet z)
       go (no n) = ap (λ (a : Asking). drop workRoom (a .entries)) (sheet-first book sheet work n)
 
   module _ (bytes : Bytes book) (r : Asked) (left : List ℕ) (asks : Asks book sheet work r left) where
@@ -86,7 +87,7 @@ module _ (book sheet work : List ℕ) (fine : bookOf book .fault .number ≡ 0) 
     cells = take (r .rows * r .cols) (r .cells)
 
     module _ (zero-is : r .answer .number ≡ 0) where
-      derived : Accepted book sheet × Member (contents book) (shown sheet)
+      derived : Accepted book sheet × Member (contentsOf book) (pictureOf sheet)
       derived = accepted-exactly book sheet .0 (sym number-is ∙ zero-is)
 
       low : (i : ℕ) → i < r .rows * r .cols → getD (r .cells) i 0 < mostColours

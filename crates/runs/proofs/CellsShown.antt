@@ -35,7 +35,7 @@ use Rattle.books.proofs.Deciding.{called}
 use Rattle.books.proofs.Ordering.{number-at}
 use Rattle.books.proofs.ReadingBooks.{book-accepted}
 use Rattle.books.proofs.ReadingSheets.{SheetLies, sheet-lies}
-use Rattle.pieces.proofs.Endings.{shown, Accepted}
+use Rattle.books.specs.Lent.{pictureOf, Accepted, contentsOf}
 use Rattle.runs.specs.Figures.{showing, mostColours}
 use Rattle.runs.specs.Lists.{howMany}
 use Rattle.runs.proofs.CountingLists.{how-many-same}
@@ -77,7 +77,7 @@ called-number b apart n m c =
 
 -- ── The cells of an accepted sheet ──
 
-module _ (book sheet : List ℕ) (bytes : Bytes book) (fine : Accepted book sheet) (member : Member (contentsIn book (bookOf book .family)) (shown sheet)) where
+module _ (book sheet : List ℕ) (bytes : Bytes book) (fine : Accepted book sheet) (member : Member (contentsOf book) (pictureOf sheet)) where
   abbrev f : Family
   f = bookOf book .family
 

@@ -12,6 +12,7 @@ use Rattle.names.proofs.Tests.{lt-or-le}
 use Rattle.books.specs.Answer.{plain, blaming, packed, Packs}
 use Rattle.books.specs.Book.{bookOf}
 use Rattle.books.specs.declared.answer.Answer.{Answer}
+use Rattle.books.proofs.LentEnds.{blamed-is}
 use Rattle.books.proofs.Packing.{apart, plain-packs, book-placed, fault-placed}
 use Rattle.books.proofs.ReadingBooks.{book-refused}
 use Rattle.runs.specs.Run.{mostBytes, framing, sheetsOf}
@@ -55,8 +56,7 @@ module _ (book run work : List ℕ) where
   of-book : (Fine book → ⊥) → Obeys o
   of-book bad =
       let f = book-refused book bad .blamed in
-      let e = book-first (bookOf book .fault) run (length work) bad in
-      rw (refuses _ (rw (ne-eqb (bookOf book .fault .number) 0 bad) at e) bad)
+      rw (refuses _ (book-first (bookOf book .fault) run (length work) bad ∙ blamed-is 1 (bookOf book .fault) bad) bad)
       (record {
         listed = omega (arith, f .known);
         zero = (λ z. absurd (bad z), λ x. absurd (bad (x .0)));
@@ -72,8 +72,7 @@ module _ (book run work : List ℕ) where
     of-run : (Framed run → ⊥) → Obeys o
     of-run bad =
         let f = framing-blamed run bad in
-        let e = run-second (bookOf book .fault) run (length work) fine bad in
-        rw (refuses _ (rw (ne-eqb (framing run .number) 0 bad) at e) bad)
+        rw (refuses _ (run-second (bookOf book .fault) run (length work) fine bad ∙ blamed-is 2 (framing run) bad) bad)
         (record {
           listed = omega (arith, f .known);
           zero = (λ z. absurd (bad z), λ x. absurd (bad (x .1)));

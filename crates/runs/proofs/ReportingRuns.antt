@@ -16,31 +16,30 @@ use Rattle.books.specs.Book.{bookOf}
 use Rattle.books.specs.declared.answer.Answer.{Answer}
 use Rattle.runs.specs.Run.{framing, sheetsOf}
 use Rattle.runs.specs.Figures.{workRoom, noFigures, figuresLong, inARow}
-use Rattle.runs.specs.Outcome.{Outcome, refusing, refusal, refused, reported, report, Answers, told, runReport, Leaves}
+use Rattle.runs.specs.Outcome.{Outcome, framed, refusal, refused, reported, report, Answers, told, runReport, Leaves}
 use Rattle.runs.specs.declared.figures.Figures.{Figures}
 use Rattle.runs.specs.inner.Adding.{standing}
-use Rattle.runs.specs.inner.Reporting.{Counts, Reports}
+use Rattle.runs.specs.inner.Reporting.{refusing, Counts, Reports}
 use Rattle.runs.proofs.StandingFigures.{stand-in-a-row}
 
 -- ── What is refused ──
 
 module _ (f : Fault) (run : List ℕ) (entries : ℕ) where
   pub book-first : (f .number ≡ 0 → ⊥) → refusing f run entries ≡ blaming 1 f
-  unfolding refusing
   book-first n = rw (ne-eqb (f .number) 0 n) refl
 
   module _ (z : f .number ≡ 0) where
     pub run-second : (framing run .number ≡ 0 → ⊥) → refusing f run entries ≡ blaming 2 (framing run)
-    unfolding refusing
+    unfolding framed
     run-second n = rw (eq-eqb (f .number) 0 z, ne-eqb (framing run .number) 0 n) refl
 
     module _ (y : framing run .number ≡ 0) where
       pub work-third : entries < workRoom → refusing f run entries ≡ plain 9
-      unfolding refusing
+      unfolding framed
       work-third h = rw (eq-eqb (f .number) 0 z, eq-eqb (framing run .number) 0 y, lt-ltb entries workRoom h) refl
 
       pub nothing-refused : workRoom ≤ entries → refusing f run entries ≡ plain 0
-      unfolding refusing
+      unfolding framed
       nothing-refused h = rw (eq-eqb (f .number) 0 z, eq-eqb (framing run .number) 0 y, le-ltb entries workRoom h) refl
 
   -- a fault that is blamed is one

@@ -13,8 +13,8 @@ use Rattle.names.specs.Pick.{fault}
 use Rattle.names.specs.declared.number.Fault.{Fault}
 use Rattle.names.proofs.Count.{left-all}
 use Rattle.names.proofs.Tests.{lt-or-le}
-use Rattle.books.specs.Book.{bookOf}
-use Rattle.books.specs.ContentsIn.{contentsIn, gridIn}
+use Rattle.books.specs.Lent.{contentsOf}
+use Rattle.books.specs.ContentsIn.{gridIn}
 use Rattle.books.specs.Decide.{called?}
 use Rattle.books.specs.Sheet.{sheetOf}
 use Rattle.books.specs.Size.{room}
@@ -37,7 +37,7 @@ unfolding showing
 showing-few book c sheet =
     let g = sheetOf sheet .sheet in
     let names = namesShown (gridIn sheet g) in
-    let few = how-many-le (called? (contentsIn book (bookOf book .family)) c) names in
+    let few = how-many-le (called? (contentsOf book) c) names in
     let cells = length-map (take (g .rows * g .cols) (g .cells)) (λ k. getD (namesIn sheet (g .colours)) k []) in
     omega (arith, few, cells, length-take (g .rows * g .cols) (g .cells), sheet-cells sheet .area-few)
 

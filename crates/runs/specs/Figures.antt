@@ -5,8 +5,8 @@ use mathlib.Core.List.{List, [], _∷_, _++_, map}
 use lib.Dec.{eqb}
 use lib.ListN.{length, getD, replicate}
 use Rattle.names.specs.Name.{Name}
-use Rattle.books.specs.ContentsIn.{contentsIn, gridIn}
-use Rattle.books.specs.Book.{bookOf}
+use Rattle.books.specs.Lent.{contentsOf}
+use Rattle.books.specs.ContentsIn.{gridIn}
 use Rattle.books.specs.Calls.{ticketOf}
 use Rattle.books.specs.Decide.{called?}
 use Rattle.books.specs.Grid.{Grid}
@@ -38,7 +38,7 @@ namesShown g = map (λ k. getD (g .colours) k []) (g .cells)
 
 -- how many cells show the full name of a book colour; a number past the book's list has no name
 unfoldable pub showing : List ℕ → ℕ → List ℕ → ℕ
-showing book c sheet = howMany (called? (contentsIn book (bookOf book .family)) c) (namesShown (gridIn sheet (sheetOf sheet .sheet)))
+showing book c sheet = howMany (called? (contentsOf book) c) (namesShown (gridIn sheet (sheetOf sheet .sheet)))
 
 -- ── The sheets of a run ──
 

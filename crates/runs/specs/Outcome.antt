@@ -5,9 +5,8 @@ use mathlib.Core.List.{List, _++_}
 use lib.Dec.{eqb, ltb}
 use lib.ListN.{length, drop, replicate}
 use Rattle.names.specs.Pick.{pick}
-use Rattle.names.specs.declared.number.Fault.{Fault}
 use Rattle.books.specs.Answer.{plain, blaming, packed}
-use Rattle.books.specs.Book.{bookOf}
+use Rattle.books.specs.Lent.{lentBook}
 use Rattle.books.specs.declared.answer.Answer.{Answer}
 use Rattle.runs.specs.Run.{framing, sheetsOf}
 use Rattle.runs.specs.Figures.{workRoom, figuresOf, noFigures, figuresLong, inARow}
@@ -29,16 +28,14 @@ abbrev pub reported : List ℕ → List ℕ → List ℕ → Outcome
 reported book run entries =
     record { answer = plain 0; figures = figuresOf book (sheetsOf run); entries = replicate workRoom 0 ++ drop workRoom entries }
 
--- what is refused of a book that was read with a fault or with none, of a run and of so many entries: the book's fault, then that of the run's
--- framing, then 9 where the entries are too few for the greatest sheet; the number 0 is nothing
-unfoldable pub refusing : Fault → List ℕ → ℕ → Answer
-refusing f run entries =
-    pick (eqb (f .number) 0)
-    (pick (eqb (framing run .number) 0) (pick (ltb entries workRoom) (plain 9) (plain 0)) (blaming 2 (framing run)))
-    (blaming 1 f)
+-- what is refused of a run and of so many entries: the fault of the run's framing, then 9 where the entries are too few for the greatest sheet; the number 0 is
+-- nothing
+unfoldable pub framed : List ℕ → ℕ → Answer
+framed run entries = pick (eqb (framing run .number) 0) (pick (ltb entries workRoom) (plain 9) (plain 0)) (blaming 2 (framing run))
 
+-- the book's fault comes first
 abbrev pub refusal : List ℕ → List ℕ → List ℕ → Answer
-refusal book run entries = refusing (bookOf book .fault) run (length entries)
+refusal book run entries = lentBook 1 book (λ a. a) (λ _. framed run (length entries))
 
 unfoldable pub report : List ℕ → List ℕ → List ℕ → Outcome
 report book run entries = pick (eqb (refusal book run entries .number) 0) (reported book run entries) (refused (refusal book run entries) entries)

@@ -18,9 +18,9 @@ ghost use lib.ListN.{length};
 ghost use Rattle.pieces.specs.Asking.{SplitFrom};
 ghost use Rattle.runs.specs.Run.{framing, sheetsOf};
 ghost use Rattle.runs.specs.Figures.{workRoom, noFigures, figuresLong};
-ghost use Rattle.runs.specs.Outcome.{refusing, report};
+ghost use Rattle.runs.specs.Outcome.{report};
 ghost use Rattle.runs.specs.inner.Adding.{mostAdded, Spare, standing};
-ghost use Rattle.runs.specs.inner.Reporting.{Adds, Counts, Reports};
+ghost use Rattle.runs.specs.inner.Reporting.{refusing, Adds, Counts, Reports};
 
 // The entries that the table of the greatest sheet has.
 const WORK_ROOM: usize = 6084;

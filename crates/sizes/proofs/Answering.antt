@@ -15,7 +15,7 @@ use Rattle.names.proofs.SpellingNumbers.{Bytes}
 use Rattle.books.specs.Answer.{plain, blaming, Packs}
 use Rattle.books.specs.Book.{bookOf}
 use Rattle.books.specs.Contents.{Contents}
-use Rattle.books.specs.ContentsIn.{contentsIn}
+use Rattle.books.specs.Lent.{contentsOf}
 use Rattle.books.specs.Keeps.{BodyFits}
 use Rattle.books.specs.Rules.{noRule}
 use Rattle.books.specs.Size.{greatest}
@@ -40,7 +40,7 @@ module _ (book slice : List ℕ) where
   book-first n = simp (ne-eqb (bookOf book .fault .number) 0 n)
 
   module _ (fine : bookOf book .fault .number ≡ 0) where
-    pub then-room : sizeCard book slice ≡ roomed (contentsIn book (bookOf book .family)) slice
+    pub then-room : sizeCard book slice ≡ roomed (contentsOf book) slice
     unfolding sizeCard
     then-room = simp (eq-eqb (bookOf book .fault .number) 0 fine)
 
@@ -48,7 +48,7 @@ module _ (book slice : List ℕ) where
     unfolding roomed
     no-room h = then-room ∙ simp (lt-ltb (length slice) greatest h)
 
-    pub with-room : greatest ≤ length slice → sizeCard book slice ≡ carded (contentsIn book (bookOf book .family)) slice
+    pub with-room : greatest ≤ length slice → sizeCard book slice ≡ carded (contentsOf book) slice
     unfolding roomed
     with-room h = then-room ∙ simp (le-ltb (length slice) greatest h)
 
@@ -79,7 +79,7 @@ module _ (book slice : List ℕ) (a : Answer) where
       → CardMade (bookOf book .family .rules) (bookOf book .family .count) (bookOf book .family .start) slice n after
       → Answers (sizeCard book slice) (record { answer = a; sizes = n }) after
   writes bytes fine room e n after made =
-      let b = contentsIn book (bookOf book .family) in
+      let b = contentsOf book in
       let sound = book-accepted book bytes fine .keeps .sound in
       rw (with-room book slice fine room) (record { answers = e; counts = made .counts b sound refl refl; leaves = made .leaves b sound refl refl })
 

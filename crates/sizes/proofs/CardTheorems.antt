@@ -7,9 +7,8 @@ use mathlib.Core.Logic.{_↔_}
 use native.Mathlib.Omega.{arith}
 use lib.ListN.{length, getD, take, drop}
 use lib.Seq.{getD-take, take-at, drop-at, length-front, length-take-le}
-use Rattle.books.specs.Book.{bookOf}
 use Rattle.books.specs.Contents.{Contents}
-use Rattle.books.specs.ContentsIn.{contentsIn}
+use Rattle.books.specs.Lent.{contentsOf}
 use Rattle.books.specs.Size.{greatest}
 use Rattle.books.proofs.Packing.{apart}
 use Rattle.names.specs.Bits.{bit}
@@ -21,10 +20,6 @@ use Rattle.sizes.proofs.Answering.{with-room, card-packs}
 use Rattle.sizes.proofs.CardRight.{card-length, card-right}
 use Rattle.sizes.proofs.Counting.{sizes-counted}
 use Rattle.sizes.proofs.Demand1.{size-card-answered, dv-size-card-answered}
-
--- the contents of a lent book
-abbrev pub lent : List ℕ → Contents
-lent book = contentsIn book (bookOf book .family)
 
 -- a slice that was left with the card of a family, and the number of its sizes
 pub record CardLeft (b : Contents) (slice left : List ℕ) (count : ℕ) : Type 0 where
@@ -49,19 +44,19 @@ card-left b slice left count room e n =
 
 module _ (book slice : List ℕ) where
   pub size-card-holds : (r : CardAnswer) (left : List ℕ) → Answers (sizeCard book slice) r left → r .answer .number ≡ 0
-      → CardLeft (lent book) slice left (r .sizes)
+      → CardLeft (contentsOf book) slice left (r .sizes)
   size-card-holds r left a z =
       let (fine, room) = size-card-answered book slice r left a .zero .0 z in
       let e = with-room book slice fine room in
-      card-left (lent book) slice left (r .sizes) room (a .leaves ∙ ap (λ (o : Outcome). o .slice) e) (a .counts ∙ ap (λ (o : Outcome). o .sizes) e)
+      card-left (contentsOf book) slice left (r .sizes) room (a .leaves ∙ ap (λ (o : Outcome). o .slice) e) (a .counts ∙ ap (λ (o : Outcome). o .sizes) e)
 
   pub dv-size-card-holds : (r : ℕ) (left : List ℕ) → Leaves (sizeCard book slice) r left → r % 2 ^ 8 ≡ 0
-      → CardLeft (lent book) slice left (r / 2 ^ 32)
+      → CardLeft (contentsOf book) slice left (r / 2 ^ 32)
   dv-size-card-holds r left l z =
       let (fine, room) = dv-size-card-answered book slice r left l .zero .0 z in
       let e = with-room book slice fine room in
       let counted : r / 2 ^ 32 ≡ sizeCard book slice .sizes = ap (λ (n : ℕ). n / 2 ^ 32) (l .answers) ∙ apart _ _ (card-packs book slice) .count-is in
-      card-left (lent book) slice left (r / 2 ^ 32) room (l .leaves ∙ ap (λ (o : Outcome). o .slice) e) (counted ∙ ap (λ (o : Outcome). o .sizes) e)
+      card-left (contentsOf book) slice left (r / 2 ^ 32) room (l .leaves ∙ ap (λ (o : Outcome). o .slice) e) (counted ∙ ap (λ (o : Outcome). o .sizes) e)
 
 -- Bit by bit: set exactly when the family has a sheet of that size, in any colours.
 pub bit-exactly : (b : Contents) (slice left : List ℕ) (count : ℕ) → CardLeft b slice left count → (r c : ℕ) → 1 ≤ r → r ≤ greatest → 1 ≤ c → c ≤ greatest

@@ -26,7 +26,7 @@ use Rattle.sizes.specs.inner.Entries.{slot, SizesMade}
 use Rattle.sizes.specs.inner.Rows.{SlotTold}
 use Rattle.sizes.proofs.CardRight.{sized-decided, card-right}
 use Rattle.sizes.proofs.CardRows.{entry-tells}
-use Rattle.sizes.proofs.CardTheorems.{lent}
+use Rattle.books.specs.Lent.{contentsOf}
 
 -- the start's bit in the last entry that was filled
 pub slot-told : (rules : List Rule) (few start k : ℕ) (t : List ℕ) → SizesMade rules few (k + 1) t
@@ -78,7 +78,7 @@ module _ (book : List ℕ) (m n : ℕ) where
   refused-none bad = simp (ne-eqb (bookOf book .fault .number) 0 bad)
 
   module _ (fine : bookOf book .fault .number ≡ 0) where
-    accepted : cardHas book m n ≡ hasOn (lent book) m n
+    accepted : cardHas book m n ≡ hasOn (contentsOf book) m n
     unfolding cardHas
     accepted = simp (eq-eqb (bookOf book .fault .number) 0 fine)
 
@@ -86,7 +86,7 @@ module _ (book : List ℕ) (m n : ℕ) where
     unfolding hasOn
     beyond-none e = accepted ∙ and-off (onCard m n) _ e
 
-    pub placed-has : onCard m n ≡ true → cardHas book m n ≡ sized? (lent book) (m - 1) (n - 1)
+    pub placed-has : onCard m n ≡ true → cardHas book m n ≡ sized? (contentsOf book) (m - 1) (n - 1)
     unfolding hasOn
     placed-has e = accepted ∙ and-on (onCard m n) _ e
 
@@ -95,7 +95,7 @@ module _ (book : List ℕ) (m n : ℕ) where
     unfolding sized?
     told-placed bytes e has told =
         let p = placed m n e in
-        let b = lent book in
+        let b = contentsOf book in
         let er : suc (m - 1) ≡ m = omega (arith, p) in
         let ec : suc (n - 1) ≡ n = omega (arith, p) in
         told .right b (book-accepted book bytes fine .keeps .sound) refl refl (by m n)
@@ -117,14 +117,14 @@ module _ (book : List ℕ) (m n : ℕ) (r : BookRead) (read : r ≡ bookOf book)
 -- ---- exactly the sizes of the family, and the bits of its card
 
 module _ (book : List ℕ) (fine : bookOf book .fault .number ≡ 0) (m n : ℕ) (p : Placed m n) where
-  pub size-exactly : (cardHas book m n ≡ true) ↔ Sized (lent book) m n
+  pub size-exactly : (cardHas book m n ≡ true) ↔ Sized (contentsOf book) m n
   size-exactly =
       let e = placed-has book m n fine (on-card m n p) in
       let er : suc (m - 1) ≡ m = omega (arith, p) in
       let ec : suc (n - 1) ≡ n = omega (arith, p) in
-      rw e (rw (er, ec) at (sized-decided (lent book) (m - 1) (n - 1)))
+      rw e (rw (er, ec) at (sized-decided (contentsOf book) (m - 1) (n - 1)))
 
-  pub size-bit : (cardHas book m n ≡ true) ↔ (bit (getD (card (lent book) greatest) (m - 1) 0) (n - 1) ≡ 1)
+  pub size-bit : (cardHas book m n ≡ true) ↔ (bit (getD (card (contentsOf book) greatest) (m - 1) 0) (n - 1) ≡ 1)
   size-bit =
-      let says = card-right (lent book) greatest .says m n (p .rows-some) (p .rows-few) (p .cols-some) (p .cols-few) in
+      let says = card-right (contentsOf book) greatest .says m n (p .rows-some) (p .rows-few) (p .cols-some) (p .cols-few) in
       (λ h. says .1 (size-exactly .0 h), λ o. size-exactly .1 (says .0 o))

@@ -3,13 +3,12 @@ use Prim.Native.Nat.{ℕ}
 use mathlib.Core.Path.{_≡_}
 use mathlib.Core.Bool.{Bool, false}
 use mathlib.Core.List.{List, _++_}
-use lib.Dec.{eqb, ltb}
+use lib.Dec.{ltb}
 use lib.ListN.{length, drop}
 use Rattle.names.specs.Pick.{pick}
-use Rattle.books.specs.Answer.{plain, blaming, packed}
-use Rattle.books.specs.Book.{bookOf}
+use Rattle.books.specs.Answer.{plain, packed}
 use Rattle.books.specs.Contents.{Contents}
-use Rattle.books.specs.ContentsIn.{contentsIn}
+use Rattle.books.specs.Lent.{lentBook}
 use Rattle.books.specs.Size.{greatest}
 use Rattle.books.specs.declared.answer.Answer.{Answer}
 use Rattle.sizes.specs.declared.calls.CardAnswer.{CardAnswer}
@@ -35,7 +34,7 @@ roomed b slice = pick (ltb (length slice) greatest) (refused (plain 13) slice) (
 
 unfoldable pub sizeCard : List ℕ → List ℕ → Outcome
 sizeCard book slice =
-    pick (eqb (bookOf book .fault .number) 0) (roomed (contentsIn book (bookOf book .family)) slice) (refused (blaming 1 (bookOf book .fault)) slice)
+    lentBook 1 book (λ a. refused a slice) (λ b. roomed b slice)
 
 -- what the call answers, and the slice as it leaves it, are those of an outcome
 pub record Answers (o : Outcome) (r : CardAnswer) (slice : List ℕ) : Type 0 where
@@ -50,4 +49,4 @@ pub record Leaves (o : Outcome) (r : ℕ) (slice : List ℕ) : Type 0 where
 
 -- whether the size card of a lent book has the size of m rows and n columns: a refused book has no card
 unfoldable pub cardHas : List ℕ → ℕ → ℕ → Bool
-cardHas book m n = pick (eqb (bookOf book .fault .number) 0) (hasOn (contentsIn book (bookOf book .family)) m n) false
+cardHas book m n = lentBook 1 book (λ _. false) (λ b. hasOn b m n)

@@ -2,11 +2,19 @@
 use mathlib.Core.Path.{_≡_}
 use mathlib.Core.List.{List, [], _∷_, _++_}
 use Prim.Native.Nat.{ℕ}
+use lib.Dec.{eqb}
 use lib.ListN.{drop}
+use Rattle.names.specs.Pick.{pick}
+use Rattle.names.specs.declared.number.Fault.{Fault}
+use Rattle.books.specs.Answer.{blaming}
 use Rattle.books.specs.declared.answer.Answer.{Answer}
 use Rattle.runs.specs.Figures.{workRoom, figuresOf, figuresLong}
-use Rattle.runs.specs.Outcome.{Outcome}
+use Rattle.runs.specs.Outcome.{Outcome, framed}
 use Rattle.runs.specs.inner.Adding.{standing}
+
+-- what is refused of a book that was read with a fault or with none, of a run and of so many entries
+abbrev pub refusing : Fault → List ℕ → ℕ → Answer
+refusing f run entries = pick (eqb (f .number) 0) (framed run entries) (blaming 1 f)
 
 -- neither slice changes beyond what is lent for
 pub record Beyond (work work-left figures left : List ℕ) : Type 0 where

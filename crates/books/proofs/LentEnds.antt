@@ -1,0 +1,73 @@
+-- A lent book or sheet ends in its fault or goes on with what it holds: what holds of each way holds of the call. Each way is read off the fault's number.
+use Prim.Native.Nat.{ℕ}
+use mathlib.Core.Path.{_≡_}
+use mathlib.Core.Bool.{false}
+use mathlib.Core.List.{List}
+use borrow.Author.Tests.{eq-eqb, ne-eqb, eqb-true, eqb-false}
+use lib.Dec.{eqb}
+use Rattle.names.specs.declared.number.Fault.{Fault}
+use Rattle.names.proofs.Picking.{pick-ind}
+use Rattle.books.specs.Answer.{answer, blaming}
+use Rattle.books.specs.Book.{bookOf}
+use Rattle.books.specs.Contents.{Contents}
+use Rattle.books.specs.Lent.{contentsOf, pictureOf, Accepted, lentBook, lentSheet, lentBoth}
+use Rattle.books.specs.Picture.{Picture}
+use Rattle.books.specs.Sheet.{sheetOf}
+use Rattle.books.specs.declared.answer.Answer.{Answer}
+
+-- A fault that is one is blamed as it is.
+blamed : (P : Answer → Type 0) (input : ℕ) (f : Fault) → eqb (f .number) 0 ≡ false → P (answer (f .number) input (f .place)) → P (blaming input f)
+blamed P input f e x = rw e x
+
+pub blamed-is : (input : ℕ) (f : Fault) → (f .number ≡ 0 → ⊥) → blaming input f ≡ answer (f .number) input (f .place)
+blamed-is input f n = simp (ne-eqb (f .number) 0 n)
+
+-- ── Induction over the ways ──
+
+module _ {A : Type 0} (P : A → Type 0) (refuse : Answer → A) where
+  pub book-ends : (input : ℕ) (book : List ℕ) (go : Contents → A)
+      → ((bookOf book .fault .number ≡ 0 → ⊥) → P (refuse (answer (bookOf book .fault .number) input (bookOf book .fault .place))))
+      → (bookOf book .fault .number ≡ 0 → P (go (contentsOf book))) → P (lentBook input book refuse go)
+  book-ends input book go faulty fine =
+      let n = bookOf book .fault .number in
+      pick-ind P (eqb n 0) (go (contentsOf book)) (refuse (blaming input (bookOf book .fault)))
+      (λ e. fine (eqb-true n 0 e))
+      (λ e. blamed (λ (a : Answer). P (refuse a)) input (bookOf book .fault) e (faulty (eqb-false n 0 e)))
+
+  pub sheet-ends : (input : ℕ) (sheet : List ℕ) (go : Picture → A)
+      → ((sheetOf sheet .fault .number ≡ 0 → ⊥) → P (refuse (answer (sheetOf sheet .fault .number) input (sheetOf sheet .fault .place))))
+      → (sheetOf sheet .fault .number ≡ 0 → P (go (pictureOf sheet))) → P (lentSheet input sheet refuse go)
+  sheet-ends input sheet go faulty fine =
+      let n = sheetOf sheet .fault .number in
+      pick-ind P (eqb n 0) (go (pictureOf sheet)) (refuse (blaming input (sheetOf sheet .fault)))
+      (λ e. fine (eqb-true n 0 e))
+      (λ e. blamed (λ (a : Answer). P (refuse a)) input (sheetOf sheet .fault) e (faulty (eqb-false n 0 e)))
+
+  pub record BothEnd (book sheet : List ℕ) (go : Contents → Picture → A) : Type 0 where
+    pub in-book : (bookOf book .fault .number ≡ 0 → ⊥) → P (refuse (answer (bookOf book .fault .number) 1 (bookOf book .fault .place)))
+    pub in-sheet : bookOf book .fault .number ≡ 0 → (sheetOf sheet .fault .number ≡ 0 → ⊥)
+        → P (refuse (answer (sheetOf sheet .fault .number) 2 (sheetOf sheet .fault .place)))
+    pub in-neither : Accepted book sheet → P (go (contentsOf book) (pictureOf sheet))
+
+  pub both-end : (book sheet : List ℕ) (go : Contents → Picture → A) → BothEnd book sheet go → P (lentBoth book sheet refuse go)
+  both-end book sheet go ways =
+      book-ends 1 book (λ b. lentSheet 2 sheet refuse (go b)) (ways .in-book)
+      (λ z. sheet-ends 2 sheet (go (contentsOf book)) (ways .in-sheet z) (λ y. ways .in-neither (record { book-fine = z; sheet-fine = y })))
+
+-- ── The order of the answers ──
+
+module _ {A : Type 0} (book : List ℕ) (refuse : Answer → A) where
+  pub book-refused-first : (input : ℕ) (go : Contents → A) → (bookOf book .fault .number ≡ 0 → ⊥)
+      → lentBook input book refuse go ≡ refuse (blaming input (bookOf book .fault))
+  book-refused-first input go n = simp (ne-eqb (bookOf book .fault .number) 0 n)
+
+  pub book-goes-on : (input : ℕ) (go : Contents → A) → bookOf book .fault .number ≡ 0 → lentBook input book refuse go ≡ go (contentsOf book)
+  book-goes-on input go z = simp (eq-eqb (bookOf book .fault .number) 0 z)
+
+  module _ (sheet : List ℕ) (go : Contents → Picture → A) where
+    pub sheet-refused-second : bookOf book .fault .number ≡ 0 → (sheetOf sheet .fault .number ≡ 0 → ⊥)
+        → lentBoth book sheet refuse go ≡ refuse (blaming 2 (sheetOf sheet .fault))
+    sheet-refused-second z n = simp (eq-eqb (bookOf book .fault .number) 0 z, ne-eqb (sheetOf sheet .fault .number) 0 n)
+
+    pub both-go-on : Accepted book sheet → lentBoth book sheet refuse go ≡ go (contentsOf book) (pictureOf sheet)
+    both-go-on fine = simp (eq-eqb (bookOf book .fault .number) 0 (fine .book-fine), eq-eqb (sheetOf sheet .fault .number) 0 (fine .sheet-fine))

@@ -1,0 +1,38 @@
+-- A book and a sheet as they are lent: what refuses them is blamed on the input that they are, and what they hold goes on.
+use Prim.Native.Nat.{ℕ}
+use mathlib.Core.Path.{_≡_}
+use mathlib.Core.List.{List}
+use lib.Dec.{eqb}
+use Rattle.names.specs.Pick.{pick}
+use Rattle.books.specs.Answer.{blaming}
+use Rattle.books.specs.Book.{bookOf}
+use Rattle.books.specs.Contents.{Contents}
+use Rattle.books.specs.ContentsIn.{contentsIn, gridIn}
+use Rattle.books.specs.Grid.{picture}
+use Rattle.books.specs.Picture.{Picture}
+use Rattle.books.specs.Sheet.{sheetOf}
+use Rattle.books.specs.declared.answer.Answer.{Answer}
+
+-- what a lent book says, and what a lent sheet shows
+abbrev pub contentsOf : List ℕ → Contents
+contentsOf book = contentsIn book (bookOf book .family)
+
+abbrev pub pictureOf : List ℕ → Picture
+pictureOf sheet = picture (gridIn sheet (sheetOf sheet .sheet))
+
+-- both are accepted
+pub record Accepted (book sheet : List ℕ) : Type 0 where
+  pub book-fine : bookOf book .fault .number ≡ 0
+  pub sheet-fine : sheetOf sheet .fault .number ≡ 0
+
+-- the answer of a refused book goes the one way, and the contents of an accepted one the other
+abbrev pub lentBook {ℓ} : {A : Type ℓ} → ℕ → List ℕ → (Answer → A) → (Contents → A) → A
+lentBook input book refuse go = pick (eqb (bookOf book .fault .number) 0) (go (contentsOf book)) (refuse (blaming input (bookOf book .fault)))
+
+-- the same of a sheet and its picture
+abbrev pub lentSheet {ℓ} : {A : Type ℓ} → ℕ → List ℕ → (Answer → A) → (Picture → A) → A
+lentSheet input sheet refuse go = pick (eqb (sheetOf sheet .fault .number) 0) (go (pictureOf sheet)) (refuse (blaming input (sheetOf sheet .fault)))
+
+-- a book and a sheet: the book's fault, then the sheet's
+abbrev pub lentBoth {ℓ} : {A : Type ℓ} → List ℕ → List ℕ → (Answer → A) → (Contents → Picture → A) → A
+lentBoth book sheet refuse go = lentBook 1 book refuse (λ b. lentSheet 2 sheet refuse (λ p. go b p))
