@@ -1,5 +1,6 @@
 pub mod Plainly
 pub mod SamePictures
+pub mod Gluing
 pub mod NothingEmpty
 pub mod Searches
 pub mod Deciding

@@ -1,5 +1,6 @@
 pub mod Contents
 pub mod Picture
+pub mod Joined
 pub mod Derives
 pub mod Plain
 pub mod Search

@@ -2,19 +2,16 @@
 -- across holds down, since a picture joined down is one joined across, transposed.
 use Prim.Native.Nat.{ℕ, _+_, _-_, _≤_, _<_}
 use mathlib.Core.Path.{_≡_, refl, sym, _∙_, ap}
-use mathlib.Core.Bool.{Bool}
 use mathlib.Core.Logic.{⊎-elim, _↔_}
 use native.Mathlib.Omega.{arith}
-use lib.Dec.{ltb}
-use borrow.Author.Tests.{lt-ltb, le-ltb}
-use Rattle.names.specs.Pick.{pick}
-use Rattle.names.specs.Name.{Name}
 use Rattle.names.proofs.Tests.{lt-or-le}
+use Rattle.books.specs.Joined.{Joined, other, glued}
 use Rattle.books.specs.Picture.{Picture, Same, size, first, rest}
 use Rattle.books.specs.declared.rule.Dir.the-variants.{Across as across, Down as down}
 use Rattle.books.specs.declared.rule.Dir.{Dir}
+use Rattle.books.proofs.Gluing.{glued-joined}
 use Rattle.books.proofs.SamePictures.{same-refl, same-trans, same-size, same-first, same-rest}
-use Rattle.families.specs.Joined.{Joined, Both, other, glued}
+use Rattle.families.specs.Joined.{Both}
 use Rattle.families.specs.Images.{transpose}
 use Rattle.families.proofs.Images.{same-turned}
 
@@ -23,29 +20,6 @@ to-across j = record { sizes = j .sizes; front = same-turned (j .front); back = 
 
 to-down : {p q r : Picture} → Joined across (transpose p) (transpose q) (transpose r) → Joined down p q r
 to-down j = record { sizes = j .sizes; front = same-turned (j .front); back = same-turned (j .back) }
-
--- The glued picture is a join.
-at-first : (n j : ℕ) (x y : Name) → j < n → x ≡ pick (ltb j n) x y
-at-first n j x y h = sym (ap (λ (t : Bool). pick t x y) (lt-ltb j n h))
-
-at-rest : (n j : ℕ) (x y z : Name) → n ≤ j → z ≡ y → z ≡ pick (ltb j n) x y
-at-rest n j x y z h e = e ∙ sym (ap (λ (t : Bool). pick t x y) (le-ltb j n h))
-
-glued-across : (p q : Picture) → p .rows ≡ q .rows → Joined across p q (glued across p q)
-glued-across p q e =
-    record {
-      sizes = refl;
-      front = record { same-rows = refl; same-cols = refl; same-cell = λ i j hi hj. at-first (p .cols) j _ _ hj };
-      back = record {
-        same-rows = sym e;
-        same-cols = omega arith;
-        same-cell = λ i j hi hj. at-rest (p .cols) (p .cols + j) _ _ _ (omega arith) (ap (λ (n : ℕ). q .cell i n) (omega arith));
-      };
-    }
-
-pub glued-joined : (d : Dir) (p q : Picture) → size (other d) p ≡ size (other d) q → Joined d p q (glued d p q)
-glued-joined across p q e = glued-across p q e
-glued-joined down p q e = to-down (glued-across (transpose p) (transpose q) e)
 
 -- Two pictures that are joined are of one breadth.
 pub joined-level : (d : Dir) (p q r : Picture) → Joined d p q r → size (other d) p ≡ size (other d) q

@@ -13,7 +13,8 @@ use Rattle.books.specs.Keeps.{Sound}
 use Rattle.books.specs.declared.rule.Rule.{Rule}
 use Rattle.books.specs.declared.rule.Body.{Body}
 use Rattle.books.specs.declared.rule.Body.the-variants.{Colour}
-use Rattle.families.specs.Joined.{Joined, Run, one, more}
+use Rattle.books.specs.Joined.{Joined}
+use Rattle.families.specs.Joined.{Run, one, more}
 use Rattle.families.specs.Combine.{copies, repeated}
 use Rattle.families.proofs.Copying.{copies-forth, copies-back}
 use Rattle.families.proofs.Heads.{heads-append, heads-copies, heads-one}

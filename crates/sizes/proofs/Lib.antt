@@ -1,4 +1,3 @@
-pub mod Gluing
 pub mod SizesOfSheets
 pub mod Testing
 pub mod Listing
