@@ -13,6 +13,7 @@ pub mod SpellingNumbers
 pub mod Finding
 pub mod ReadingNames
 pub mod ReadingColours
+pub mod ToldInParts
 pub mod SpellingColours
 pub mod Examples
 pub mod SpelledBytes

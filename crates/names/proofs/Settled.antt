@@ -5,12 +5,15 @@ use mathlib.Core.Path.{_≡_, sym, _∙_}
 use mathlib.Core.List.{List}
 use lib.ListN.{length, take, drop}
 use denote.Ref.{RefT, ptr, now}
+use Rattle.names.specs.Pick.{fault}
 use Rattle.names.specs.Number.{numberAt, numberIn, numberBelow, spellNumber}
 use Rattle.names.specs.Name.{nameOf, sameName}
 use Rattle.names.specs.Put.{Puts}
 use Rattle.names.specs.Part.{Part, tailStart}
-use Rattle.names.specs.Colours.{findName, findIn, noColours, coloursOf}
+use Rattle.names.specs.Colours.{findName, findIn, noColours, coloursOf, ListInto}
 use Rattle.names.specs.declared.colours.Colours.{Colours}
+use Rattle.names.specs.declared.colours.ListRead.{ListRead}
+use Rattle.names.proofs.ToldInParts.{told-rest}
 
 -- what is equal to one thing is equal
 pub settled : {A : Type 0} {x y z : A} → x ≡ z → y ≡ z → x ≡ y
@@ -38,6 +41,9 @@ puts-settle : (out : List ℕ) (at : ℕ) (l : List ℕ) → SettlesBoth (Puts o
 puts-settle out at l r q x y a b = (settled (a .0) (b .0), settled (a .1) (b .1))
 
 -- ── Numbers ──
+
+pub fault-settled : (number place : ℕ) → Settles (fault number place)
+fault-settled number place = settles _
 
 pub read-number-settled : (s : List ℕ) (at : ℕ) → Settles (numberAt s at)
 read-number-settled s at = settles _
@@ -84,3 +90,8 @@ find-in-settled s c t d i = settles _
 
 pub read-colours-settled : (s : List ℕ) → Settles (coloursOf s)
 read-colours-settled s = settles _
+
+pub read-list-settled : (s : List ℕ) (r q : ListRead) (starts lens places sizes : List ℕ)
+    → ListInto (coloursOf s) r starts lens → ListInto (coloursOf s) q places sizes → (r ≡ q) × (starts ≡ places) × (lens ≡ sizes)
+read-list-settled s r q starts lens places sizes a b =
+    (settled (told-rest a) (told-rest b), settled (a .starts) (b .starts), settled (a .lens) (b .lens))

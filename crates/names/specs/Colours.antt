@@ -1,5 +1,6 @@
 -- What reading a colour list finds.
 use Prim.Native.Nat.{ℕ, zero, suc, _+_}
+use mathlib.Core.Path.{_≡_}
 use mathlib.Core.List.{List, [], _∷_}
 use lib.ListN.{length, getD, take, drop, set, replicate}
 use lib.Dec.{ltb, leb}
@@ -14,6 +15,7 @@ use Rattle.names.specs.declared.colours.ColourRead.{ColourRead}
 use Rattle.names.specs.declared.colours.ColourRead.the-variants.{At, Refused as RefusedColour}
 use Rattle.names.specs.declared.colours.Colours.{Colours}
 use Rattle.names.specs.declared.colours.ColoursRead.{ColoursRead}
+use Rattle.names.specs.declared.colours.ListRead.{ListRead}
 
 -- so many colours, with the place and the length of each name
 abbrev pub listOf : ℕ → List ℕ → List ℕ → Colours
@@ -78,3 +80,11 @@ coloursOf s = onward refusedColours (numberIn s 0 1 64) (λ count next. coloursF
 
 abbrev pub afterColours {ℓ} : {A : Type ℓ} → (Fault → A) → ColoursRead → (Colours → ℕ → A) → A
 afterColours refuse r go = faultless refuse (r .fault) (go (r .colours) (r .next))
+
+-- the same list told in parts: the places and the sizes of its names are in two arrays
+pub record ListInto (c : ColoursRead) (r : ListRead) (places sizes : List ℕ) : Type 0 where
+  pub fault : r .fault ≡ c .fault
+  pub count : r .count ≡ c .colours .count
+  pub next : r .next ≡ c .next
+  pub starts : places ≡ c .colours .starts
+  pub lens : sizes ≡ c .colours .lens

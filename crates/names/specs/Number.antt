@@ -12,9 +12,13 @@ use Rattle.names.specs.declared.number.Read.the-variants.{Value, Refused
 abbrev pub greatestNumber : ℕ
 greatestNumber = 2097151
 
--- at each byte of a number: 1 where the input ends there
+-- the input ends where a byte of a number is due: 1 at the input's end
+abbrev pub endsHere : List ℕ → Read
+endsHere s = Refused (fault 1 (length s))
+
+-- at each byte of a number
 abbrev pub byteAt : List ℕ → ℕ → (ℕ → Read) → Read
-byteAt s at go = pick (leb (length s) at) (Refused (fault 1 (length s))) (go (getD s at 0))
+byteAt s at go = pick (leb (length s) at) (endsHere s) (go (getD s at 0))
 
 -- the last group of a longer number: 2 at the number's first byte where it is 0, since the number has a shorter form
 unfoldable pub lastGroup : ℕ → ℕ → ℕ → ℕ → Read

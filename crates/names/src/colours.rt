@@ -1,4 +1,5 @@
 // A colour list: a count, then each name with its length before it. No name stands twice.
+use crate::fault::fault;
 use crate::name;
 use crate::name::NameRead;
 use crate::number;
@@ -8,7 +9,7 @@ ghost use mathlib.Core.Path.{_≡_};
 ghost use Prim.Native.Nat.{_≤_};
 ghost use lib.ListN.{take, drop};
 ghost use Rattle.names.specs.Name.{sameName};
-ghost use Rattle.names.specs.Colours.{listOf, findName, findIn, colourAt, noColours, refusedColours, coloursFrom, coloursOf};
+ghost use Rattle.names.specs.Colours.{listOf, findName, findIn, colourAt, noColours, refusedColours, coloursFrom, coloursOf, ListInto};
 
 // Where each name of a list starts in the input and how long it is; 0 past the count.
 pub struct Colours {
@@ -21,6 +22,13 @@ pub struct Colours {
 pub struct ColoursRead {
     pub fault: Fault,
     pub colours: Colours,
+    pub next: usize,
+}
+
+// The same of a list whose places went into lent arrays: what is told besides.
+pub struct ListRead {
+    pub fault: Fault,
+    pub count: usize,
     pub next: usize,
 }
 
@@ -41,13 +49,15 @@ pub fn no_colours() -> Colours
     }
 }
 
-fn refused_colours(f: Fault) -> ColoursRead
-    ensures { λ r. ⌜ r ≡ refusedColours f ⌝ }
+// A refused list leaves nothing in the arrays.
+fn refuse_list(f: Fault, starts: &mut [u16; 64], lens: &mut [u8; 64]) -> ListRead
+    ensures { λ r. ⌜ ListInto (refusedColours f) r (now (starts .exit)) (now (lens .exit)) ⌝ }
 {
-    let c = no_colours();
-    ColoursRead {
+    *starts = [0; 64];
+    *lens = [0; 64];
+    ListRead {
         fault: f,
-        colours: c,
+        count: 0,
         next: 0,
     }
 }
@@ -108,37 +118,34 @@ fn read_colour(s: &[u8], at: usize) -> ColourRead
             let n = name::read_name(name::tail(s, start), len);
             match n {
                 NameRead::Whole => ColourRead::At(start, len),
-                NameRead::Ends => ColourRead::Refused(Fault {
-                    number: 1,
-                    place: s.len(),
-                }),
-                NameRead::Bad(k) => ColourRead::Refused(Fault {
-                    number: 4,
-                    place: start + k,
-                }),
+                NameRead::Ends => ColourRead::Refused(fault(1, s.len())),
+                NameRead::Bad(k) => ColourRead::Refused(fault(4, start + k)),
             }
         }
     }
 }
 
 // So many names from a place near the start on.
-fn read_names(s: &[u8], count: usize, from: usize) -> ColoursRead
+fn read_names(
+    s: &[u8],
+    count: usize,
+    from: usize,
+    starts: &mut [u16; 64],
+    lens: &mut [u8; 64],
+) -> ListRead
     requires { ⌜ (count ≤ 64) × (from ≤ 3) ⌝ }
-    ensures { λ r. ⌜ r ≡ coloursFrom (now (s .entry)) noColours from count ⌝ }
+    ensures { λ r. ⌜ ListInto (coloursFrom (now (s .entry)) noColours from count) r (now (starts .exit)) (now (lens .exit)) ⌝ }
 {
-    let mut starts = [0u16; 64];
-    let mut lens = [0u8; 64];
+    *starts = [0; 64];
+    *lens = [0; 64];
     let mut at = from;
     for i in 0..count {
         let r = read_colour(s, at);
         match r {
-            ColourRead::Refused(f) => return refused_colours(f),
+            ColourRead::Refused(f) => return refuse_list(f, starts, lens),
             ColourRead::At(start, len) => {
-                if find_name(s, i, &starts, &lens, name::tail(s, start), len) < i {
-                    return refused_colours(Fault {
-                        number: 5,
-                        place: start,
-                    });
+                if find_name(s, i, starts, lens, name::tail(s, start), len) < i {
+                    return refuse_list(fault(5, start), starts, lens);
                 }
                 starts[i] = start as u16;
                 lens[i] = len as u8;
@@ -146,27 +153,40 @@ fn read_names(s: &[u8], count: usize, from: usize) -> ColoursRead
             }
         }
     }
-    ColoursRead {
-        fault: Fault {
-            number: 0,
-            place: 0,
-        },
-        colours: Colours {
-            count,
-            starts,
-            lens,
-        },
+    ListRead {
+        fault: fault(0, 0),
+        count,
         next: at,
     }
 }
 
-// The colour list that the input begins with.
-pub fn read_colours(s: &[u8]) -> ColoursRead
-    ensures { λ r. ⌜ r ≡ coloursOf (now (s .entry)) ⌝ }
+// The colour list that the input begins with, read into lent arrays: whatever they held, they end with the places of the list and 0 past its
+// count.
+pub fn read_list(s: &[u8], starts: &mut [u16; 64], lens: &mut [u8; 64]) -> ListRead
+    ensures { λ r. ⌜ ListInto (coloursOf (now (s .entry))) r (now (starts .exit)) (now (lens .exit)) ⌝ }
 {
     let r = number::read_in(s, 0, 1, 64);
     match r {
-        Read::Refused(f) => refused_colours(f),
-        Read::Value(count, at) => read_names(s, count, at),
+        Read::Refused(f) => refuse_list(f, starts, lens),
+        Read::Value(count, at) => read_names(s, count, at, starts, lens),
+    }
+}
+
+// The same list as a value.
+pub fn read_colours(s: &[u8]) -> ColoursRead
+    ensures { λ r. ⌜ r ≡ coloursOf (now (s .entry)) ⌝ }
+{
+    let mut starts = [0u16; 64];
+    let mut lens = [0u8; 64];
+    let r = read_list(s, &mut starts, &mut lens);
+    let fault = r.fault;
+    ColoursRead {
+        fault,
+        colours: Colours {
+            count: r.count,
+            starts,
+            lens,
+        },
+        next: r.next,
     }
 }

@@ -1,8 +1,9 @@
 // A number is one to three bytes, seven bits each, lowest group first, in its shortest form.
+use crate::fault::fault;
 ghost use mathlib.Core.Path.{_≡_};
 ghost use Prim.Native.Nat.{_<_};
 ghost use lib.ListN.{length};
-ghost use Rattle.names.specs.Number.{lastGroup, longerAt, numberAt, numberIn, numberBelow, spellNumber};
+ghost use Rattle.names.specs.Number.{endsHere, lastGroup, longerAt, numberAt, numberIn, numberBelow, spellNumber};
 ghost use Rattle.names.specs.Put.{Puts};
 
 // Three groups of ones.
@@ -20,15 +21,19 @@ pub enum Read {
     Refused(Fault),
 }
 
+// The input ends where a byte of a number is due.
+fn ends(s: &[u8]) -> Read
+    ensures { λ r. ⌜ r ≡ endsHere (now (s .entry)) ⌝ }
+{
+    Read::Refused(fault(1, s.len()))
+}
+
 // A number that ends in this group. A last group of 0 adds nothing: the number has a shorter form, and is refused at its first byte.
 fn last_group(at: usize, group: usize, v: usize, next: usize) -> Read
     ensures { λ r. ⌜ r ≡ lastGroup at group v next ⌝ }
 {
     if group == 0 {
-        return Read::Refused(Fault {
-            number: 2,
-            place: at,
-        });
+        return Read::Refused(fault(2, at));
     }
     Read::Value(v, next)
 }
@@ -39,20 +44,14 @@ fn read_longer(s: &[u8], at: usize, low: usize) -> Read
     ensures { λ r. ⌜ r ≡ longerAt (now (s .entry)) at low ⌝ }
 {
     if s.len() <= at + 1 {
-        return Read::Refused(Fault {
-            number: 1,
-            place: s.len(),
-        });
+        return ends(s);
     }
     let second = s[at + 1] as usize;
     if second < 128 {
         return last_group(at, second, low + 128 * second, at + 2);
     }
     if s.len() <= at + 2 {
-        return Read::Refused(Fault {
-            number: 1,
-            place: s.len(),
-        });
+        return ends(s);
     }
     let third = s[at + 2] as usize;
     if third < 128 {
@@ -63,10 +62,7 @@ fn read_longer(s: &[u8], at: usize, low: usize) -> Read
             at + 3,
         );
     }
-    Read::Refused(Fault {
-        number: 2,
-        place: at,
-    })
+    Read::Refused(fault(2, at))
 }
 
 // The number that stands at a place.
@@ -74,10 +70,7 @@ pub fn read_number(s: &[u8], at: usize) -> Read
     ensures { λ r. ⌜ r ≡ numberAt (now (s .entry)) at ⌝ }
 {
     if s.len() <= at {
-        return Read::Refused(Fault {
-            number: 1,
-            place: s.len(),
-        });
+        return ends(s);
     }
     let first = s[at] as usize;
     if first < 128 {
@@ -95,16 +88,10 @@ pub fn read_in(s: &[u8], at: usize, least: usize, most: usize) -> Read
         Read::Refused(f) => Read::Refused(f),
         Read::Value(v, next) => {
             if v < least {
-                return Read::Refused(Fault {
-                    number: 3,
-                    place: at,
-                });
+                return Read::Refused(fault(3, at));
             }
             if most < v {
-                return Read::Refused(Fault {
-                    number: 3,
-                    place: at,
-                });
+                return Read::Refused(fault(3, at));
             }
             Read::Value(v, next)
         }
@@ -122,10 +109,7 @@ pub fn read_below(s: &[u8], at: usize, count: usize, refusal: u8) -> Read
             if v < count {
                 Read::Value(v, next)
             } else {
-                Read::Refused(Fault {
-                    number: refusal,
-                    place: at,
-                })
+                Read::Refused(fault(refusal, at))
             }
         }
     }

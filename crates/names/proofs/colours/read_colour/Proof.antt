@@ -11,8 +11,8 @@ use borrow.Author.Needs.{needs}
 use Rattle.names.proofs.colours.read_colour.Statement.{statement}
 use Rattle.names.proofs.colours.read_colour.Tie as tie
 
-add-t14 : tie.Need-add-t14
-add-t14 c =
+add-fault : tie.Need-add-fault
+add-fault c =
     let t = c .before .before .before .before in
     let r = t .before .before in
     let start = r .before .before .before .before in
@@ -25,28 +25,33 @@ add-t14 c =
 
 returns : tie.Need-returns
 unfolding colourAt
-returns c = simp (sym (c .before .before .before .read-in .ensures) ∙ c .before .r .given .1)
+returns c = simp (← c .before .before .before .read-in .ensures, c .before .r .given .1)
 
 returns-2 : tie.Need-returns-2
 unfolding colourAt
 returns-2 c =
-    let t = c .before .before .before in
+    let n = c .before .before in
+    let t = n .before in
     let r = t .before .before in
-    simp ((sym (r .before .before .read-in .ensures) ∙ r .r2 .given .1), ← t .tail .ensures .holds, ← c .before .before .read-name .ensures, c .enum-told .given .1)
+    simp (← r .before .before .read-in .ensures, r .r2 .given .1, ← t .tail .ensures .holds, ← n .read-name .ensures, c .enum-told .given .1)
 
 returns-3 : tie.Need-returns-3
 unfolding colourAt
 returns-3 c =
-    let t = c .before .before .before in
+    let e = c .before in
+    let n = e .before .before in
+    let t = n .before in
     let r = t .before .before in
-    simp ((sym (r .before .before .read-in .ensures) ∙ r .r2 .given .1), ← t .tail .ensures .holds, ← c .before .before .read-name .ensures, c .enum-told2 .given .1)
+    simp (← r .before .before .read-in .ensures, r .r2 .given .1, ← t .tail .ensures .holds, ← n .read-name .ensures, e .enum-told2 .given .1, c .fault .ensures)
 
 returns-4 : tie.Need-returns-4
 unfolding colourAt
 returns-4 c =
-    let t = c .before .before .before .before in
+    let e = c .before .before in
+    let n = e .before .before in
+    let t = n .before in
     let r = t .before .before in
-    simp ((sym (r .before .before .read-in .ensures) ∙ r .r2 .given .1), ← t .tail .ensures .holds, ← c .before .before .before .read-name .ensures, c .before .n .given .1)
+    simp (← r .before .before .read-in .ensures, r .r2 .given .1, ← t .tail .ensures .holds, ← n .read-name .ensures, e .n .given .1, c .fault2 .ensures)
 
 pub read-colour-spec : {M : Type 1} → statement M
 read-colour-spec =
@@ -59,8 +64,10 @@ read-colour-spec =
     (λ c κs. search needs)
     (λ c. search needs)
     (λ c. search needs)
+    (λ c κs. search needs)
     (λ c. search needs)
-    add-t14
+    add-fault
+    (λ c κs. search needs)
     returns
     returns-2
     returns-3

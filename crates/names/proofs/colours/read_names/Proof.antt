@@ -11,6 +11,7 @@ use Rattle.names.specs.Colours.{listOf, findName, colourAt, coloursFrom,
 use Rattle.names.specs.declared.colours.ColourRead.the-variants.{At}
 use Rattle.names.proofs.Count.{left-suc, left-all, left-none}
 use Rattle.names.proofs.ReadingColours.{colour-lies}
+use Rattle.names.proofs.ToldInParts.{told-of}
 use Rattle.names.proofs.colours.read_names.Statement.{statement}
 use Rattle.names.proofs.colours.read_names.Tie as tie
 
@@ -21,12 +22,16 @@ Inv-loop s count from starts₀ lens₀ at₀ i₀ starts lens at i =
 abbrev μ-loop : tie.MeasureT-loop
 μ-loop s count from starts₀ lens₀ at₀ i₀ starts lens at i = count - i
 
+-- the start, from the loop's head
+abbrev began : tie.At-loop Inv-loop μ-loop → tie.Start Inv-loop μ-loop
+began l = l .before .before .before .before
+
 -- from where a name was looked for: the turn of the loop, the bytes, and the place and the size of the name
 abbrev turn : tie.After-find-name Inv-loop μ-loop → tie.In-loop Inv-loop μ-loop
 turn c = c .before .before .before .before .before .before .before .before
 
 abbrev bytes : tie.After-find-name Inv-loop μ-loop → List ℕ
-bytes c = now (turn c .before .before .before .args .s)
+bytes c = now (began (turn c .before) .args .s)
 
 abbrev start : tie.After-find-name Inv-loop μ-loop → ℕ
 start c = c .before .before .before .before .before .r2 .given .0 .0
@@ -46,18 +51,22 @@ found c = rw (← c .before .tail .ensures .holds) (c .find-name .ensures)
 loop-holds : tie.Need-loop-holds Inv-loop μ-loop
 loop-holds c = simp left-all (omega arith, refl, omega arith)
 
+-- where the list is refused, what is left is what the definition refuses with
 returns : tie.Need-returns Inv-loop μ-loop
 returns c =
-    let read = c .before .before .before .before in
-    let fault = sym (read .read-colour .ensures) ∙ c .before .before .r .given .1 in
-    c .refused-colours .ensures ∙ (simp (left-suc _ _ (read .before .loop-test .taken), fault) at (read .before .before .loop .inv .1))
+    let read = c .before .before .before .before .before .before in
+    let fault = sym (read .read-colour .ensures) ∙ c .before .before .before .before .r .given .1 in
+    let e = simp (left-suc _ _ (read .before .loop-test .taken), fault) at (read .before .before .loop .inv .1) in
+    told-of e (c .refuse-list .ensures)
 
 returns-2 : tie.Need-returns-2 Inv-loop μ-loop
 returns-2 c =
-    let f = c .before .before in
+    let blamed = c .before .before .before in
+    let f = blamed .before .before in
     let l = turn f .before .loop in
-    let again = subst (λ (k : ℕ). k < l .i) (found f) (omega (arith, c .before .if1 .taken)) in
-    c .refused-colours2 .ensures ∙ (simp (left-suc _ _ (turn f .loop-test .taken), colour f, lt-ltb _ _ again) at (l .inv .1))
+    let again = subst (λ (k : ℕ). k < l .i) (found f) (omega (arith, blamed .before .if1 .taken)) in
+    let e = simp (left-suc _ _ (turn f .loop-test .taken), colour f, lt-ltb _ _ again) at (l .inv .1) in
+    told-of e (rw (blamed .fault .ensures) at (c .refuse-list2 .ensures))
 
 cast-starts : tie.Need-cast-starts Inv-loop μ-loop
 cast-starts c = omega (arith, colour-lies _ _ _ _ (colour (c .before)))
@@ -77,9 +86,10 @@ loop-again c =
 
 returns-3 : tie.Need-returns-3 Inv-loop μ-loop
 returns-3 c =
-    let l = c .before .loop in
-    let end : l .i ≡ c .before .before .before .args .count = omega arith in
-    rw end at (simp (left-none _ _ (c .loop-test .left)) at (l .inv .1))
+    let l = c .before .before in
+    let end : l .loop .i ≡ began l .args .count = omega arith in
+    let all = rw end at (simp (left-none _ _ (c .before .loop-test .left)) at (l .loop .inv .1)) in
+    told-of all (record { fault = c .fault2 .ensures; count = refl; next = refl; starts = refl; lens = refl })
 
 pub read-names-spec : {M : Type 1} → statement M
 read-names-spec =
@@ -96,6 +106,7 @@ read-names-spec =
     (λ c κs. tt)
     (λ c κs. tt)
     (λ c κs. tt)
+    (λ c κs. tt)
     returns-2
     cast-starts
     (λ c. omega arith)
@@ -106,4 +117,5 @@ read-names-spec =
     (λ c. omega arith)
     (λ c. omega arith)
     loop-again
+    (λ c κs. tt)
     returns-3)

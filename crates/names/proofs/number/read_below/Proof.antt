@@ -1,5 +1,4 @@
 -- Each way to end is a case of the definition: the number's own fault, a number below the count, and one that is not.
-use mathlib.Core.Path.{_∙_, sym}
 use borrow.Author.Tests.{le-ltb, lt-ltb}
 use Rattle.names.specs.Number.{numberBelow}
 use borrow.Author.Needs.{needs}
@@ -8,17 +7,21 @@ use Rattle.names.proofs.number.read_below.Tie as tie
 
 returns : tie.Need-returns
 unfolding numberBelow
-returns c = simp (sym (c .before .before .before .read-number .ensures) ∙ c .before .r .given .1)
+returns c = simp (← c .before .before .before .read-number .ensures, c .before .r .given .1)
 
 returns-2 : tie.Need-returns-2
 unfolding numberBelow
-returns-2 c = simp ((sym (c .before .before .before .before .read-number .ensures) ∙ c .before .before .r2 .given .1), lt-ltb _ _ (c .if1 .taken))
+returns-2 c =
+    let v = c .before .before in
+    simp (← v .before .before .read-number .ensures, v .r2 .given .1, lt-ltb _ _ (c .if1 .taken))
 
 returns-3 : tie.Need-returns-3
 unfolding numberBelow
-returns-3 c = simp ((sym (c .before .before .before .before .read-number .ensures) ∙ c .before .before .r2 .given .1), le-ltb _ _ (c .if1 .left))
+returns-3 c =
+    let v = c .before .before .before in
+    simp (← v .before .before .read-number .ensures, v .r2 .given .1, le-ltb _ _ (c .before .if1 .left), c .fault .ensures)
 
 pub read-below-spec : {M : Type 1} → statement M
 read-below-spec =
     tie.close
-    (tie.spec (λ c κs. search needs) (λ c. search needs) (λ c. search needs) returns returns-2 returns-3)
+    (tie.spec (λ c κs. search needs) (λ c. search needs) (λ c. search needs) (λ c κs. search needs) returns returns-2 returns-3)

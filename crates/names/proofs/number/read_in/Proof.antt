@@ -7,11 +7,16 @@ use Rattle.names.proofs.number.read_in.Tie as tie
 
 returns : tie.Need-returns
 unfolding numberIn
-returns c = simp (← c .before .before .before .before .read-number .ensures, c .before .before .r2 .given .1, lt-ltb _ _ (c .if1 .taken))
+returns c =
+    let v = c .before .before .before in
+    simp (← v .before .before .read-number .ensures, v .r2 .given .1, lt-ltb _ _ (c .before .if1 .taken), c .fault .ensures)
 
 returns-2 : tie.Need-returns-2
 unfolding numberIn
-returns-2 c = simp (← c .before .before .before .before .before .read-number .ensures, c .before .before .before .r2 .given .1, le-ltb _ _ (c .before .if1 .left), lt-ltb _ _ (c .if2 .taken))
+returns-2 c =
+    let t = c .before in
+    let v = t .before .before .before in
+    simp (← v .before .before .read-number .ensures, v .r2 .given .1, le-ltb _ _ (t .before .if1 .left), lt-ltb _ _ (t .if2 .taken), c .fault2 .ensures)
 
 returns-3 : tie.Need-returns-3
 unfolding numberIn
@@ -19,7 +24,9 @@ returns-3 c = simp (← c .before .before .before .read-number .ensures, c .befo
 
 returns-4 : tie.Need-returns-4
 unfolding numberIn
-returns-4 c = simp (← c .before .before .before .before .before .read-number .ensures, c .before .before .before .r2 .given .1, le-ltb _ _ (c .before .if1 .left), le-ltb _ _ (c .if2 .left))
+returns-4 c =
+    let v = c .before .before .before in
+    simp (← v .before .before .read-number .ensures, v .r2 .given .1, le-ltb _ _ (c .before .if1 .left), le-ltb _ _ (c .if2 .left))
 
 pub read-in-spec : {M : Type 1} → statement M
 read-in-spec =
@@ -28,7 +35,9 @@ read-in-spec =
     (λ c κs. search needs)
     (λ c. search needs)
     (λ c. search needs)
+    (λ c κs. search needs)
     returns
+    (λ c κs. search needs)
     returns-2
     returns-3
     returns-4)

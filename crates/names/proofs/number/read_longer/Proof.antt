@@ -11,7 +11,7 @@ use Rattle.names.proofs.number.read_longer.Tie as tie
 
 returns : tie.Need-returns
 unfolding longerAt
-returns c = simp (le-leb _ _ (c .if1 .taken))
+returns c = simp (le-leb _ _ (c .before .if1 .taken)) (c .ends .ensures)
 
 cast-second : tie.Need-cast-second
 cast-second c = omega (arith, c .shared-slice-known2 .given (c .before .before .before .args .at + 1))
@@ -26,7 +26,9 @@ returns-2 c =
 
 returns-3 : tie.Need-returns-3
 unfolding longerAt
-returns-3 c = simp (lt-leb _ _ (c .before .before .before .if1 .left), le-ltb _ _ (c .before .if2 .left), le-leb _ _ (c .if3 .taken))
+returns-3 c =
+    let t = c .before in
+    simp (lt-leb _ _ (t .before .before .before .if1 .left), le-ltb _ _ (t .before .if2 .left), le-leb _ _ (t .if3 .taken)) (c .ends2 .ensures)
 
 cast-third : tie.Need-cast-third
 cast-third c = omega (arith, c .shared-slice-known3 .given (c .before .before .before .before .before .before .args .at + 2))
@@ -43,17 +45,19 @@ returns-4 c =
 returns-5 : tie.Need-returns-5
 unfolding longerAt
 returns-5 c =
-    let f = c .before .before in
+    let t = c .before in
+    let f = t .before .before in
     let g = f .before .before .before in
     let a = g .before .before .args in
-    let above : 128 ≤ getD (now (a .s)) (a .at + 2) 0 = omega (arith, c .if4 .left) in
-    simp (lt-leb _ _ (g .if1 .left), le-ltb _ _ (f .before .if2 .left), lt-leb _ _ (f .if3 .left), le-ltb _ _ above)
+    let above : 128 ≤ getD (now (a .s)) (a .at + 2) 0 = omega (arith, t .if4 .left) in
+    simp (lt-leb _ _ (g .if1 .left), le-ltb _ _ (f .before .if2 .left), lt-leb _ _ (f .if3 .left), le-ltb _ _ above, c .fault .ensures)
 
 pub read-longer-spec : {M : Type 1} → statement M
 read-longer-spec =
     tie.close
     (tie.spec
     (λ c. search needs)
+    (λ c κs. search needs)
     returns
     (λ c. search needs)
     (λ c. search needs)
@@ -64,6 +68,7 @@ read-longer-spec =
     (λ c κs. search needs)
     returns-2
     (λ c. search needs)
+    (λ c κs. search needs)
     returns-3
     (λ c. search needs)
     (λ c. search needs)
@@ -75,4 +80,5 @@ read-longer-spec =
     (λ c. search needs)
     (λ c κs. search needs)
     returns-4
+    (λ c κs. search needs)
     returns-5)

@@ -8,7 +8,7 @@ use Rattle.names.proofs.number.read_number.Tie as tie
 
 returns : tie.Need-returns
 unfolding numberAt
-returns c = simp (le-leb _ _ (c .if1 .taken))
+returns c = simp (le-leb _ _ (c .before .if1 .taken)) (c .ends .ensures)
 
 cast-first : tie.Need-cast-first
 cast-first c = omega (arith, c .shared-slice-known2 .given (c .before .before .before .args .at))
@@ -25,6 +25,7 @@ pub read-number-spec : {M : Type 1} → statement M
 read-number-spec =
     tie.close
     (tie.spec
+    (λ c κs. search needs)
     returns
     (λ c. search needs)
     cast-first
