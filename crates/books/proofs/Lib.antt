@@ -1,4 +1,5 @@
 pub mod Plainly
+pub mod LentRules
 pub mod SamePictures
 pub mod Gluing
 pub mod NothingEmpty

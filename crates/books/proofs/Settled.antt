@@ -10,12 +10,14 @@ use Rattle.names.proofs.Settled.{Settles, settles, SettlesPart, part-settles}
 pub use Rattle.names.proofs.Settled.{settled}
 use Rattle.books.specs.Book.{noFamily, bookOf}
 use Rattle.books.specs.Sheet.{sheetOf}
+use Rattle.books.specs.RuleBytes.{lentRules}
 use Rattle.books.specs.Order.{numberedSheet, orderOf}
 use Rattle.books.specs.Answer.{plain, blaming, packed}
 use Rattle.books.specs.Calls.{bookAnswer, sheetAnswer, ticketOf, shown, shownStart, shownPlace}
 use Rattle.books.specs.Draft.{WroteDraft}
 use Rattle.books.specs.declared.answer.Answer.{Answer}
 use Rattle.books.specs.declared.draft.Draft.{Draft}
+use Rattle.books.specs.declared.rule.Rule.{Rule}
 use Rattle.books.specs.declared.writing.Written.{Written}
 
 -- ── Answers ──
@@ -45,6 +47,9 @@ number-sheet-settled book c sheet = settles _
 
 pub read-order-settled : (book sheet : List ℕ) → Settles (orderOf book sheet)
 read-order-settled book sheet = settles _
+
+pub lend-settled : (rules : List Rule) (count : ℕ) → Settles (lentRules rules count)
+lend-settled rules count = settles _
 
 -- ── Calls ──
 

@@ -9,6 +9,7 @@ pub mod Keeps
 pub mod Grid
 pub mod ContentsIn
 pub mod Rules
+pub mod RuleBytes
 pub mod InTurn
 pub mod ReadsBook
 pub mod ReadsSheet

@@ -6,6 +6,7 @@ pub mod calls;
 mod cells;
 pub mod draft;
 pub mod family;
+pub mod lent;
 pub mod lookups;
 mod measuring;
 pub mod order;

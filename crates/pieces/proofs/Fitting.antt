@@ -18,7 +18,7 @@ use Rattle.pieces.specs.Direction.{reach}
 use Rattle.pieces.specs.View.{View}
 use Rattle.books.specs.Rules.{joinBody, noRule}
 use Rattle.pieces.specs.Choice.{cutOf, covers, fits, takes, lowest, chosen, choose}
-use Rattle.pieces.specs.inner.Lent.{directionOf}
+use Rattle.pieces.specs.Direction.{directionOf}
 use Rattle.names.proofs.Tests.{and-on, and-off}
 
 -- A piece is one cell of a colour where it has one row and one column and the cell has the colour.

@@ -24,7 +24,6 @@ pub mod Fitting
 pub mod Choosing
 pub mod TreeSteps
 pub mod Writing
-pub mod LentRules
 pub mod Nodes
 pub mod Giving
 pub mod EveryNode

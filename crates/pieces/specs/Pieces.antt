@@ -1,6 +1,6 @@
 -- The pieces of a sheet of m rows and n columns, in the order of the table, and the slot of each.
 use Prim.Native.Nat.{ℕ, zero, suc, _+_, _-_, _*_, _/_, _≤_}
-use mathlib.Core.List.{List, [], _∷_, _++_}
+use mathlib.Core.List.{List, [], _∷_}
 use Rattle.names.specs.Counted.{each}
 use Rattle.pieces.specs.declared.piece.Piece.{Piece}
 

@@ -3,7 +3,6 @@ pub mod Room
 pub mod NextTo
 pub mod Seen
 pub mod PartsOf
-pub mod Lent
 pub mod Fitted
 pub mod Course
 pub mod Firing

@@ -14,7 +14,8 @@ ghost use lib.ListN.{length};
 ghost use Rattle.pieces.specs.Choice.{covers, cutOf, fits, lowest, chosen, choose};
 ghost use Rattle.pieces.specs.inner.Room.{Room};
 ghost use Rattle.pieces.specs.inner.Fitted.{RuleFits};
-ghost use Rattle.pieces.specs.inner.Lent.{ruleFrom, rulesFrom, directionOf};
+ghost use Rattle.pieces.specs.Direction.{directionOf};
+ghost use Rattle.books.specs.RuleBytes.{ruleIn, rulesIn};
 ghost use Rattle.pieces.specs.inner.Seen.{On, Tabled, Ready, hasBit, hasColour, seen};
 
 // A colour rule, by its number; or a join, by its number, direction, cut and the motifs of its two parts.
@@ -66,7 +67,7 @@ fn direction(kind: u8) -> Direction
 // Whether a rule's body fits a piece, by the rule's bytes: a colour where the piece is one cell of it, a join where a cut works.
 fn rule_fits(work: &[u32], colours: &[u8], size: Size, p: Piece, rule: [u8; 4]) -> bool
     requires { ⌜ Ready size (now work) (now colours) × On size p ⌝ }
-    ensures { λ x. ⌜ x ≡ fits (seen size (now (work .entry)) (now (colours .entry))) p (ruleFrom rule .body) ⌝ }
+    ensures { λ x. ⌜ x ≡ fits (seen size (now (work .entry)) (now (colours .entry))) p (ruleIn rule .body) ⌝ }
 {
     if rule[1] == 0 {
         return covers(colours, size, p, rule[2]);
@@ -78,7 +79,7 @@ fn rule_fits(work: &[u32], colours: &[u8], size: Size, p: Piece, rule: [u8; 4]) 
 // The rules are tried in their order: the first that has the motif for its head and fits, or the number of the rules where none does.
 fn lowest_rule(rules: &[[u8; 4]], work: &[u32], colours: &[u8], size: Size, x: Part) -> usize
     requires { ⌜ Ready size (now work) (now colours) × On size (x .piece) ⌝ }
-    ensures { λ i. ⌜ i ≡ lowest (seen size (now (work .entry)) (now (colours .entry))) (rulesFrom (now (rules .entry))) (x .motif) (x .piece) ⌝ }
+    ensures { λ i. ⌜ i ≡ lowest (seen size (now (work .entry)) (now (colours .entry))) (rulesIn (now (rules .entry))) (x .motif) (x .piece) ⌝ }
 {
     let mut i = 0;
     while i < rules.len() {
@@ -96,7 +97,7 @@ fn lowest_rule(rules: &[[u8; 4]], work: &[u32], colours: &[u8], size: Size, x: P
 // What a rule gives at a piece, by its number and its bytes: itself where it is a colour rule, and a join with its smallest cut.
 fn chosen(work: &[u32], size: Size, p: Piece, i: usize, rule: [u8; 4]) -> Choice
     requires { ⌜ Tabled size (now work) × On size p ⌝ }
-    ensures { λ o. ⌜ o ≡ chosen (hasBit size (now (work .entry))) p i (ruleFrom rule .body) ⌝ }
+    ensures { λ o. ⌜ o ≡ chosen (hasBit size (now (work .entry))) p i (ruleIn rule .body) ⌝ }
 {
     if rule[1] == 0 {
         return Choice::Leaf(i);
@@ -109,8 +110,8 @@ fn chosen(work: &[u32], size: Size, p: Piece, i: usize, rule: [u8; 4]) -> Choice
 // What is taken at a piece where a rule fits: the lowest rule that does, so that there is one.
 pub(crate) fn choose(rules: &[[u8; 4]], work: &[u32], colours: &[u8], size: Size, x: Part) -> Choice
     requires { ⌜ Ready size (now work) (now colours) × On size (x .piece) ⌝ }
-    requires { ⌜ RuleFits (seen size (now work) (now colours)) (rulesFrom (now rules)) (x .motif) (x .piece) ⌝ }
-    ensures { λ o. ⌜ o ≡ choose (seen size (now (work .entry)) (now (colours .entry))) (rulesFrom (now (rules .entry))) (x .motif) (x .piece) ⌝ }
+    requires { ⌜ RuleFits (seen size (now work) (now colours)) (rulesIn (now rules)) (x .motif) (x .piece) ⌝ }
+    ensures { λ o. ⌜ o ≡ choose (seen size (now (work .entry)) (now (colours .entry))) (rulesIn (now (rules .entry))) (x .motif) (x .piece) ⌝ }
 {
     let i = lowest_rule(rules, work, colours, size, x);
     let rule = rules[i];

@@ -6,7 +6,6 @@ mod course;
 mod cut;
 pub mod derive;
 pub mod largest;
-mod lent;
 pub mod masks;
 mod part;
 pub mod piece;

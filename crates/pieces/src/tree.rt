@@ -4,13 +4,13 @@
 use crate::choice::Choice;
 use crate::choice::choose;
 use crate::cut::has;
-use crate::lent::lend;
 use crate::masks::MOST_RULES;
 use crate::part::Part;
 use crate::part::Parts;
 use crate::part::parts_of;
 use crate::piece::Piece;
 use crate::piece::Size;
+use books::lent::lend;
 use books::rule::Rule;
 ghost use mathlib.Core.Path.{_≡_};
 ghost use mathlib.Core.Bool.{true};
@@ -20,7 +20,7 @@ ghost use lib.ListN.{length, take};
 ghost use Rattle.pieces.specs.Area.{treeSize};
 ghost use Rattle.pieces.specs.inner.Fitted.{Fitted, PartFitted};
 ghost use Rattle.pieces.specs.inner.Layout.{mostRules};
-ghost use Rattle.pieces.specs.inner.Lent.{rulesFrom};
+ghost use Rattle.books.specs.RuleBytes.{rulesIn};
 ghost use Rattle.pieces.specs.inner.Seen.{On, wholeOf, Ready, hasBit, seen};
 ghost use Rattle.pieces.specs.inner.TreeWrote.{TreeWrote, partRoom, partsRoom, PartWrote, PartsWrote};
 ghost use Rattle.pieces.specs.inner.Verdict.{verdict, Judges};
@@ -48,8 +48,8 @@ fn pick_node(
 ) -> usize
     requires { ⌜ Ready size (now work) (now colours) × (length (now rules) ≤ mostRules) ⌝ }
     requires { ⌜ On size (x .piece) × (at + partRoom x ≤ length (now tree)) ⌝ }
-    requires { ⌜ PartFitted (seen size (now work) (now colours)) (rulesFrom (now rules)) x ⌝ }
-    ensures { λ r. ⌜ PartWrote (seen size (now (work .entry)) (now (colours .entry))) (rulesFrom (now (rules .entry))) x at (now (tree .entry)) (now (tree .exit)) r ⌝ }
+    requires { ⌜ PartFitted (seen size (now work) (now colours)) (rulesIn (now rules)) x ⌝ }
+    ensures { λ r. ⌜ PartWrote (seen size (now (work .entry)) (now (colours .entry))) (rulesIn (now (rules .entry))) x at (now (tree .entry)) (now (tree .exit)) r ⌝ }
 {
     let choice = choose(rules, work, colours, size, x);
     match choice {
@@ -81,9 +81,9 @@ fn write_parts(
 ) -> usize
     requires { ⌜ Ready size (now work) (now colours) × (length (now rules) ≤ mostRules) ⌝ }
     requires { ⌜ On size (parts .first .piece) × On size (parts .rest .piece) × (at + partsRoom parts ≤ length (now tree)) ⌝ }
-    requires { ⌜ PartFitted (seen size (now work) (now colours)) (rulesFrom (now rules)) (parts .first) ⌝ }
-    requires { ⌜ PartFitted (seen size (now work) (now colours)) (rulesFrom (now rules)) (parts .rest) ⌝ }
-    ensures { λ r. ⌜ PartsWrote (seen size (now (work .entry)) (now (colours .entry))) (rulesFrom (now (rules .entry))) parts at (now (tree .entry)) (now (tree .exit)) r ⌝ }
+    requires { ⌜ PartFitted (seen size (now work) (now colours)) (rulesIn (now rules)) (parts .first) ⌝ }
+    requires { ⌜ PartFitted (seen size (now work) (now colours)) (rulesIn (now rules)) (parts .rest) ⌝ }
+    ensures { λ r. ⌜ PartsWrote (seen size (now (work .entry)) (now (colours .entry))) (rulesIn (now (rules .entry))) parts at (now (tree .entry)) (now (tree .exit)) r ⌝ }
 {
     let next = pick_node(rules, work, colours, size, parts.first, tree, at);
     pick_node(rules, work, colours, size, parts.rest, tree, next)

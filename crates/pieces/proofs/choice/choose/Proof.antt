@@ -5,10 +5,10 @@ use native.Mathlib.Omega.{arith}
 use lib.ListN.{length, length-map}
 use denote.Ref.{now}
 use borrow.Author.Needs.{needs}
-use Rattle.pieces.specs.inner.Lent.{ruleFrom}
+use Rattle.books.specs.RuleBytes.{ruleIn}
 use Rattle.pieces.proofs.Choosing.{lowest-below}
 use Rattle.pieces.proofs.Fitting.{choose-rule}
-use Rattle.pieces.proofs.LentRules.{rule-of-row}
+use Rattle.books.proofs.LentRules.{rule-of-row}
 use Rattle.pieces.proofs.choice.choose.Statement.{statement}
 use Rattle.pieces.proofs.choice.choose.Tie as tie
 
@@ -20,7 +20,7 @@ below : (k : tie.After-lowest-rule) → k .lowest-rule .result < length (now (be
 below k =
     let s = began k in
     let rules = now (s .args .rules) in
-    omega (arith, k .lowest-rule .ensures, lowest-below _ _ _ _ (s .pre .1), length-map rules ruleFrom)
+    omega (arith, k .lowest-rule .ensures, lowest-below _ _ _ _ (s .pre .1), length-map rules ruleIn)
 
 mul-rule : tie.Need-mul-rule
 mul-rule c = let h = below c in search needs

@@ -2,17 +2,17 @@
 use borrow.Author.Needs.{needs}
 use borrow.Author.Tests.{eq-eqb, ne-eqb}
 use Rattle.pieces.specs.Choice.{chosen}
-use Rattle.pieces.specs.inner.Lent.{ruleFrom}
+use Rattle.books.specs.RuleBytes.{ruleIn}
 use Rattle.pieces.proofs.Fitting.{join-chosen}
 use Rattle.pieces.proofs.choice.chosen.Statement.{statement}
 use Rattle.pieces.proofs.choice.chosen.Tie as tie
 
 returns : tie.Need-returns
-unfolding chosen ruleFrom
+unfolding chosen ruleIn
 returns c = rw (eq-eqb _ 0 (c .if1 .taken))
 
 returns-2 : tie.Need-returns-2
-unfolding ruleFrom
+unfolding ruleIn
 returns-2 c =
     rw (ne-eqb _ 0 (c .before .before .if1 .left))
     (join-chosen _ _ _ _ _ _ (c .before .direction .ensures) (c .smallest-cut .ensures))

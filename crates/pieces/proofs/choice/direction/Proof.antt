@@ -1,6 +1,6 @@
 -- The test is that of the definition.
 use borrow.Author.Tests.{eq-eqb, ne-eqb}
-use Rattle.pieces.specs.inner.Lent.{directionOf}
+use Rattle.pieces.specs.Direction.{directionOf}
 use Rattle.pieces.proofs.choice.direction.Statement.{statement}
 use Rattle.pieces.proofs.choice.direction.Tie as tie
 

@@ -2,17 +2,17 @@
 use borrow.Author.Needs.{needs}
 use borrow.Author.Tests.{eq-eqb, ne-eqb}
 use Rattle.pieces.specs.Choice.{fits}
-use Rattle.pieces.specs.inner.Lent.{ruleFrom}
+use Rattle.books.specs.RuleBytes.{ruleIn}
 use Rattle.pieces.proofs.Fitting.{join-fits}
 use Rattle.pieces.proofs.choice.rule_fits.Statement.{statement}
 use Rattle.pieces.proofs.choice.rule_fits.Tie as tie
 
 returns : tie.Need-returns
-unfolding fits ruleFrom
+unfolding fits ruleIn
 returns c = rw (eq-eqb _ 0 (c .before .if1 .taken)) (c .covers .ensures)
 
 returns-2 : tie.Need-returns-2
-unfolding ruleFrom
+unfolding ruleIn
 returns-2 c =
     let k = c .before in
     rw (ne-eqb _ 0 (k .before .before .if1 .left), c .reach .ensures)

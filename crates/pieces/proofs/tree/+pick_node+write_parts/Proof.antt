@@ -9,7 +9,7 @@ use borrow.Author.Needs.{needs}
 use borrow.Fn.Kinds.{In}
 use borrow.Fn.PlainCycle.{Measures, is, falls, and}
 use Rattle.pieces.specs.Area.{area}
-use Rattle.pieces.specs.inner.Lent.{ruleFrom, rulesFrom}
+use Rattle.books.specs.RuleBytes.{ruleIn, rulesIn}
 use Rattle.pieces.specs.inner.Seen.{seen}
 use Rattle.pieces.specs.inner.TreeWrote.{partRoom, partTree}
 use Rattle.pieces.specs.inner.Fitted.{own}
@@ -76,11 +76,11 @@ module _ (t : ℕ) where
 
   known : (k : Choosing) →
       let a = node k .args in
-      Chose (a .size) (now (a .work)) (now (a .colours)) (rulesFrom (now (a .rules))) (a .x .motif) (a .x .piece) (k .choose .result)
+      Chose (a .size) (now (a .work)) (now (a .colours)) (rulesIn (now (a .rules))) (a .x .motif) (a .x .piece) (k .choose .result)
   known k =
       let g = node k .pre .1 in
       let a = node k .args in
-      let long = length-map (now (a .rules)) ruleFrom in
+      let long = length-map (now (a .rules)) ruleIn in
       record { ready = g .0 .0; in-sheet = g .1 .0 .0; few = omega (arith, long, g .0 .1); fitted = g .1 .1; choice = k .choose .ensures }
 
   room : (k : Choosing) → let a = node k .args in a .at + 2 ≤ length (now (a .tree))
@@ -97,7 +97,7 @@ module _ (t : ℕ) where
       let a = node (choosing k) .args in
       let x = k .before .choice2 .given .0 in
       let y = x .1 .1 .1 in
-      JoinFits (a .size) (now (a .work)) (now (a .colours)) (rulesFrom (now (a .rules))) (a .x .piece) (x .0) (x .1 .0) (x .1 .1 .0) (y .0) (y .1 .0)
+      JoinFits (a .size) (now (a .work)) (now (a .colours)) (rulesIn (now (a .rules))) (a .x .piece) (x .0) (x .1 .0) (x .1 .1 .0) (y .0) (y .1 .0)
   join k = join-fits (known (choosing k)) _ _ _ _ _ (k .before .choice2 .given .1)
 
   pick-node-choose-requires : pick-node-lts.Need-choose-requires (picks t) (pick-node-at t) pick-node.Post
@@ -175,7 +175,7 @@ module _ (t : ℕ) where
   began k = k .before .before .before .before .before
 
   first-room : (k : First) → let a = began k .args in
-      length (partTree (seen (a .size) (now (a .work)) (now (a .colours))) (rulesFrom (now (a .rules))) (a .parts .first)) ≡ partRoom (a .parts .first)
+      length (partTree (seen (a .size) (now (a .work)) (now (a .colours))) (rulesIn (now (a .rules))) (a .parts .first)) ≡ partRoom (a .parts .first)
   first-room k = let g = began k .pre .1 .1 in tree-length _ _ _ _ _ _ (g .0 .0) (g .1 .0)
 
   write-parts-pick-node-requires : write-parts-lts.Need-pick-node-requires (parts t) (write-parts-at t) write-parts.Post

@@ -5,6 +5,8 @@ use native.Mathlib.Omega.{arith}
 use lib.ListN.{length, take}
 use lib.Seq.{length-take-le}
 use denote.Ref.{now}
+use Rattle.books.specs.RuleBytes.{rulesIn}
+use Rattle.books.proofs.LentRules.{lent-back}
 use Rattle.pieces.specs.inner.Seen.{wholeOf, hasBit}
 use Rattle.pieces.specs.inner.Verdict.{verdict}
 use Rattle.pieces.proofs.Cutting.{whole-inside}
@@ -13,12 +15,15 @@ use borrow.Author.Needs.{needs}
 use Rattle.pieces.proofs.tree.judge.Statement.{statement}
 use Rattle.pieces.proofs.tree.judge.Tie as tie
 
--- After the rules were lent: where the call began, that as many rows stand as rules, and that the start motif has its bit of the whole sheet.
+-- After the rules were lent: where the call began, that as many rows stand as rules and have them, and that the start motif has its bit of the whole sheet.
 abbrev began : tie.After-lend → tie.Start
 began k = k .before .before .before .before .before .before
 
 long : (k : tie.After-lend) → length (take (began k .args .count) (k .lend .result)) ≡ began k .args .count
 long k = length-take-le (began k .args .count) (k .lend .result) (omega (arith, began k .pre .0 .0, k .lend .ok))
+
+lent : (k : tie.After-lend) → let a = began k .args in rulesIn (take (a .count) (k .lend .result)) ≡ take (a .count) (a .rules)
+lent k = lent-back _ _ (omega (arith, began k .pre .0 .0)) (k .lend .ensures)
 
 marked : (k : tie.After-lend) →
     let a = began k .args in
@@ -31,7 +36,7 @@ pick-node-requires c κs =
     let (g, fitted) = began k .pre in
     let sizes = g .1 .tabled .sizes in (
       (g .1, omega (arith, long k, g .0)),
-      ((whole-inside _ _ (sizes .rows-some) (sizes .cols-some), omega (arith, g .2)), rw (k .lend .ensures) (fitted (marked k))),
+      ((whole-inside _ _ (sizes .rows-some) (sizes .cols-some), omega (arith, g .2)), rw (lent k) (fitted (marked k))),
     )
 
 returns : tie.Need-returns
@@ -39,7 +44,7 @@ unfolding verdict
 returns c =
     let t = c .before .before in
     let k = t .before .before .before in
-    rw (marked k) (record { answers = refl; leaves = wrote-first (rw (k .lend .ensures) at (t .pick-node .ensures)) })
+    rw (marked k) (record { answers = refl; leaves = wrote-first (rw (lent k) at (t .pick-node .ensures)) })
 
 returns-2 : tie.Need-returns-2
 unfolding verdict

@@ -1,7 +1,7 @@
 -- The three bodies of a rule.
 use borrow.Author.Needs.{needs}
-use Rattle.pieces.proofs.lent.four.Statement.{statement}
-use Rattle.pieces.proofs.lent.four.Tie as tie
+use Rattle.books.proofs.lent.four.Statement.{statement}
+use Rattle.books.proofs.lent.four.Tie as tie
 
 returns : tie.Need-returns
 returns c = rw (c .before .b .given .1)

@@ -1,0 +1,60 @@
+-- Rules that are lent in rows of four bytes are the rules: each is taken back from its row.
+use Prim.Native.Nat.{ℕ, _+_, _-_, _≤_, _<_}
+use mathlib.Core.Path.{_≡_, refl, ap, ap₂, _∙_}
+use mathlib.Core.List.{List, [], _∷_, _++_, map, map-append, append-assoc}
+use native.Mathlib.Numerals.{add-one}
+use native.Mathlib.Omega.{arith}
+use lib.ListN.{length, getD, take, set, length-map, List·getD-map}
+use lib.Seq.{take-suc, take-all, take-at, set-at, length-take-le}
+use Rattle.books.specs.declared.rule.Rule.{Rule}
+use Rattle.books.specs.declared.rule.Body.{Body}
+use Rattle.books.specs.declared.rule.Body.the-variants.{Colour, Across, Down}
+use Rattle.books.specs.Rules.{noRule}
+use Rattle.books.specs.RuleBytes.{bodied, fourOf, lentRules, ruleIn, rulesIn}
+
+body-back : (a : ℕ) (x : Body) → ruleIn (bodied a x) ≡ record { head = a; body = x }
+unfolding ruleIn
+body-back a (Colour c) = refl
+body-back a (Across l r) = refl
+body-back a (Down u v) = refl
+
+pub rule-back : (r : Rule) → ruleIn (fourOf r) ≡ r
+rule-back r = body-back (r .head) (r .body)
+
+-- the i-th rule is that of the i-th row
+pub rule-of-row : (rows : List (List ℕ)) (i : ℕ) → getD (rulesIn rows) i noRule ≡ ruleIn (getD rows i [])
+unfolding ruleIn
+rule-of-row rows i = List·getD-map ruleIn rows i []
+
+rules-back : (rules : List Rule) → rulesIn (map fourOf rules) ≡ rules
+rules-back [] = refl
+rules-back (r ∷ rs) = ap₂ (λ (x : Rule) (xs : List Rule). x ∷ xs) (rule-back r) (rules-back rs)
+
+-- where there are as many rules as are lent, they stand in the first rows
+pub lent-back : (rules : List Rule) (count : ℕ) {rows : List (List ℕ)} → count ≤ length rules → rows ≡ lentRules rules count
+    → rulesIn (take count rows) ≡ take count rules
+unfolding lentRules
+lent-back rules count h e =
+    ap (λ (l : List (List ℕ)). rulesIn (take count l)) e
+    ∙ ap rulesIn (take-at (map fourOf (take count rules)) _ count (length-map (take count rules) fourOf ∙ length-take-le count rules h))
+    ∙ rules-back (take count rules)
+
+-- ── The loop ──
+
+-- one more rule is laid out
+pub lent-next : (rules : List Rule) (x : List ℕ) (i : ℕ) → i < length rules → i < 200 → x ≡ fourOf (getD rules i noRule)
+    → set (lentRules rules i) i x ≡ lentRules rules (i + 1)
+unfolding lentRules
+lent-next rules x i h g e =
+    let long : length (map fourOf (take i rules)) ≡ i = length-map (take i rules) fourOf ∙ length-take-le i rules (omega arith) in
+    let one : map fourOf (take (i + 1) rules) ≡ map fourOf (take i rules) ++ (x ∷ []) =
+    rw (add-one, take-suc rules i noRule, e) (map-append fourOf (take i rules) (getD rules i noRule ∷ [])) in
+    let left : 200 - i ≡ 200 - (i + 1) + 1 = omega arith in
+    rw (left, add-one (200 - (i + 1)), one, append-assoc) (set-at (map fourOf (take i rules)) _ _ x i long)
+
+-- more than all cannot be laid out
+pub lent-all : (rules : List Rule) (count : ℕ) → length rules ≤ 200 → 200 ≤ count → lentRules rules 200 ≡ lentRules rules count
+unfolding lentRules
+lent-all rules count h g =
+    let none : 200 - count ≡ 0 = omega arith in
+    rw (none, take-all 200 rules h, take-all count rules (omega arith))

@@ -1,0 +1,33 @@
+-- Rules in rows of four bytes: head and kind, then a colour, or two motifs, as a book spells them.
+use Prim.Native.Nat.{ℕ, _-_}
+use mathlib.Core.List.{List, [], _∷_, _++_, map}
+use lib.Dec.{eqb}
+use lib.ListN.{getD, take, replicate}
+use Rattle.names.specs.Pick.{pick}
+use Rattle.books.specs.Rules.{joinBody}
+use Rattle.books.specs.declared.rule.Rule.{Rule}
+use Rattle.books.specs.declared.rule.Body.{Body}
+use Rattle.books.specs.declared.rule.Body.the-variants.{Colour, Across, Down}
+
+abbrev pub bodied : ℕ → Body → List ℕ
+bodied head (Colour c) = head ∷ 0 ∷ c ∷ 0 ∷ []
+bodied head (Across l r) = head ∷ 1 ∷ l ∷ r ∷ []
+bodied head (Down u v) = head ∷ 2 ∷ u ∷ v ∷ []
+
+abbrev pub fourOf : Rule → List ℕ
+fourOf r = bodied (r .head) (r .body)
+
+-- the rows of the first rules, and rows of zeros behind them: 200 in all, as many as a family has room for
+unfoldable pub lentRules : List Rule → ℕ → List (List ℕ)
+lentRules rules count = map fourOf (take count rules) ++ replicate (200 - count) (replicate 4 0)
+
+-- the rule that stands in a row, and the rules that stand in rows
+unfoldable pub ruleIn : List ℕ → Rule
+ruleIn x =
+    record {
+      head = getD x 0 0;
+      body = pick (eqb (getD x 1 0) 0) (Colour (getD x 2 0)) (joinBody (getD x 1 0) (getD x 2 0) (getD x 3 0));
+    }
+
+abbrev pub rulesIn : List (List ℕ) → List Rule
+rulesIn rows = map ruleIn rows
