@@ -1,11 +1,15 @@
-// A small RIP: tells which sizes a family has, a sheet's job ticket, whether the sheet belongs to the family and how
-// that is made up or why not, and joins two families. Rows and columns are counted from 1, as people do.
+// A small RIP, to start a host from: tells which sizes a family has, a sheet's job ticket, whether the sheet belongs to
+// the family and how it is made up or why not, and, where a second book is given, joins the two families. Rows, columns
+// and bytes are counted from 1, as people do.
 //
 //     example BOOK SHEET [SECOND-BOOK]
+//
+// Exits with 0 where the sheet belongs to the family, 1 where it does not, and 2 where something is refused.
+#include <druvelstek.h>
 #include <stdio.h>
+#include <stdlib.h>
 
-#include "../include/druvelstek.h"
-#include "say.h"
+enum { BELONGS = 0, DECLINED = 1, REFUSED = 2 };
 
 static uint8_t book[DV_LONGEST_BOOK + 1], second[DV_LONGEST_BOOK + 1], sheet[DV_LONGEST_SHEET + 1];
 static size_t book_len, second_len, sheet_len;
@@ -14,13 +18,37 @@ static uint32_t work[DV_MOST_WORK];
 static uint16_t tree[DV_MOST_TREE];
 static uint32_t card[DV_CARD_ENTRIES];
 
-// What order entry offers; all else is greyed out.
-static void print_sizes(void)
+// Loads at most so many bytes of a file, and gives their number. One byte more than the longest that can be accepted is
+// enough to have a longer file refused.
+static size_t load(const char *path, uint8_t *bytes, size_t most)
+{
+    FILE *file = fopen(path, "rb");
+    size_t length = file == NULL ? 0 : fread(bytes, 1, most, file);
+    if (file == NULL || ferror(file)) {
+        perror(path);
+        exit(REFUSED);
+    }
+    fclose(file);
+    return length;
+}
+
+// Says what is answered of something, or which of a call's inputs is at fault, and where.
+static void say(const char *what, uint64_t answer, const char *first, const char *second_input)
+{
+    const char *text = dv_text(dv_number(answer));
+    if (dv_blamed(answer) == 0)
+        printf("%s: %s\n", what, text);
+    else
+        printf("%s: %s, at byte %zu\n", dv_blamed(answer) == 1 ? first : second_input, text, dv_place(answer) + 1);
+}
+
+// What order entry offers; all else is greyed out. Tells whether the book is a family's.
+static int print_sizes(void)
 {
     uint64_t answer = dv_size_card(book, book_len, card, DV_CARD_ENTRIES);
     if (dv_number(answer) != DV_ACCEPTED) {
-        say("the sizes", answer);
-        return;
+        say("the sizes", answer, "the book", "");
+        return 0;
     }
     printf("the family has %zu of %d sizes\n", dv_count(answer), DV_MOST_ROWS * DV_MOST_COLUMNS);
     for (size_t rows = 1; rows <= DV_MOST_ROWS; rows++) {
@@ -32,6 +60,7 @@ static void print_sizes(void)
                 printf(" %zu", columns);
         printf(" columns\n");
     }
+    return 1;
 }
 
 // Prints the panel of a node and the panels that it is cut into, and gives the node after them. The node names its rule
@@ -62,8 +91,8 @@ static void print_piece(uint64_t reason)
            top + dv_reason_height(reason), left + 1, left + dv_reason_width(reason));
 }
 
-// What the desk tells the client.
-static void print_reason(void)
+// What the desk tells the client of a sheet of so many rows and columns.
+static void print_reason(size_t rows, size_t columns)
 {
     uint64_t answer = dv_why_not(book, book_len, sheet, sheet_len, work, DV_MOST_WORK);
     switch (dv_reason_kind(answer)) {
@@ -72,59 +101,66 @@ static void print_reason(void)
                dv_reason_column(answer) + 1);
         break;
     case DV_REASON_SIZE:
-        printf("the family has no sheet of this size\n");
+        printf("the family has no sheet of %zu by %zu\n", rows, columns);
         break;
     case DV_REASON_PIECE:
         print_piece(answer);
         break;
     case DV_REASON_NO_PIECE:
-        printf("the family has sheets of this size, and no piece of this one belongs to it\n");
+        printf("the family has sheets of %zu by %zu, and no piece of this one belongs to it\n", rows, columns);
         break;
     default:
-        say("why not", answer);
+        say("why not", answer, "the book", "the sheet");
     }
 }
 
-static void print_ticket(void)
-{
-    uint64_t answer = dv_read_sheet(sheet, sheet_len);
-    if (dv_number(answer) == DV_ACCEPTED)
-        printf("job ticket %u\n", (unsigned)dv_ticket(answer));
-}
-
-static void derive(void)
+// Asks about the sheet, and gives what the program exits with.
+static int ask(void)
 {
     uint64_t answer = dv_derive(book, book_len, sheet, sheet_len, work, DV_MOST_WORK, tree, DV_MOST_TREE);
-    say("the sheet", answer);
-    if (dv_number(answer) == DV_ACCEPTED) {
-        uint64_t size = dv_sheet_size(sheet, sheet_len);
+    uint64_t size = dv_sheet_size(sheet, sheet_len);
+    if (size != 0)
+        printf("job ticket %u\n", (unsigned)dv_ticket(dv_read_sheet(sheet, sheet_len)));
+    say("the sheet", answer, "the book", "the sheet");
+    switch (dv_number(answer)) {
+    case DV_ACCEPTED:
         print_panel(tree, dv_size_rows(size), dv_size_columns(size), 0, 0);
+        return BELONGS;
+    case DV_NOT_DERIVED:
+        print_reason(dv_size_rows(size), dv_size_columns(size));
+        return DECLINED;
+    default:
+        return REFUSED;
     }
-    if (dv_number(answer) == DV_NOT_DERIVED)
-        print_reason();
 }
 
-static void join(void)
+// Joins the two families, and tells whether there is a book of both.
+static int join(void)
 {
     uint64_t answer = dv_beside(book, book_len, second, second_len, joined, sizeof joined);
-    say("the two families side by side", answer);
-    if (dv_number(answer) == DV_ACCEPTED)
-        printf("a book of %zu bytes\n", dv_count(answer));
+    say("the two families side by side", answer, "the book", "the second book");
+    if (dv_number(answer) != DV_ACCEPTED)
+        return 0;
+    printf("a book of %zu bytes\n", dv_count(answer));
+    return 1;
 }
 
 int main(int argc, char **argv)
 {
     if (argc < 3 || argc > 4) {
         fprintf(stderr, "usage: example BOOK SHEET [SECOND-BOOK]\n");
-        return 2;
+        return REFUSED;
     }
-    expect_version("example");
+    if (dv_version() != DV_VERSION) {
+        fprintf(stderr, "example: the archive has version %d, the header %d\n", (int)dv_version(), DV_VERSION);
+        return REFUSED;
+    }
     book_len = load(argv[1], book, sizeof book);
     sheet_len = load(argv[2], sheet, sizeof sheet);
-    second_len = load(argv[argc == 4 ? 3 : 1], second, sizeof second);
-    print_sizes();
-    print_ticket();
-    derive();
-    join();
-    return 0;
+    if (argc == 4)
+        second_len = load(argv[3], second, sizeof second);
+    if (!print_sizes())
+        return REFUSED;
+    int status = ask();
+    return argc == 4 && !join() ? REFUSED : status;
 }

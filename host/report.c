@@ -3,31 +3,62 @@
 //
 //     report BOOK RUN
 //
-// Exits with 0 where the run is reported on, and 1 where book or run is refused.
+// Exits with 0 where the run is reported on, and 2 where book or run is refused.
+#include <druvelstek.h>
 #include <stdio.h>
+#include <stdlib.h>
 
-#include "../include/druvelstek.h"
-#include "say.h"
+enum { REPORTED = 0, REFUSED = 2 };
 
 static uint8_t book[DV_LONGEST_BOOK + 1], run[DV_LONGEST_RUN + 1];
 static size_t book_len, run_len;
 static uint32_t work[DV_MOST_WORK], figures[DV_REPORT_ENTRIES];
 
+// Loads at most so many bytes of a file, and gives their number. One byte more than the longest that can be accepted is
+// enough to have a longer file refused.
+static size_t load(const char *path, uint8_t *bytes, size_t most)
+{
+    FILE *file = fopen(path, "rb");
+    size_t length = file == NULL ? 0 : fread(bytes, 1, most, file);
+    if (file == NULL || ferror(file)) {
+        perror(path);
+        exit(REFUSED);
+    }
+    fclose(file);
+    return length;
+}
+
+// Says which input is at fault and where, bytes counted from 1. Of the lengths in a run none is out of range, so that
+// there the number says that the whole run is too long.
+static void print_refusal(uint64_t answer)
+{
+    const char *text = dv_text(dv_number(answer)), *blamed = dv_blamed(answer) == 1 ? "the book" : "the run";
+    if (dv_blamed(answer) == 0)
+        printf("the report: %s\n", text);
+    else if (dv_blamed(answer) == 2 && dv_number(answer) == DV_OUT_OF_RANGE)
+        printf("the run: longer than %d bytes, the most that a run may have\n", DV_LONGEST_RUN);
+    else
+        printf("%s: %s, at byte %zu\n", blamed, text, dv_place(answer) + 1);
+}
+
+// So many of a thing, the word with an s where they are not one.
 static void print_count(uint32_t count, const char *what)
 {
-    printf("%u %s", (unsigned)count, what);
-    printf(count == 1 ? "\n" : "s\n");
+    printf("%u %s%s", (unsigned)count, what, count == 1 ? "" : "s");
 }
 
 static void print_answered(uint32_t count, unsigned number)
 {
-    if (count > 0)
-        printf("%u: %s\n", (unsigned)count, words[number]);
+    if (count == 0)
+        return;
+    print_count(count, "sheet");
+    printf(": %s\n", dv_text(number));
 }
 
 static void print_answers(void)
 {
     print_count(figures[DV_FIGURE_SHEETS], "sheet");
+    printf("\n");
     for (unsigned number = DV_ACCEPTED; number <= DV_BYTES_FOLLOW; number++)
         print_answered(figures[DV_FIGURE_ANSWERED + number], number);
     print_answered(figures[DV_FIGURE_NOT_DERIVED], DV_NOT_DERIVED);
@@ -40,6 +71,7 @@ static void print_cells(void)
     for (size_t colour = 0; (shown = dv_colour(book, book_len, colour)) != 0; colour++) {
         printf("%.*s: ", (int)dv_shown_length(shown), (const char *)book + dv_shown_place(shown));
         print_count(figures[DV_FIGURE_CELLS + colour], "cell");
+        printf("\n");
     }
 }
 
@@ -55,18 +87,21 @@ int main(int argc, char **argv)
 {
     if (argc != 3) {
         fprintf(stderr, "usage: report BOOK RUN\n");
-        return 2;
+        return REFUSED;
     }
-    expect_version("report");
+    if (dv_version() != DV_VERSION) {
+        fprintf(stderr, "report: the archive has version %d, the header %d\n", (int)dv_version(), DV_VERSION);
+        return REFUSED;
+    }
     book_len = load(argv[1], book, sizeof book);
     run_len = load(argv[2], run, sizeof run);
     uint64_t answer = dv_run_report(book, book_len, run, run_len, work, DV_MOST_WORK, figures, DV_REPORT_ENTRIES);
     if (dv_number(answer) != DV_ACCEPTED) {
-        say("the run", answer);
-        return 1;
+        print_refusal(answer);
+        return REFUSED;
     }
     print_answers();
     print_cells();
     print_tickets();
-    return 0;
+    return REPORTED;
 }

@@ -17,12 +17,13 @@
 //   tells when it does. dv_beside(f, f_len, g, g_len, g, room) reads names of g that it has written over: with the one
 //   colour "Navy" in f and "Red" in g it answers 0, and the new book has the inks "Navy" and "Nav". Slices that are
 //   only read may overlap: the same book may be given twice.
-// - The stack has room for DV_ENOUGH_STACK bytes.
-// With DV_CHECKED defined before this header is included, each call tests null, alignment and overlap by assert, which
-// NDEBUG takes out again.
+// - Of the calling thread's stack DV_ENOUGH_STACK bytes are free at the call.
+// With DV_CHECKED defined before this header is included, each call tests by assert, which NDEBUG takes out again, what
+// can be told from pointers and lengths: null, alignment, overlap, and a length that no memory has. Whether a pointer
+// is valid for its length, and how much stack is free, it cannot tell.
 //
 // Nothing is asked of what the slices hold. A call keeps no pointer and no state, takes no memory but stack, and writes
-// nothing but what its comment names; so any number of calls may run at once, on slices of their own to write.
+// nothing but what its comment names; so any number of threads may make calls at once, on slices of their own to write.
 #ifndef DRUVELSTEK_H
 #define DRUVELSTEK_H
 
@@ -53,8 +54,8 @@ uint64_t dv_version(void);
 #define DV_GREATEST_TICKET 2097151
 #define DV_LONGEST_RUN 65536
 
-// Stack that is enough for every call. No theorem says so: host/header measures it on the x86-64 code, with the deepest
-// input, a derivation of 23 levels, and fails where less than 8 kilobytes would be left.
+// Stack that is enough for every call, free when it is made. No theorem says so: host/header measures it on the x86-64
+// code, with the deepest input, a derivation of 23 levels, and fails where less than 8 kilobytes would be left.
 #define DV_ENOUGH_STACK 65536
 
 // Enough entries of the work slice and of the tree slice for every sheet.
@@ -76,14 +77,18 @@ enum dv_figure {
     DV_FIGURE_GREATEST = 77     // the greatest; likewise
 };
 
-// Entries of the work slice for a sheet of so many rows and columns, from 1 on: one for each of its pieces.
+// Entries of the work slice for a sheet of so many rows and columns: one for each of its pieces. Where there is no
+// cell, as in the size that dv_sheet_size shows for a refused sheet, there are none.
 static inline size_t dv_work_entries(size_t rows, size_t columns)
 {
     return rows * (rows + 1) / 2 * (columns * (columns + 1) / 2);
 }
 
-// Entries of the tree slice: rule and k for each of its nodes.
-static inline size_t dv_tree_entries(size_t rows, size_t columns) { return 2 * (2 * rows * columns - 1); }
+// Entries of the tree slice: rule and k for each of its nodes; none where there is no cell.
+static inline size_t dv_tree_entries(size_t rows, size_t columns)
+{
+    return rows == 0 || columns == 0 ? 0 : 2 * (2 * rows * columns - 1);
+}
 
 // The kinds of rules: a cell of one colour; a left and a right part; an upper and a lower part.
 enum dv_kind { DV_KIND_COLOUR = 0, DV_KIND_ACROSS = 1, DV_KIND_DOWN = 2 };
@@ -99,7 +104,8 @@ enum dv_answer_number {
     DV_ACCEPTED = 0,
     DV_ENDS_EARLY = 1,      // input ends inside or before something due; place: its length
     DV_MISSPELT = 2,        // last group of a longer number is 0, or third byte above 127; place: its first byte
-    DV_OUT_OF_RANGE = 3,    // a count, length, rows or columns outside its range; place: number's first byte
+    DV_OUT_OF_RANGE = 3,    // a count, length, rows or columns outside its range; place: number's first byte. Of
+                            // dv_run_report, blaming 2: the run is longer than DV_LONGEST_RUN; place: 0
     DV_NAME_BYTE = 4,       // name byte below 32 or above 126, or 32 as the name's first or last; place: that byte
     DV_NAME_TWICE = 5,      // name already in this list; place: first byte of the later name
     DV_NOT_BELOW_COUNT = 6, // motif or colour number not below its count; place: number's first byte
@@ -112,6 +118,45 @@ enum dv_answer_number {
     DV_OUT_SHORT = 13,      // output, card or figures slice shorter than the result
     DV_IN_FAMILY = 15       // the sheet is in the family, so that there is no reason why not
 };
+
+// A fixed text for each answer number, in English, to stand after what it is said of: the sheet: not in the family.
+static inline const char *dv_text(unsigned number)
+{
+    switch (number) {
+    case DV_ACCEPTED:
+        return "accepted";
+    case DV_ENDS_EARLY:
+        return "ends too early";
+    case DV_MISSPELT:
+        return "a number is misspelt";
+    case DV_OUT_OF_RANGE:
+        return "a count, a length, rows or columns out of range";
+    case DV_NAME_BYTE:
+        return "a byte that may not stand in a name, or a blank at either end of one";
+    case DV_NAME_TWICE:
+        return "a name stands twice";
+    case DV_NOT_BELOW_COUNT:
+        return "no motif or colour has this number";
+    case DV_NO_SUCH_KIND:
+        return "no such kind of rule";
+    case DV_BYTES_FOLLOW:
+        return "bytes follow the end";
+    case DV_WORK_SHORT:
+        return "the work slice is too short";
+    case DV_TREE_SHORT:
+        return "the tree slice is too short";
+    case DV_NOT_DERIVED:
+        return "not in the family";
+    case DV_TOO_MANY:
+        return "too many colours, motifs or rules";
+    case DV_OUT_SHORT:
+        return "the output, card or figures slice is too short";
+    case DV_IN_FAMILY:
+        return "in the family";
+    default:
+        return "no answer has this number";
+    }
+}
 
 // An answer is number + 2^8 * blamed + 2^12 * place + 2^32 * count; here it is taken apart. The count is the number of
 // bytes that a combination wrote, or of sizes on a card, or a sheet's ticket, or a reason, 0 on refusal and for every
@@ -132,8 +177,10 @@ uint64_t dv_read_sheet(const uint8_t *sheet, size_t sheet_len);
 // The ticket in an answer of dv_read_sheet.
 static inline uint32_t dv_ticket(uint64_t answer) { return (uint32_t)(answer >> 32); }
 
-// The look-ups, so that a host never reads the bytes of a book or a sheet itself. They have no answer number: 0 says
-// that there is nothing to show. Each reads its input whole each time.
+// The look-ups: a colour's name and a rule of a book, and a sheet's size; dv_read_sheet tells its ticket. A host reads
+// no bytes for these. No call shows a sheet's colours and cells, a book's start motif and its counts (those of colours
+// and rules are found by asking for one number after another), or the lengths in a run. Look-ups have no answer number:
+// 0 says that there is nothing to show. Each reads its input anew.
 
 // Shows the name of a colour, numbered from 0, as the part of the lent book that holds it: place + 2^32 * length, which
 // dv_shown_place and dv_shown_length take apart. A refused book, or a number not below the count of colours, shows an
@@ -262,10 +309,12 @@ uint64_t dv_transposed(const uint8_t *book, size_t book_len, uint8_t *out, size_
 
 #ifdef DV_CHECKED
 
-// Whether a slice is null only where it is empty, and is aligned.
-static inline int dv_is_lent(const void *slice, size_t length, size_t alignment)
+// Whether a slice of entries of so many bytes is null only where it is empty, is aligned, and ends where addresses do
+// at the latest: so its length in bytes is a size_t too.
+static inline int dv_is_lent(const void *slice, size_t length, size_t size)
 {
-    return (slice != NULL || length == 0) && (uintptr_t)slice % alignment == 0;
+    uintptr_t at = (uintptr_t)slice;
+    return (slice != NULL || length == 0) && at % size == 0 && length <= (SIZE_MAX - at) / size;
 }
 
 // Whether two slices, of so many bytes, have no byte in common.

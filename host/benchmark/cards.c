@@ -1,0 +1,17 @@
+// The size card of a book.
+#include "measure.h"
+
+static void size_card(const struct engine *timed, const struct task *task)
+{
+    static uint32_t card[DV_CARD_ENTRIES];
+    timed->size_card(task->first.at, task->first.length, card, DV_CARD_ENTRIES);
+}
+
+LINES(cards)
+{
+    struct family family;
+    struct task task = {.call = size_card, .unit = "a call", .units = 1};
+    press_family(&family, DV_MOST_RULES);
+    spell_book(&family, &task.first);
+    measure_line("size card, 200 rules", &task);
+}

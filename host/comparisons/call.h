@@ -1,0 +1,53 @@
+// One call made on both engines, for the files of calls/.
+#ifndef CALL_H
+#define CALL_H
+
+#include "compare.h"
+
+enum { SLICES = 2 };
+
+// An input; null where the call takes none.
+struct input {
+    const uint8_t *at;
+    size_t length;
+};
+
+// A slice that may be written: its entries, and the bytes of one entry.
+struct output {
+    size_t entries, size;
+};
+
+// What an engine is lent: its inputs, the slices that it may write, and a number where the call takes one.
+struct loan {
+    const uint8_t *in[SLICES];
+    size_t in_len[SLICES];
+    void *out[SLICES];
+    size_t out_len[SLICES];
+    size_t number;
+};
+
+struct call {
+    const char *name;
+    uint64_t (*ask)(const struct engine *engine, const struct loan *loan);
+    struct input input[SLICES];
+    struct output output[SLICES];
+    size_t number;
+};
+
+struct input all_of(const struct bytes *bytes);
+
+// Makes the call on both engines, and gives what both showed or answered. An answer's number is one of the list.
+uint64_t shown_by_both(struct call call);
+uint64_t answered_by_both(struct call call);
+
+// What a slice of the call last made holds, and what it held before.
+const void *held_after(int slice);
+const void *held_before(void);
+
+// Makes room for the slices, with bytes by chance, and has a call that reaches outside them noticed.
+void calls_begin(void);
+
+// What is wrong from here on is not wrong with the call last made.
+void forget_call(void);
+
+#endif

@@ -1,0 +1,53 @@
+// Reading, and the look-ups.
+#include "../call.h"
+
+static uint64_t ask_read_book(const struct engine *engine, const struct loan *loan)
+{
+    return engine->read_book(loan->in[0], loan->in_len[0]);
+}
+
+uint64_t compare_read_book(const struct bytes *book)
+{
+    return answered_by_both((struct call){.name = "dv_read_book", .ask = ask_read_book, .input = {all_of(book)}});
+}
+
+static uint64_t ask_read_sheet(const struct engine *engine, const struct loan *loan)
+{
+    return engine->read_sheet(loan->in[0], loan->in_len[0]);
+}
+
+uint64_t compare_read_sheet(const struct bytes *sheet)
+{
+    return answered_by_both((struct call){.name = "dv_read_sheet", .ask = ask_read_sheet, .input = {all_of(sheet)}});
+}
+
+static uint64_t ask_colour(const struct engine *engine, const struct loan *loan)
+{
+    return engine->colour(loan->in[0], loan->in_len[0], loan->number);
+}
+
+uint64_t compare_colour(const struct bytes *book, size_t number)
+{
+    return shown_by_both(
+        (struct call){.name = "dv_colour", .ask = ask_colour, .input = {all_of(book)}, .number = number});
+}
+
+static uint64_t ask_rule(const struct engine *engine, const struct loan *loan)
+{
+    return engine->rule(loan->in[0], loan->in_len[0], loan->number);
+}
+
+uint64_t compare_rule(const struct bytes *book, size_t number)
+{
+    return shown_by_both((struct call){.name = "dv_rule", .ask = ask_rule, .input = {all_of(book)}, .number = number});
+}
+
+static uint64_t ask_sheet_size(const struct engine *engine, const struct loan *loan)
+{
+    return engine->sheet_size(loan->in[0], loan->in_len[0]);
+}
+
+uint64_t compare_sheet_size(const struct bytes *sheet)
+{
+    return shown_by_both((struct call){.name = "dv_sheet_size", .ask = ask_sheet_size, .input = {all_of(sheet)}});
+}

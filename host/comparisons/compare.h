@@ -1,0 +1,40 @@
+// The comparison of the library with the independent engine. Each call below is made on both, with the same inputs and
+// with slices that hold the same bytes before; the answers, every lent slice and the canaries are compared after. The
+// first difference ends the program with the inputs shown.
+#ifndef COMPARE_H
+#define COMPARE_H
+
+#include "../shared/engine.h"
+#include "../shared/entries.h"
+#include "../shared/spell.h"
+
+// More than every result, and than every room that is asked for.
+enum { ROOMY_WORK = DV_MOST_WORK + 8, ROOMY_TREE = DV_MOST_TREE + 8, ROOMY_OUT = DV_LONGEST_BOOK + 8 };
+
+// A kind of comparisons, KIND(name) { .. }, stands in a file of this room that is named for it.
+#define KIND(name) ENTRY(name)
+
+// Ends the program: something is wrong with the call last made.
+void wrong(const char *what);
+
+// Each gives the answer that both engines gave. The same bytes as first and second are lent as one slice.
+uint64_t compare_read_book(const struct bytes *book);
+uint64_t compare_read_sheet(const struct bytes *sheet);
+uint64_t compare_colour(const struct bytes *book, size_t number);
+uint64_t compare_rule(const struct bytes *book, size_t number);
+uint64_t compare_sheet_size(const struct bytes *sheet);
+uint64_t compare_derive(const struct bytes *book, const struct bytes *sheet, size_t work_len, size_t tree_len);
+// The card is put into card, where that is not null and the answer is 0.
+uint64_t compare_size_card(const struct bytes *book, size_t card_len, uint32_t card[DV_CARD_ENTRIES]);
+uint64_t compare_why_not(const struct bytes *book, const struct bytes *sheet, size_t work_len);
+// The figures are put into figures, where that is not null and the answer is 0.
+uint64_t compare_run_report(const struct bytes *book, const struct run *run, size_t work_len, size_t figures_len,
+                            uint32_t figures[DV_REPORT_ENTRIES]);
+// The new book is put into made, where that is not null and the answer is 0.
+uint64_t compare_combination(enum combination combination, const struct bytes *first, const struct bytes *second,
+                             size_t out_len, struct bytes *made);
+
+// The same with rooms exact, one short, one over and none.
+void compare_rooms_of_combination(enum combination combination, const struct bytes *first, const struct bytes *second);
+
+#endif

@@ -1,0 +1,177 @@
+// The house example of docs/RULES.md, P1 to P12, on each engine by itself: here the outcomes are the page's own.
+#include <stdio.h>
+#include <stdlib.h>
+#include <string.h>
+
+#include "compare.h"
+
+#define SLATES 2, 7, 'S', 'l', 'a', 't', 'e', ' ', 'C', 7, 'S', 'l', 'a', 't', 'e', ' ', 'U'
+#define SLATES_TURNED 2, 7, 'S', 'l', 'a', 't', 'e', ' ', 'U', 7, 'S', 'l', 'a', 't', 'e', ' ', 'C'
+#define SLATE_ALONE 2, 5, 'S', 'l', 'a', 't', 'e', 7, 'S', 'l', 'a', 't', 'e', ' ', 'U'
+#define HOUSE_RULES 0, 1, 0, 0, 0, 2, 1, 2, 1, 0, 0, 2, 0, 1
+#define HOUSE_RULES_RAISED 3, 1, 3, 3, 3, 2, 4, 5, 4, 0, 0, 5, 0, 1
+#define BYTES(...) {sizeof((uint8_t[]){__VA_ARGS__}), {__VA_ARGS__}}
+
+static const struct bytes house = BYTES(SLATES, 3, 0, 4, HOUSE_RULES);
+static const struct bytes sheet_a = BYTES(SLATES, 0, 2, 3, 0, 0, 0, 1, 1, 1);
+static const struct bytes sheet_a_turned = BYTES(SLATES_TURNED, 0, 2, 3, 1, 1, 1, 0, 0, 0);
+static const struct bytes sheet_a_slate = BYTES(SLATE_ALONE, 0, 2, 3, 0, 0, 0, 1, 1, 1);
+static const struct bytes one_cell = BYTES(SLATES, 0, 1, 1, 0);
+static const struct bytes upright = BYTES(SLATES, 0, 2, 1, 0, 1);
+static const struct bytes lying = BYTES(SLATES, 0, 1, 2, 0, 1);
+static const struct bytes sheet_a_spoilt = BYTES(SLATES, 0, 2, 3, 0, 0, 0, 1, 0, 1);
+static const struct bytes upside_down = BYTES(SLATES, 0, 2, 3, 1, 1, 1, 0, 0, 0);
+
+static const uint32_t table_a[18] = {2, 2, 2, 4, 4, 4, 0, 0, 0, 0, 0, 0, 1, 1, 1, 1, 1, 1};
+static const uint16_t tree_a[22] = {0, 1, 1, 1, 2, 0, 3, 0, 0, 1, 1, 1, 2, 0, 3, 0, 1, 1, 2, 0, 3, 0};
+static const uint16_t tree_upright[6] = {1, 1, 2, 0, 3, 0};
+
+static const struct bytes house_transposed = BYTES(SLATES, 3, 0, 4, 0, 2, 0, 0, 0, 1, 1, 2, 1, 0, 0, 2, 0, 1);
+static const struct bytes house_beside = BYTES(SLATES, 7, 6, 9, HOUSE_RULES, HOUSE_RULES_RAISED, 6, 1, 0, 3);
+static const struct bytes house_run = BYTES(SLATES, 4, 3, 7, HOUSE_RULES, 3, 1, 0, 0, 3, 2, 1, 2, 3, 1, 0, 3);
+static const struct bytes house_either = BYTES(SLATES, 7, 6, 12, HOUSE_RULES, HOUSE_RULES_RAISED, 6, 1, 0, 0, 6, 2, 1,
+                                               2, 6, 1, 3, 3, 6, 2, 4, 5);
+
+// A book of four motifs and one rule, and a sheet of three rows and one column for job 4.
+static const struct bytes book_and_sheet = BYTES(2, 1, 'a', 1, 'b', 4, 3, 1, 0, 0, 0);
+
+static const struct engine *judged;
+
+static void expect(bool holds, const char *what)
+{
+    if (holds)
+        return;
+    fprintf(stderr, "compare: the %s engine does not keep the house example: %s\n", judged->name, what);
+    exit(1);
+}
+
+static uint64_t derive(const struct bytes *book, const struct bytes *sheet, uint32_t *work, uint16_t *tree)
+{
+    return judged->derive(book->at, book->length, sheet->at, sheet->length, work, DV_MOST_WORK, tree, DV_MOST_TREE);
+}
+
+// Whether a combination of the house book, with itself where it takes two, is this book.
+static bool makes(enum combination combination, const struct bytes *made)
+{
+    uint8_t out[DV_LONGEST_BOOK];
+    uint64_t answer = combine(judged, combination, house.at, house.length, house.at, house.length, out, sizeof out);
+    return answer == (uint64_t)made->length << 32 && memcmp(out, made->at, made->length) == 0;
+}
+
+static void expect_sheets(void)
+{
+    static uint32_t work[DV_MOST_WORK];
+    static uint16_t tree[DV_MOST_TREE];
+    expect(house.length == 34 && judged->read_book(house.at, house.length) == 0, "the house book");
+    expect(derive(&house, &sheet_a, work, tree) == 0 && memcmp(tree, tree_a, sizeof tree_a) == 0, "P1");
+    expect(memcmp(work, table_a, sizeof table_a) == 0, "P2");
+    memset(tree, 0xff, sizeof tree);
+    expect(derive(&house, &sheet_a_turned, work, tree) == 0 && memcmp(tree, tree_a, sizeof tree_a) == 0, "P3");
+    expect(derive(&house, &sheet_a_slate, work, tree) == 11, "P4");
+    expect(derive(&house, &one_cell, work, tree) == 11, "P5");
+    expect(derive(&house, &upright, work, tree) == 0 && memcmp(tree, tree_upright, sizeof tree_upright) == 0, "P6");
+    expect(derive(&house_transposed, &lying, work, tree) == 0 && derive(&house_transposed, &sheet_a, work, tree) == 11,
+           "P9, the sheets");
+    expect(derive(&house_beside, &upright, work, tree) == 11, "P10, the sheet");
+}
+
+static void expect_books(void)
+{
+    static const uint8_t misspelt[] = {128, 0};
+    struct bytes rules_200 = BYTES(1, 1, 'a', 1, 0, 200, 1);
+    rules_200.length += 200 * 3;
+    expect(judged->read_book(misspelt, sizeof misspelt) == (2 | 1 << 8), "P7");
+    expect(judged->read_book(rules_200.at, rules_200.length) == 0, "P8");
+    expect(makes(TRANSPOSED, &house_transposed), "P9, the book");
+    expect(house_beside.length == 52 && makes(BESIDE, &house_beside), "P10, the book");
+    expect(makes(RUN, &house_run), "P11");
+    expect(makes(EITHER_OF, &house_either), "P12");
+}
+
+// Whether the size card of a book is this one, with so many sizes.
+static bool has_card(const struct bytes *book, const uint32_t *expected, uint64_t sizes)
+{
+    uint32_t card[DV_CARD_ENTRIES];
+    return judged->size_card(book->at, book->length, card, DV_CARD_ENTRIES) == sizes << 32 &&
+           memcmp(card, expected, sizeof card) == 0;
+}
+
+// The house book has two rows and any columns; two of it side by side have at least two.
+static void expect_cards(void)
+{
+    static const uint32_t of_house[DV_CARD_ENTRIES] = {0, 0xfff}, of_two[DV_CARD_ENTRIES] = {0, 0xffe};
+    static const uint32_t transposed[DV_CARD_ENTRIES] = {2, 2, 2, 2, 2, 2, 2, 2, 2, 2, 2, 2};
+    expect(has_card(&house, of_house, 12), "its size card");
+    expect(has_card(&house_beside, of_two, 11), "the size card of two side by side");
+    expect(has_card(&house_transposed, transposed, 12), "the size card transposed");
+}
+
+static uint64_t why_not(const struct bytes *sheet, uint32_t *work)
+{
+    return judged->why_not(house.at, house.length, sheet->at, sheet->length, work, DV_MOST_WORK);
+}
+
+// The upper left cell has a colour that the house book lacks; there is no sheet of one cell; a wrong cell in the middle
+// leaves the first column whole; and upside down no piece is right.
+static void expect_reasons(void)
+{
+    static uint32_t work[DV_MOST_WORK];
+    expect(why_not(&sheet_a, work) == 15 && memcmp(work, table_a, sizeof table_a) == 0, "sheet A in the family");
+    expect(why_not(&sheet_a_slate, work) == UINT64_C(1) << 32, "the colour that no rule names");
+    expect(why_not(&one_cell, work) == UINT64_C(2) << 32 && work[0] == 2, "the size that it has not");
+    expect(why_not(&sheet_a_spoilt, work) == (3 | 2 << 13 | UINT64_C(1) << 18) << 32, "the largest piece");
+    expect(why_not(&upside_down, work) == UINT64_C(4) << 32, "no piece");
+}
+
+// Sheet A for job 7, the sheet of P4, one with no bytes, and that of P6 for job 3.
+static void expect_report(void)
+{
+    static const struct bytes run = BYTES(26, SLATES, 7, 2, 3, 0, 0, 0, 1, 1, 1, 24, SLATE_ALONE, 0, 2, 3, 0, 0, 0, 1,
+                                          1, 1, 0, 22, SLATES, 3, 2, 1, 0, 1);
+    static const uint32_t expected[DV_REPORT_ENTRIES] = {
+        [DV_FIGURE_SHEETS] = 4,      [DV_FIGURE_ANSWERED] = 2, [DV_FIGURE_ANSWERED + 1] = 1,
+        [DV_FIGURE_NOT_DERIVED] = 1, [DV_FIGURE_CELLS] = 4,    [DV_FIGURE_CELLS + 1] = 4,
+        [DV_FIGURE_ACCEPTED] = 1,    [DV_FIGURE_LEAST] = 3,    [DV_FIGURE_GREATEST] = 7};
+    static uint32_t work[DV_MOST_WORK];
+    uint32_t figures[DV_REPORT_ENTRIES];
+    expect(judged->run_report(house.at, house.length, run.at, run.length, work, DV_MOST_WORK, figures,
+                              DV_REPORT_ENTRIES) == 0 &&
+               memcmp(figures, expected, sizeof figures) == 0,
+           "the report of a run");
+}
+
+static void expect_lookups(void)
+{
+    static const uint64_t rules[] = {UINT64_C(0x100000100), UINT64_C(0x102010200), UINT64_C(0x100000001),
+                                     UINT64_C(0x100010002), 0};
+    expect(judged->colour(house.at, house.length, 1) == (10 | UINT64_C(7) << 32), "the name Slate U");
+    for (size_t i = 0; i < sizeof rules / sizeof *rules; i++)
+        expect(judged->rule(house.at, house.length, i) == rules[i], "the four rules");
+    expect(judged->sheet_size(sheet_a.at, sheet_a.length) == (2 | UINT64_C(3) << 32), "two rows and three columns");
+}
+
+KIND(house)
+{
+    static const struct engine *const engines[] = {&independent, &library};
+    for (int i = 0; i < 2; i++) {
+        judged = engines[i];
+        expect_sheets();
+        expect_books();
+        expect_cards();
+        expect_reasons();
+        expect_report();
+        expect_lookups();
+    }
+    if (compare_read_book(&book_and_sheet) != 0 || compare_read_sheet(&book_and_sheet) != UINT64_C(4) << 32)
+        wrong("bytes that are a book and a sheet alike are refused");
+    static const struct bytes empty = {0, {0}};
+    if (compare_read_book(&empty) != (1 | 1 << 8) || compare_read_sheet(&empty) != (1 | 1 << 8))
+        wrong("empty input is not refused with 1 at 0");
+    if (compare_derive(&house, &sheet_a, 18, 22) != 0 || compare_derive(&house, &sheet_a, 17, 22) != 9 ||
+        compare_derive(&house, &sheet_a, 18, 21) != 10)
+        wrong("sheet A wants a work slice of 18 and a tree slice of 22");
+    if (compare_why_not(&house, &sheet_a, 18) != 15 || compare_why_not(&house, &sheet_a, 17) != 9)
+        wrong("sheet A wants a work slice of 18");
+    if (compare_size_card(&house, 12, NULL) != UINT64_C(12) << 32 || compare_size_card(&house, 11, NULL) != 13)
+        wrong("a card wants a slice of 12");
+}

@@ -1,0 +1,68 @@
+#include "tally.h"
+
+#include <stdio.h>
+#include <stdlib.h>
+
+#include "../shared/chance.h"
+#include "call.h"
+
+enum { ENOUGH = 50, NO_ANSWER = 14 };
+
+static const char *kind;
+static uint64_t seed_of_run;
+static unsigned long comparisons, answers[DV_IN_FAMILY + 1], reasons[DV_REASON_NO_PIECE + 1];
+
+void say_kind(void)
+{
+    fprintf(stderr, "among the %s, seed %llu\n", kind, (unsigned long long)seed_of_run);
+}
+
+void count_comparison(void)
+{
+    comparisons++;
+}
+
+// 14 is no answer any more.
+void count_answer(unsigned number)
+{
+    if (number > DV_IN_FAMILY || number == NO_ANSWER)
+        wrong("both engines answer with a number that is no answer");
+    answers[number]++;
+}
+
+void count_reason(unsigned reason)
+{
+    reasons[reason]++;
+}
+
+static void expect_enough(unsigned long count, const char *what, unsigned number)
+{
+    if (count >= ENOUGH)
+        return;
+    fprintf(stderr, "compare: only %lu comparisons met %s %u\n", count, what, number);
+    exit(1);
+}
+
+void compare_kinds(uint64_t seed)
+{
+    size_t kinds;
+    const struct entry *of = entries(&kinds);
+    seed_of_run = seed;
+    chance_seed(seed);
+    calls_begin();
+    printf("compare: seed %llu:", (unsigned long long)seed);
+    for (size_t i = 0; i < kinds; i++) {
+        unsigned long before = comparisons;
+        kind = of[i].name;
+        forget_call();
+        of[i].act();
+        printf("%s %s %lu", i == 0 ? "" : ",", kind, comparisons - before);
+    }
+    printf("\n");
+    for (unsigned i = DV_ACCEPTED; i <= DV_IN_FAMILY; i++)
+        if (i != NO_ANSWER)
+            expect_enough(answers[i], "answer", i);
+    for (unsigned i = DV_REASON_COLOUR; i <= DV_REASON_NO_PIECE; i++)
+        expect_enough(reasons[i], "reason", i);
+    printf("compare: %lu comparisons, no difference\n", comparisons);
+}

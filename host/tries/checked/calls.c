@@ -1,0 +1,66 @@
+#include "calls.h"
+
+struct slice slice[SLICES];
+
+static uint64_t read_book(void) { return dv_read_book(slice[0].at, slice[0].length); }
+static uint64_t read_sheet(void) { return dv_read_sheet(slice[0].at, slice[0].length); }
+static uint64_t colour(void) { return dv_colour(slice[0].at, slice[0].length, 1); }
+static uint64_t rule(void) { return dv_rule(slice[0].at, slice[0].length, 1); }
+static uint64_t sheet_size(void) { return dv_sheet_size(slice[0].at, slice[0].length); }
+static uint64_t derive(void)
+{
+    return dv_derive(slice[0].at, slice[0].length, slice[1].at, slice[1].length, (uint32_t *)(void *)slice[2].at,
+                     slice[2].length, (uint16_t *)(void *)slice[3].at, slice[3].length);
+}
+static uint64_t size_card(void)
+{
+    return dv_size_card(slice[0].at, slice[0].length, (uint32_t *)(void *)slice[1].at, slice[1].length);
+}
+static uint64_t why_not(void)
+{
+    return dv_why_not(slice[0].at, slice[0].length, slice[1].at, slice[1].length, (uint32_t *)(void *)slice[2].at,
+                      slice[2].length);
+}
+static uint64_t run_report(void)
+{
+    return dv_run_report(slice[0].at, slice[0].length, slice[1].at, slice[1].length, (uint32_t *)(void *)slice[2].at,
+                         slice[2].length, (uint32_t *)(void *)slice[3].at, slice[3].length);
+}
+#define OF_TWO(name)                                                                                                   \
+    static uint64_t name(void)                                                                                         \
+    {                                                                                                                  \
+        return dv_##name(slice[0].at, slice[0].length, slice[1].at, slice[1].length, slice[2].at, slice[2].length);    \
+    }
+#define OF_ONE(name)                                                                                                   \
+    static uint64_t name(void) { return dv_##name(slice[0].at, slice[0].length, slice[1].at, slice[1].length); }
+OF_TWO(either_of)
+OF_TWO(beside)
+OF_TWO(above)
+OF_ONE(run)
+OF_ONE(stack)
+OF_ONE(mirrored)
+OF_ONE(flipped)
+OF_ONE(transposed)
+
+enum { ENDS_EARLY = DV_ENDS_EARLY | 1 << 8 };
+
+const struct call calls[] = {
+    {"dv_read_book", read_book, {BOOK}, {0}, ENDS_EARLY},
+    {"dv_read_sheet", read_sheet, {SHEET}, {0}, ENDS_EARLY},
+    {"dv_colour", colour, {BOOK}, {0}, 0},
+    {"dv_rule", rule, {BOOK}, {0}, 0},
+    {"dv_sheet_size", sheet_size, {SHEET}, {0}, 0},
+    {"dv_derive", derive, {BOOK, SHEET}, {sizeof(uint32_t), sizeof(uint16_t)}, ENDS_EARLY},
+    {"dv_size_card", size_card, {BOOK}, {sizeof(uint32_t)}, ENDS_EARLY},
+    {"dv_why_not", why_not, {BOOK, SHEET}, {sizeof(uint32_t)}, ENDS_EARLY},
+    {"dv_run_report", run_report, {BOOK, RUN}, {sizeof(uint32_t), sizeof(uint32_t)}, DV_OUT_SHORT},
+    {"dv_either_of", either_of, {BOOK, BOOK}, {1}, ENDS_EARLY},
+    {"dv_beside", beside, {BOOK, BOOK}, {1}, ENDS_EARLY},
+    {"dv_above", above, {BOOK, BOOK}, {1}, ENDS_EARLY},
+    {"dv_run", run, {BOOK}, {1}, ENDS_EARLY},
+    {"dv_stack", stack, {BOOK}, {1}, ENDS_EARLY},
+    {"dv_mirrored", mirrored, {BOOK}, {1}, ENDS_EARLY},
+    {"dv_flipped", flipped, {BOOK}, {1}, ENDS_EARLY},
+    {"dv_transposed", transposed, {BOOK}, {1}, ENDS_EARLY},
+};
+const size_t calls_count = sizeof calls / sizeof *calls;

@@ -1,0 +1,59 @@
+# Sourced by host/header: what the example and the report say of the samples, of sheets that are not in the family and of
+# files that are refused, and what they exit with.
+
+# says STATUS WORDS PROGRAM FILE..: the program exits so, and what it prints fits these words, a pattern.
+says() {
+    local expected=$1 words=$2 said status=0
+    shift 2
+    said=$("${emulator[@]}" "$made/$1" "${@:2}" 2>"$place/errors") || status=$?
+    [[ $status -eq $expected && $said == $words ]] || fail "$* ends with $status and says: $said$(cat "$place/errors")"
+}
+
+# of_sheet STATUS WORDS SHEET: asked about this sheet, spelt for printf, under the sample book.
+of_sheet() {
+    printf "$3" >"$place/sheet.bin"
+    says "$1" "$2" example "$book" "$place/sheet.bin"
+}
+
+# of_run STATUS WORDS RUN: likewise, a report on this run.
+of_run() {
+    printf "$3" >"$place/run.bin"
+    says "$1" "$2" report "$book" "$place/run.bin"
+}
+
+for file in book sheet; do
+    cmp "$samples/$file.bin" "$top/crates/belongs/data/$file.bin"
+done
+book=$samples/book.bin sheet=$samples/sheet.bin run=$samples/run.bin slates='\7Slate C\7Slate U'
+head -c 20 "$book" >"$place/cut-book.bin"
+head -c 20 "$sheet" >"$place/cut-sheet.bin"
+head -c 70000 /dev/zero >"$place/long.bin"
+
+says 0 '*12 of 144 sizes*job ticket 0*the sheet: accepted*side by side*one above the other*Slate U' \
+    example "$book" "$sheet"
+says 0 '*the two families side by side: accepted?a book of 52 bytes' example "$book" "$sheet" "$book"
+says 1 '*job ticket 301*not in the family*rows 1 to 2 of columns 2 to 3, *' example "$book" "$samples/declined.bin"
+of_sheet 1 '*row 2, column 3 has a colour that no rule names' "\3$slates\3Red\0\2\3\0\0\0\1\1\2"
+of_sheet 1 '*the family has no sheet of 1 by 1' "\2$slates\0\1\1\0"
+of_sheet 1 '*sheets of 2 by 3, and no piece of this one belongs*' "\2$slates\0\2\3\1\1\1\0\0\0"
+of_sheet 0 '*job ticket 16384?the sheet: accepted*' "\2$slates\200\200\1\2\1\0\1"
+of_sheet 2 '*the sheet: bytes follow the end, at byte 27' "\2$slates\0\2\3\0\0\0\1\1\1\0"
+says 2 'the book: ends too early, at byte 21' example "$place/cut-book.bin" "$sheet"
+says 2 '*the sheet: ends too early, at byte 21' example "$book" "$place/cut-sheet.bin"
+says 2 '*the second book: ends too early, at byte 21' example "$book" "$sheet" "$place/cut-book.bin"
+says 2 '' example "$book" "$place/missing.bin"
+
+says 0 "5 sheets
+2 sheets: accepted
+1 sheet: ends too early
+2 sheets: not in the family
+Slate C: 4 cells
+Slate U: 4 cells
+job tickets 300 to 302" report "$book" "$run"
+of_run 0 "0 sheets*no sheet is accepted*" ''
+of_run 2 'the run: a number is misspelt, at byte 1' '\200\0'
+of_run 2 'the run: ends too early, at byte 3' '\0\3'
+says 2 'the run: longer than 65536 bytes, *' report "$book" "$place/long.bin"
+says 2 'the book: ends too early, at byte 21' report "$place/cut-book.bin" "$run"
+says 2 '' report "$book" "$place/missing.bin"
+echo "header: example and report say what they should, and exit as they should"
