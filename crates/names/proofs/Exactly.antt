@@ -11,7 +11,8 @@ use lib.ListN.{length, getD}
 use lib.Dec.{ltb, leb, eqb}
 use Rattle.names.specs.Number.{lastGroup, longerAt, numberAt, numberIn, numberBelow}
 use Rattle.names.specs.Name.{leastAt, Shown, nameFrom, nameOf}
-use Rattle.names.specs.Reads.{Reads, nothing-there, ends-after-one, ends-after-two, second-zero, third-misspelt, one-byte, two-bytes, three-bytes, ReadsIn, in-range, out-of-range, no-number, ReadsBelow, below-count, not-below, none-below, AllShown, ReadsName, whole, ends, bad}
+use Rattle.names.specs.Reads.{Reads, nothing-there, ends-after-one, ends-after-two, second-zero, third-misspelt, one-byte, two-bytes, three-bytes, ReadsIn, in-range, out-of-range, no-number}
+use Rattle.names.specs.Reads.{ReadsBelow, below-count, not-below, none-below, AllShown, ReadsName, whole, ends, bad}
 use Rattle.names.specs.declared.number.Read.{Read}
 use Rattle.names.specs.declared.number.Read.the-variants.{Value, Refused}
 use Rattle.names.specs.declared.name.NameRead.{NameRead}

@@ -13,18 +13,19 @@ use Rattle.names.specs.Pick.{pick}
 use Rattle.names.specs.Onward.{onward, faultless}
 use Rattle.names.specs.Number.{longerAt, numberAt, numberIn, numberBelow}
 use Rattle.names.specs.Name.{Name, nameFrom, nameOf}
+use Rattle.names.specs.Spelling.{longestName, mostColours}
 use Rattle.names.specs.Colours.{nameIn, namesFrom, namesIn, findName, namedAt, colourAt, afterColour, noColours, refusedColours, withColour, coloursFrom, coloursOf}
 use Rattle.names.specs.declared.number.Fault.{Fault}
 use Rattle.names.specs.declared.number.Read.{Read}
 use Rattle.names.specs.declared.number.Read.the-variants.{Value, Refused}
 use Rattle.names.specs.declared.name.NameRead.{NameRead}
 use Rattle.names.specs.declared.name.NameRead.the-variants.{Whole, Ends, Bad}
-use Rattle.names.specs.declared.colours.ColourRead.{ColourRead}
-use Rattle.names.specs.declared.colours.ColourRead.the-variants.{At, Refused as RefusedColour}
+use Rattle.names.specs.declared.colour.ColourRead.{ColourRead}
+use Rattle.names.specs.declared.colour.ColourRead.the-variants.{At, Refused as RefusedColour}
 use Rattle.names.specs.declared.colours.Colours.{Colours}
 use Rattle.names.proofs.ReadingNumbers.{number-in}
 use Rattle.names.proofs.ReadingNames.{name-ends}
-use Rattle.names.proofs.ReadingColours.{Places, places-none, places-with, colour-lies}
+use Rattle.names.proofs.ReadingColours.{colourSpan, listSpan, Places, places-none, places-with, colour-lies}
 
 -- what is read alike goes on alike
 pub onward-same {ℓ} : {A : Type ℓ} (refuse : Fault → A) (r q : Read) (go to : ℕ → ℕ → A) → r ≡ q
@@ -99,12 +100,12 @@ module _ (t u : List ℕ) where
 
   -- ── Colours ──
 
-  colour-far : (at : ℕ) → at + 43 < length t → colourAt (t ++ u) at ≡ colourAt t at
+  colour-far : (at : ℕ) → at + colourSpan < length t → colourAt (t ++ u) at ≡ colourAt t at
   unfolding colourAt
   colour-far at h =
-      onward-same RefusedColour (numberIn (t ++ u) at 1 40) (numberIn t at 1 40) _ _ (number-in-far at 1 40 (omega arith))
+      onward-same RefusedColour (numberIn (t ++ u) at 1 longestName) (numberIn t at 1 longestName) _ _ (number-in-far at 1 longestName (omega arith))
       (λ len start e.
-      let g = number-in t at 1 40 len start e in
+      let g = number-in t at 1 longestName len start e in
       let near : start + len < length t = omega (arith, g .near, g .high) in
       rw (name-far start len (omega arith)) (named-far start len (nameOf (drop start t) len) near refl))
 
@@ -129,22 +130,22 @@ module _ (t u : List ℕ) where
       → findName (t ++ u) c (take len (drop start (t ++ u))) ≡ findName t c (take len (drop start t))
   find-far c start len g h = rw (part-far start len h, find-name-far c (take len (drop start t)) g)
 
-  colours-from-far : (k : ℕ) (c : Colours) (at : ℕ) → Places t c → c .count + k ≤ 64 → at + 43 * k < length t → coloursFrom (t ++ u) c at k ≡ coloursFrom t c at k
+  colours-from-far : (k : ℕ) (c : Colours) (at : ℕ) → Places t c → c .count + k ≤ mostColours → at + colourSpan * k < length t → coloursFrom (t ++ u) c at k ≡ coloursFrom t c at k
   colours-from-far zero c at g few h = refl
   colours-from-far (suc k) c at g few h =
       after-colour-same refusedColours (colourAt (t ++ u) at) (colourAt t at) _ _ (colour-far at (omega arith))
       (λ start len e.
       let l = colour-lies t at start len e in
-      let room : c .count < 64 = omega arith in
+      let room : c .count < mostColours = omega arith in
       rw (
         find-far c start len g (l .inside),
         colours-from-far k (withColour c start len) (start + len) (places-with t c start len g room (l .inside)) (omega arith) (omega (arith, l .near, l .high)),
       ))
 
-  pub colours-far : 2755 < length t → coloursOf (t ++ u) ≡ coloursOf t
+  pub colours-far : listSpan < length t → coloursOf (t ++ u) ≡ coloursOf t
   unfolding coloursOf
   colours-far h =
-      onward-same refusedColours (numberIn (t ++ u) 0 1 64) (numberIn t 0 1 64) _ _ (number-in-far 0 1 64 (omega arith))
+      onward-same refusedColours (numberIn (t ++ u) 0 1 mostColours) (numberIn t 0 1 mostColours) _ _ (number-in-far 0 1 mostColours (omega arith))
       (λ count next e.
-      let g = number-in t 0 1 64 count next e in
+      let g = number-in t 0 1 mostColours count next e in
       colours-from-far count noColours next (places-none t) (omega (arith, g .high)) (omega (arith, g .near, g .high)))

@@ -2,20 +2,23 @@
 use Prim.Native.Nat.{ℕ, _+_, _-_, _<_, _≤_}
 use mathlib.Core.Path.{_≡_}
 use mathlib.Core.Bool.{true, false}
-use mathlib.Core.List.{List}
+use mathlib.Core.List.{List, List·Memᴰ}
+use mathlib.Core.Logic.{⊎-elim}
 use native.Mathlib.Omega.{arith}
 use borrow.Author.Tests.{le-ltb, lt-leb}
 use Rattle.names.specs.Name.{Name, sameName, listed}
+use Rattle.names.specs.Spelling.{mostColours}
 use Rattle.names.specs.Colours.{nameIn, namesFrom, namesIn, findName, findIn}
 use Rattle.names.specs.declared.colours.Colours.{Colours}
 use lib.Dec.{ltb}
 use Rattle.names.proofs.Count.{left-all, left-suc, left-none}
 use Rattle.names.proofs.Picking.{pick-ind}
-use Rattle.names.proofs.Listing.{listed-le}
+use Rattle.names.proofs.Tests.{lt-or-le}
+use Rattle.names.proofs.Listing.{listed-le, listed-mem, listed-found}
 use Rattle.names.proofs.ReadingColours.{names-count}
 
 -- in a list that can be, the name's number is found
-pub find-listed : (s : List ℕ) (c : Colours) (n : Name) → c .count ≤ 64 → findName s c n ≡ listed (namesIn s c) n
+pub find-listed : (s : List ℕ) (c : Colours) (n : Name) → c .count ≤ mostColours → findName s c n ≡ listed (namesIn s c) n
 unfolding findName
 find-listed s c n h = simp (le-ltb _ _ h)
 
@@ -23,15 +26,27 @@ find-listed s c n h = simp (le-ltb _ _ h)
 pub find-few : (s : List ℕ) (c : Colours) (n : Name) → findName s c n ≤ c .count
 unfolding findName
 find-few s c n =
-    pick-ind (λ k. k ≤ c .count) (ltb 64 (c .count)) (c .count) (listed (namesIn s c) n)
+    pick-ind (λ k. k ≤ c .count) (ltb mostColours (c .count)) (c .count) (listed (namesIn s c) n)
     (λ _. omega arith)
     (λ _. omega (arith, listed-le (namesIn s c) n, names-count s c))
 
+-- a name stands among those of a list exactly where it is found below the count
+module _ (s : List ℕ) (c : Colours) (n : Name) (few : c .count ≤ mostColours) where
+  pub found-mem : findName s c n < c .count → List·Memᴰ n (namesIn s c)
+  found-mem h = listed-mem (namesIn s c) n (omega (arith, find-listed s c n few, names-count s c))
+
+  pub mem-found : List·Memᴰ n (namesIn s c) → findName s c n < c .count
+  mem-found m = omega (arith, listed-found (namesIn s c) n m .0, find-listed s c n few, names-count s c)
+
+  pub absent-unfound : (List·Memᴰ n (namesIn s c) → ⊥) → c .count ≤ findName s c n
+  absent-unfound out = ⊎-elim (λ (h : findName s c n < c .count). absurd (out (found-mem h))) (λ h. h) (lt-or-le _ _)
+
 -- a colour of another list is found by its name
-pub find-in-listed : (s : List ℕ) (c : Colours) (t : List ℕ) (d : Colours) (i : ℕ) → i < d .count → d .count ≤ 64 → findIn s c t d i ≡ findName s c (nameIn t d i)
+pub find-in-listed : (s : List ℕ) (c : Colours) (t : List ℕ) (d : Colours) (i : ℕ) → i < d .count → d .count ≤ mostColours
+    → findIn s c t d i ≡ findName s c (nameIn t d i)
 unfolding findIn
 find-in-listed s c t d i h few =
-    let low : i < 64 = omega arith in
+    let low : i < mostColours = omega arith in
     simp (lt-leb _ _ h, lt-leb _ _ low)
 
 -- what is found from the i-th colour on, where it is looked for among the first so many

@@ -14,12 +14,14 @@ pub mod Finding
 pub mod ReadingNames
 pub mod ReadingColours
 pub mod ToldInParts
+pub mod FreshNames
 pub mod SpellingColours
 pub mod Examples
 pub mod SpelledBytes
 pub mod LongestColours
 pub mod Exactly
 pub mod FirstFault
+pub mod ReachedNames
 pub mod ListExactly
 pub mod FarBytes
 pub mod Settled

@@ -2,14 +2,14 @@
 -- the next length and name, so that it stops where one of them is refused, and nowhere else.
 use Prim.Native.Nat.{ℕ, zero, suc, _+_, _-_, _<_, _≤_}
 use mathlib.Core.Path.{_≡_, refl, sym, _∙_, ap, subst}
-use mathlib.Core.List.{List, [], _∷_, _++_, List·Memᴰ}
+use mathlib.Core.List.{List, List·Memᴰ}
 use mathlib.Core.Logic.{_↔_, _⊎_, inl, inr, ⊎-elim}
 use native.Mathlib.Omega.{arith}
-use borrow.Author.Tests.{lt-ltb, le-ltb}
-use lib.ListN.{length, drop, length-append}
+use lib.ListN.{length, drop}
 use Rattle.names.specs.Pick.{fault}
 use Rattle.names.specs.Number.{numberIn}
 use Rattle.names.specs.Name.{Name, nameOf}
+use Rattle.names.specs.Spelling.{longestName, mostColours}
 use Rattle.names.specs.Reads.{ReadsIn, ReadsName}
 use Rattle.names.specs.ReadsList.{bytesAt, Reached, counted, one-more, ListRead, NameFault, cut-short, bad-byte, twice, ListFault, no-count, no-length, no-name}
 use Rattle.names.specs.Colours.{namesIn, findName, namedAt, colourAt, noColours, refusedColours, withColour, coloursFrom, coloursOf}
@@ -18,84 +18,18 @@ use Rattle.names.specs.declared.number.Read.{Read}
 use Rattle.names.specs.declared.number.Read.the-variants.{Value, Refused}
 use Rattle.names.specs.declared.name.NameRead.{NameRead}
 use Rattle.names.specs.declared.name.NameRead.the-variants.{Whole, Ends, Bad}
-use Rattle.names.specs.declared.colours.ColourRead.the-variants.{At, Refused as RefusedColour}
+use Rattle.names.specs.declared.colour.ColourRead.the-variants.{Refused as RefusedColour}
 use Rattle.names.specs.declared.colours.Colours.{Colours}
 use Rattle.names.specs.declared.colours.ColoursRead.{ColoursRead}
 use Rattle.names.proofs.Tests.{lt-or-le}
 use Rattle.names.proofs.FirstFault.{FirstFault, first-fault}
-use Rattle.names.proofs.Listing.{listed-mem, listed-found}
-use Rattle.names.proofs.Finding.{find-listed}
 use Rattle.names.proofs.ReadingColours.{Places, places-none, places-with, names-with, names-count, colour-lies, colours-lie}
 use Rattle.names.proofs.ReadingNumbers.{number-in}
 use Rattle.names.proofs.Exactly.{number-in-exactly, name-exactly}
+use Rattle.names.proofs.Finding.{found-mem, mem-found}
+use Rattle.names.proofs.ReachedNames.{sized, unsized, step-refused, step-twice, step-on, GoesOn, reached-on}
 
--- ── One name ──
-
--- a name stands among those of a list exactly where it is found below the count
-module _ (s : List ℕ) (c : Colours) (n : Name) (few : c .count ≤ 64) where
-  found-mem : findName s c n < c .count → List·Memᴰ n (namesIn s c)
-  found-mem h = listed-mem (namesIn s c) n (omega (arith, find-listed s c n few, names-count s c))
-
-  mem-found : List·Memᴰ n (namesIn s c) → findName s c n < c .count
-  mem-found m = omega (arith, listed-found (namesIn s c) n m .0, find-listed s c n few, names-count s c)
-
--- the colour that stands at a place, by its length and its name
-sized : (s : List ℕ) (at len start : ℕ) → ReadsIn s at 1 40 (Value len start) → colourAt s at ≡ namedAt s start len (nameOf (drop start s) len)
-unfolding colourAt
-sized s at len start h = rw (number-in-exactly s at 1 40 _ .1 h)
-
-unsized : (s : List ℕ) (at : ℕ) (f : Fault) → ReadsIn s at 1 40 (Refused f) → colourAt s at ≡ RefusedColour f
-unfolding colourAt
-unsized s at f h = rw (number-in-exactly s at 1 40 _ .1 h)
-
--- ── One step ──
-
-module _ (s : List ℕ) (c : Colours) (at k : ℕ) where
-  step-refused : (f : Fault) → colourAt s at ≡ RefusedColour f → coloursFrom s c at (suc k) ≡ refusedColours f
-  step-refused f e = rw e
-
-  step-twice : (start len : ℕ) → colourAt s at ≡ At start len → findName s c (bytesAt s start len) < c .count
-      → coloursFrom s c at (suc k) ≡ refusedColours (fault 5 start)
-  step-twice start len e h = rw (e, lt-ltb _ _ h)
-
-  step-on : (start len : ℕ) → colourAt s at ≡ At start len → c .count ≤ findName s c (bytesAt s start len)
-      → coloursFrom s c at (suc k) ≡ coloursFrom s (withColour c start len) (start + len) k
-  step-on start len e h = rw (e, le-ltb _ _ h)
-
--- ── Where reading has got to ──
-
--- reading the list goes on from the names read so far
-pub record GoesOn (s : List ℕ) (count : ℕ) (ns : List Name) (at : ℕ) : Type 0 where
-  pub colours : Colours
-  pub places : Places s colours
-  pub names : namesIn s colours ≡ ns
-  pub many : count ≤ 64
-  pub on : coloursOf s ≡ coloursFrom s colours at (count - length ns)
-
-reached-on : (s : List ℕ) (count : ℕ) {ns : List Name} {at : ℕ} → Reached s count ns at → GoesOn s count ns at
-unfolding coloursOf
-reached-on s count {ns} {at} (counted h e) =
-    let read = number-in-exactly s 0 1 64 _ .1 h in
-    let all : count ≡ count - length ns = omega (arith, ap length e) in
-    record { colours = noColours; places = places-none s; names = sym e; many = number-in s 0 1 64 _ _ read .high; on = rw read (ap (coloursFrom s noColours at) all) }
-reached-on s count {ns} {at} (one-more before from start len r more sized-at whole-at other ne ae) =
-    let o = reached-on s count r in
-    let c = o .colours in
-    let size : c .count ≡ length before = sym (names-count s c) ∙ ap length (o .names) in
-    let here : colourAt s from ≡ At start len = sized s from len start sized-at ∙ ap (namedAt s start len) (name-exactly (drop start s) len _ .1 whole-at) in
-    let lies = colour-lies s from start len here in
-    let room : c .count < 64 = omega (arith, o .many) in
-    let longer = names-with s c start len (o .places) room in
-    let left : count - length before ≡ suc (count - length ns) = omega (arith, ap length ne, length-append before (bytesAt s start len ∷ [])) in
-    let apart : c .count ≤ findName s c (bytesAt s start len) =
-    ⊎-elim (λ (h : findName s c (bytesAt s start len) < c .count). absurd (other (rw (o .names) at (found-mem s c (bytesAt s start len) (o .places .few) h)))) (λ h. h) (lt-or-le _ _) in
-    record {
-      colours = withColour c start len;
-      places = places-with s c start len (o .places) room (lies .inside);
-      names = longer ∙ ap (λ (l : List Name). l ++ (bytesAt s start len ∷ [])) (o .names) ∙ sym ne;
-      many = o .many;
-      on = o .on ∙ ap (coloursFrom s c from) left ∙ step-on s c from (count - length ns) start len here apart ∙ ap (λ (p : ℕ). coloursFrom s (withColour c start len) p (count - length ns)) (sym ae);
-    }
+-- ── What refuses the list ──
 
 -- what refuses the list refuses reading there
 refused-there : (s : List ℕ) (count at : ℕ) (ns : List Name) → GoesOn s count ns at → length ns < count → (f : Fault) → colourAt s at ≡ RefusedColour f
@@ -106,7 +40,7 @@ refused-there s count at ns o more f e =
 
 fault-is : (s : List ℕ) (f : Fault) → ListFault s f → coloursOf s ≡ refusedColours f
 unfolding coloursOf
-fault-is s f (no-count h) = rw (number-in-exactly s 0 1 64 _ .1 h)
+fault-is s f (no-count h) = rw (number-in-exactly s 0 1 mostColours _ .1 h)
 fault-is s f (no-length count at ns r more h) = refused-there s count at ns (reached-on s count r) more f (unsized s at f h)
 fault-is s f (no-name count at start len ns r more h x) = name-fault x
   where
@@ -132,10 +66,10 @@ abbrev Read-out : List ℕ → ColoursRead → Type 0
 Read-out s r = ((r .fault ≡ fault 0 0) × ListRead s (r .colours .count) (r .next)) ⊎ ListFault s (r .fault)
 
 -- with the names of c read so far, and what follows each longer list
-module _ (s : List ℕ) (count : ℕ) (c : Colours) (at k : ℕ) (g : Places s c) (room : c .count < 64) (more : length (namesIn s c) < count)
+module _ (s : List ℕ) (count : ℕ) (c : Colours) (at k : ℕ) (g : Places s c) (room : c .count < mostColours) (more : length (namesIn s c) < count)
     (r : Reached s count (namesIn s c) at)
     (rest : (d : Colours) (p : ℕ) → Places s d → d .count ≡ c .count + 1 → Reached s count (namesIn s d) p → Read-out s (coloursFrom s d p k)) where
-  named : (start len : ℕ) → ReadsIn s at 1 40 (Value len start) → (n : NameRead) → ReadsName (drop start s) len n → colourAt s at ≡ namedAt s start len n
+  named : (start len : ℕ) → ReadsIn s at 1 longestName (Value len start) → (n : NameRead) → ReadsName (drop start s) len n → colourAt s at ≡ namedAt s start len n
       → Read-out s (coloursFrom s c at (suc k))
   named start len i Ends w e =
       rw (step-refused s c at k _ e) (inr (no-name count at start len (namesIn s c) r more i (cut-short w refl)))
@@ -144,7 +78,7 @@ module _ (s : List ℕ) (count : ℕ) (c : Colours) (at k : ℕ) (g : Places s c
   named start len i Whole w e =
       let name = bytesAt s start len in
       let lies = colour-lies s at start len e in
-      let few : c .count ≤ 64 = omega arith in
+      let few : c .count ≤ mostColours = omega arith in
       ⊎-elim
       (λ (h : findName s c name < c .count).
       rw (step-twice s c at k start len e h) (inr (no-name count at start len (namesIn s c) r more i (twice w (found-mem s c name few h) refl))))
@@ -155,29 +89,29 @@ module _ (s : List ℕ) (count : ℕ) (c : Colours) (at k : ℕ) (g : Places s c
       (one-more (namesIn s c) at start len r more i w apart (names-with s c start len g room) refl)))
       (lt-or-le (findName s c name) (c .count))
 
-  stepped : (n : Read) → numberIn s at 1 40 ≡ n → Read-out s (coloursFrom s c at (suc k))
+  stepped : (n : Read) → numberIn s at 1 longestName ≡ n → Read-out s (coloursFrom s c at (suc k))
   stepped (Refused f) e =
-      let i = number-in-exactly s at 1 40 _ .0 e in
+      let i = number-in-exactly s at 1 longestName _ .0 e in
       rw (step-refused s c at k f (unsized s at f i)) (inr (no-length count at (namesIn s c) r more i))
   stepped (Value len start) e =
-      let i = number-in-exactly s at 1 40 _ .0 e in
+      let i = number-in-exactly s at 1 longestName _ .0 e in
       let w = name-exactly (drop start s) len (nameOf (drop start s) len) .0 refl in
       named start len i (nameOf (drop start s) len) w (sized s at len start i)
 
-from-out : (s : List ℕ) (count : ℕ) → count ≤ 64 → (k : ℕ) (c : Colours) (at : ℕ) → Places s c → c .count + k ≡ count → Reached s count (namesIn s c) at
+from-out : (s : List ℕ) (count : ℕ) → count ≤ mostColours → (k : ℕ) (c : Colours) (at : ℕ) → Places s c → c .count + k ≡ count → Reached s count (namesIn s c) at
     → Read-out s (coloursFrom s c at k)
 from-out s count many zero c at g h r =
     let all : count ≡ c .count = omega arith in
     inl (refl, record { names = namesIn s c; read = subst (λ (n : ℕ). Reached s n (namesIn s c) at) all r; all = names-count s c })
 from-out s count many (suc k) c at g h r =
     stepped s count c at k g (omega arith) (omega (arith, names-count s c)) r
-    (λ d p gd e rd. from-out s count many k d p gd (omega arith) rd) (numberIn s at 1 40) refl
+    (λ d p gd e rd. from-out s count many k d p gd (omega arith) rd) (numberIn s at 1 longestName) refl
 
-list-out : (s : List ℕ) (n : Read) → numberIn s 0 1 64 ≡ n → Read-out s (coloursOf s)
+list-out : (s : List ℕ) (n : Read) → numberIn s 0 1 mostColours ≡ n → Read-out s (coloursOf s)
 unfolding coloursOf
-list-out s (Refused f) e = rw e (inr (no-count (number-in-exactly s 0 1 64 _ .0 e)))
+list-out s (Refused f) e = rw e (inr (no-count (number-in-exactly s 0 1 mostColours _ .0 e)))
 list-out s (Value count at) e =
-    rw e (from-out s count (number-in s 0 1 64 count at e .high) count noColours at (places-none s) (omega arith) (counted (number-in-exactly s 0 1 64 _ .0 e) refl))
+    rw e (from-out s count (number-in s 0 1 mostColours count at e .high) count noColours at (places-none s) (omega arith) (counted (number-in-exactly s 0 1 mostColours _ .0 e) refl))
 
 -- a refused list has no colours, and one that is read has some
 pub list-first : (s : List ℕ) → FirstFault (ListFault s) (coloursOf s .fault)

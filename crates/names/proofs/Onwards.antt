@@ -6,8 +6,8 @@ use Rattle.names.specs.Colours.{afterColour}
 use Rattle.names.specs.declared.number.Fault.{Fault}
 use Rattle.names.specs.declared.number.Read.{Read}
 use Rattle.names.specs.declared.number.Read.the-variants.{Value, Refused}
-use Rattle.names.specs.declared.colours.ColourRead.{ColourRead}
-use Rattle.names.specs.declared.colours.ColourRead.the-variants.{At, Refused as RefusedColour}
+use Rattle.names.specs.declared.colour.ColourRead.{ColourRead}
+use Rattle.names.specs.declared.colour.ColourRead.the-variants.{At, Refused as RefusedColour}
 
 pub onward-ind {ℓ κ} : {A : Type ℓ} (P : A → Type κ) (refuse : Fault → A) (r : Read) (go : ℕ → ℕ → A)
     → ((f : Fault) → r ≡ Refused f → P (refuse f)) → ((v next : ℕ) → r ≡ Value v next → P (go v next)) → P (onward refuse r go)

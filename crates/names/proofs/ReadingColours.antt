@@ -12,13 +12,14 @@ use lib.Seq.{getD-set-same, getD-set-other}
 use Rattle.names.specs.Pick.{fault}
 use Rattle.names.specs.Number.{numberIn}
 use Rattle.names.specs.Name.{nameOf}
+use Rattle.names.specs.Spelling.{longestName, mostColours}
 use Rattle.names.specs.Colours.{nameIn, namesFrom, namesIn, findName, namedAt, colourAt, noColours, refusedColours, withColour, coloursFrom, coloursOf}
 use Rattle.names.specs.declared.number.Fault.{Fault}
 use Rattle.names.specs.declared.number.Read.the-variants.{Value}
 use Rattle.names.specs.declared.name.NameRead.{NameRead}
 use Rattle.names.specs.declared.name.NameRead.the-variants.{Whole, Ends, Bad}
-use Rattle.names.specs.declared.colours.ColourRead.{ColourRead}
-use Rattle.names.specs.declared.colours.ColourRead.the-variants.{At, Refused as RefusedColour}
+use Rattle.names.specs.declared.colour.ColourRead.{ColourRead}
+use Rattle.names.specs.declared.colour.ColourRead.the-variants.{At, Refused as RefusedColour}
 use Rattle.names.specs.declared.colours.Colours.{Colours}
 use Rattle.names.specs.declared.colours.ColoursRead.{ColoursRead}
 use Rattle.names.proofs.Picking.{pick-ind}
@@ -26,62 +27,69 @@ use Rattle.names.proofs.Onwards.{onward-ind, after-colour-ind}
 use Rattle.names.proofs.ReadingNumbers.{Blamed, blamed-later, number-in, number-in-refused}
 use Rattle.names.proofs.ReadingNames.{name-whole, name-ends, name-bad}
 
+-- the bytes that a colour takes at most, a length and the longest name, and those that a list does
+abbrev pub colourSpan : ℕ
+colourSpan = 3 + longestName
+
+abbrev pub listSpan : ℕ
+listSpan = 3 + colourSpan * mostColours
+
 -- ── One colour ──
 
 -- a name that was read: its length stands at the place, the name after it is whole, and all lies within the input
 pub record ColourLies (s : List ℕ) (at start len : ℕ) : Type 0 where
-  pub sized : numberIn s at 1 40 ≡ Value len start
+  pub sized : numberIn s at 1 longestName ≡ Value len start
   pub whole : nameOf (drop start s) len ≡ Whole
   pub after : at < start
   pub near : start ≤ at + 3
   pub inside : start + len ≤ length s
   pub low : 1 ≤ len
-  pub high : len ≤ 40
+  pub high : len ≤ longestName
 
 abbrev Found : List ℕ → ℕ → ColourRead → Type 0
 Found s at (At start len) = ColourLies s at start len
-Found s at (RefusedColour f) = Blamed s (at + 43) f
+Found s at (RefusedColour f) = Blamed s (at + colourSpan) f
 
-named : (s : List ℕ) (at start len : ℕ) (n : NameRead) → numberIn s at 1 40 ≡ Value len start → nameOf (drop start s) len ≡ n → Found s at (namedAt s start len n)
+named : (s : List ℕ) (at start len : ℕ) (n : NameRead) → numberIn s at 1 longestName ≡ Value len start → nameOf (drop start s) len ≡ n → Found s at (namedAt s start len n)
 named s at start len Whole e d =
-    let g = number-in s at 1 40 len start e in
+    let g = number-in s at 1 longestName len start e in
     let w : len ≤ length (drop start s) = name-whole (drop start s) len d .0 in
     record { sized = e; whole = d; after = g .after; near = g .near; inside = omega (arith, length-drop start s, g .inside); low = g .low; high = g .high }
 named s at start len Ends e d =
-    let g = number-in s at 1 40 len start e in
+    let g = number-in s at 1 longestName len start e in
     let w : length (drop start s) ≤ len = name-ends (drop start s) len d in
     omega (arith, length-drop start s)
 named s at start len (Bad k) e d =
-    let g = number-in s at 1 40 len start e in
+    let g = number-in s at 1 longestName len start e in
     let w = name-bad (drop start s) len k d in
     omega (arith, length-drop start s)
 
 found : (s : List ℕ) (at : ℕ) → Found s at (colourAt s at)
 unfolding colourAt
 found s at =
-    onward-ind (Found s at) RefusedColour (numberIn s at 1 40) _
-    (λ f e. blamed-later (omega arith) (number-in-refused s at 1 40 f e))
+    onward-ind (Found s at) RefusedColour (numberIn s at 1 longestName) _
+    (λ f e. blamed-later (omega arith) (number-in-refused s at 1 longestName f e))
     (λ len start e. named s at start len (nameOf (drop start s) len) e refl)
 
 pub colour-lies : (s : List ℕ) (at start len : ℕ) → colourAt s at ≡ At start len → ColourLies s at start len
 colour-lies s at start len e = subst (Found s at) e (found s at)
 
-pub colour-refused : (s : List ℕ) (at : ℕ) (f : Fault) → colourAt s at ≡ RefusedColour f → Blamed s (at + 43) f
+pub colour-refused : (s : List ℕ) (at : ℕ) (f : Fault) → colourAt s at ≡ RefusedColour f → Blamed s (at + colourSpan) f
 colour-refused s at f e = subst (Found s at) e (found s at)
 
 -- ── A list of places, as it grows ──
 
 -- every place lies within the input, and the arrays have their lengths
 pub record Places (s : List ℕ) (c : Colours) : Type 0 where
-  pub starts64 : length (c .starts) ≡ 64
-  pub lens64 : length (c .lens) ≡ 64
-  pub few : c .count ≤ 64
+  pub starts64 : length (c .starts) ≡ mostColours
+  pub lens64 : length (c .lens) ≡ mostColours
+  pub few : c .count ≤ mostColours
   pub inside : (i : ℕ) → i < c .count → getD (c .starts) i 0 + getD (c .lens) i 0 ≤ length s
 
 pub places-none : (s : List ℕ) → Places s noColours
 places-none s = record { starts64 = refl; lens64 = refl; few = omega arith; inside = λ i h. absurd (omega arith) }
 
-module _ (s : List ℕ) (c : Colours) (start len : ℕ) (g : Places s c) (room : c .count < 64) where
+module _ (s : List ℕ) (c : Colours) (start len : ℕ) (g : Places s c) (room : c .count < mostColours) where
   pub places-with : start + len ≤ length s → Places s (withColour c start len)
   places-with l =
       record {
@@ -146,7 +154,7 @@ abbrev Ended : List ℕ → ℕ → ℕ → ColoursRead → Type 0
 Ended s limit least r = ListLies s limit least r ⊎ ListRefused s limit r
 
 module _ (s : List ℕ) (limit least : ℕ) where
-  from-ended : (k : ℕ) (c : Colours) (at : ℕ) → Places s c → c .count + k ≡ least → least ≤ 64 → at ≤ length s → at + 43 * k ≤ limit → Ended s limit least (coloursFrom s c at k)
+  from-ended : (k : ℕ) (c : Colours) (at : ℕ) → Places s c → c .count + k ≡ least → least ≤ mostColours → at ≤ length s → at + colourSpan * k ≤ limit → Ended s limit least (coloursFrom s c at k)
   from-ended zero c at g h few i l = inl (record { fine = refl; places = g; some = omega arith; inside = i; near = omega arith })
   from-ended (suc k) c at g h few i l =
       after-colour-ind (Ended s limit least) refusedColours (colourAt s at) _
@@ -157,23 +165,23 @@ module _ (s : List ℕ) (limit least : ℕ) where
       (λ _. inr (record { blamed = record { some = omega arith; known = omega arith; inside = omega (arith, p .inside); near = omega (arith, p .near) }; empty = refl; nowhere = refl }))
       (λ _. from-ended k (withColour c start len) (start + len) (places-with s c start len g (omega arith) (p .inside)) (omega arith) few (p .inside) (omega (arith, p .near, p .high))))
 
-colours-ended : (s : List ℕ) → Ended s 2755 1 (coloursOf s)
+colours-ended : (s : List ℕ) → Ended s listSpan 1 (coloursOf s)
 unfolding coloursOf
 colours-ended s =
-    onward-ind (Ended s 2755 1) refusedColours (numberIn s 0 1 64) _
-    (λ f e. inr (record { blamed = blamed-later (omega arith) (number-in-refused s 0 1 64 f e); empty = refl; nowhere = refl }))
+    onward-ind (Ended s listSpan 1) refusedColours (numberIn s 0 1 mostColours) _
+    (λ f e. inr (record { blamed = blamed-later (omega arith) (number-in-refused s 0 1 mostColours f e); empty = refl; nowhere = refl }))
     (λ n at e.
-    let g = number-in s 0 1 64 n at e in
+    let g = number-in s 0 1 mostColours n at e in
     ⊎-elim
     (λ l. inl (record { fine = l .fine; places = l .places; some = omega (arith, l .some, g .low); inside = l .inside; near = l .near }))
     (λ l. inr l)
-    (from-ended s 2755 n n noColours at (places-none s) (omega arith) (g .high) (g .inside) (omega (arith, g .near, g .high))))
+    (from-ended s listSpan n n noColours at (places-none s) (omega arith) (g .high) (g .inside) (omega (arith, g .near, g .high))))
 
 -- the two laws of a list: where its fault has number 0 it lies within the input, and elsewhere it names what it blames
-pub colours-lie : (s : List ℕ) → coloursOf s .fault .number ≡ 0 → ListLies s 2755 1 (coloursOf s)
+pub colours-lie : (s : List ℕ) → coloursOf s .fault .number ≡ 0 → ListLies s listSpan 1 (coloursOf s)
 colours-lie s z = ⊎-elim (λ l. l) (λ r. absurd (omega (arith, r .blamed .some))) (colours-ended s)
 
-pub colours-refused : (s : List ℕ) → (coloursOf s .fault .number ≡ 0 → ⊥) → ListRefused s 2755 (coloursOf s)
+pub colours-refused : (s : List ℕ) → (coloursOf s .fault .number ≡ 0 → ⊥) → ListRefused s listSpan (coloursOf s)
 colours-refused s z = ⊎-elim (λ l. absurd (z (ap (λ (f : Fault). f .number) (l .fine)))) (λ r. r) (colours-ended s)
 
 -- refused or not, every place lies within the input

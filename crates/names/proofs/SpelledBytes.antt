@@ -7,7 +7,7 @@ use native.Mathlib.Omega.{arith}
 use lib.ListN.{length, getD, length-append, List·getD-eq-default}
 use Rattle.names.specs.Name.{Name}
 use Rattle.names.specs.Number.{greatestNumber, spellNumber}
-use Rattle.names.specs.Spelling.{NameOk, ColoursOk, spellNames, spellColours}
+use Rattle.names.specs.Spelling.{longestName, NameOk, ColoursOk, spellNames, spellColours}
 use Rattle.names.proofs.Tests.{lt-or-le}
 use Rattle.names.proofs.SpellingNumbers.{Bytes, spell-one, spell-two, spell-three, spell-short}
 
@@ -63,14 +63,14 @@ number-three v h =
 
 -- ── Colours ──
 
-name-few : (n : Name) → NameOk n → FewBytes n 40
+name-few : (n : Name) → NameOk n → FewBytes n longestName
 name-few n ok =
     record {
       few = ok .few;
       bytes = λ i. ⊎-elim (λ (h : i < length n). omega (arith, ok .shown i h .high)) (λ (h : length n ≤ i). omega (arith, List·getD-eq-default n 0 h)) (lt-or-le i (length n));
     }
 
-names-few : (ns : List Name) → ((n : Name) → List·Memᴰ n ns → NameOk n) → FewBytes (spellNames ns) (41 * length ns)
+names-few : (ns : List Name) → ((n : Name) → List·Memᴰ n ns → NameOk n) → FewBytes (spellNames ns) ((1 + longestName) * length ns)
 names-few [] each = none-few
 names-few (n ∷ ns) each =
     let ok = each n (List·Memᴰ·head refl) in

@@ -67,11 +67,21 @@ module _ (a b : List ℕ) where
   reads-two : (l h : ℕ) → l < 128 → 0 < h → h < 128 → numberAt (a ++ (128 + l) ∷ h ∷ b) (length a) ≡ Value (l + 128 * h) (length a + 2)
   unfolding numberAt longerAt lastGroup
   reads-two l h p q r =
-      let len : length (a ++ (128 + l) ∷ h ∷ b) ≡ length a + suc (suc (length b)) = length-append a ((128 + l) ∷ h ∷ b) in
+      let s = a ++ (128 + l) ∷ h ∷ b in
+      let len : length s ≡ length a + suc (suc (length b)) = length-append a ((128 + l) ∷ h ∷ b) in
       let low : (128 + l) % 128 ≡ l = omega arith in
       let first : 128 ≤ 128 + l = omega arith in
       let some : h ≡ 0 → ⊥ = omega arith in
-      simp (lt-leb (length (a ++ (128 + l) ∷ h ∷ b)) (length a) (omega arith), lt-leb (length (a ++ (128 + l) ∷ h ∷ b)) (length a + 1) (omega arith), getD-append-seam, getD-append-add, le-ltb (128 + l) 128 first, lt-ltb h 128 r, ne-eqb h 0 some, low)
+      simp (
+        lt-leb (length s) (length a) (omega arith),
+        lt-leb (length s) (length a + 1) (omega arith),
+        getD-append-seam,
+        getD-append-add,
+        le-ltb (128 + l) 128 first,
+        lt-ltb h 128 r,
+        ne-eqb h 0 some,
+        low,
+      )
 
   reads-three : (l m h : ℕ) → l < 128 → m < 128 → 0 < h → h < 128
       → numberAt (a ++ (128 + l) ∷ (128 + m) ∷ h ∷ b) (length a) ≡ Value (l + 128 * m + 16384 * h) (length a + 3)

@@ -8,11 +8,12 @@ use Rattle.names.specs.Pick.{pick, fault}
 use Rattle.names.specs.Onward.{onward, faultless}
 use Rattle.names.specs.Number.{numberIn}
 use Rattle.names.specs.Name.{Name, nameOf, listed}
+use Rattle.names.specs.Spelling.{longestName, mostColours}
 use Rattle.names.specs.declared.number.Fault.{Fault}
 use Rattle.names.specs.declared.name.NameRead.{NameRead}
 use Rattle.names.specs.declared.name.NameRead.the-variants.{Whole, Ends, Bad}
-use Rattle.names.specs.declared.colours.ColourRead.{ColourRead}
-use Rattle.names.specs.declared.colours.ColourRead.the-variants.{At, Refused as RefusedColour}
+use Rattle.names.specs.declared.colour.ColourRead.{ColourRead}
+use Rattle.names.specs.declared.colour.ColourRead.the-variants.{At, Refused as RefusedColour}
 use Rattle.names.specs.declared.colours.Colours.{Colours}
 use Rattle.names.specs.declared.colours.ColoursRead.{ColoursRead}
 use Rattle.names.specs.declared.colours.ListRead.{ListRead}
@@ -34,11 +35,11 @@ namesIn s c = namesFrom s c 0 (c .count)
 
 -- the number of the colour with a name, or the count; a count that no list has holds nothing
 unfoldable pub findName : List ℕ → Colours → Name → ℕ
-findName s c n = pick (ltb 64 (c .count)) (c .count) (listed (namesIn s c) n)
+findName s c n = pick (ltb mostColours (c .count)) (c .count) (listed (namesIn s c) n)
 
 -- the number here of colour i of another list, by its name; the count too where that list has no such colour
 unfoldable pub findIn : List ℕ → Colours → List ℕ → Colours → ℕ → ℕ
-findIn s c t d i = pick (leb (d .count) i) (c .count) (pick (leb 64 i) (c .count) (findName s c (nameIn t d i)))
+findIn s c t d i = pick (leb (d .count) i) (c .count) (pick (leb mostColours i) (c .count) (findName s c (nameIn t d i)))
 
 -- the name of so many bytes from a place on
 abbrev pub namedAt : List ℕ → ℕ → ℕ → NameRead → ColourRead
@@ -46,9 +47,9 @@ namedAt s start len Whole = At start len
 namedAt s start len Ends = RefusedColour (fault 1 (length s))
 namedAt s start len (Bad k) = RefusedColour (fault 4 (start + k))
 
--- a length 1 to 40, then the name
+-- a length from 1 to the longest, then the name
 unfoldable pub colourAt : List ℕ → ℕ → ColourRead
-colourAt s at = onward RefusedColour (numberIn s at 1 40) (λ len start. namedAt s start len (nameOf (drop start s) len))
+colourAt s at = onward RefusedColour (numberIn s at 1 longestName) (λ len start. namedAt s start len (nameOf (drop start s) len))
 
 abbrev pub afterColour {ℓ} : {A : Type ℓ} → (Fault → A) → ColourRead → (ℕ → ℕ → A) → A
 afterColour refuse (At start len) go = go start len
@@ -56,7 +57,7 @@ afterColour refuse (RefusedColour f) go = refuse f
 
 -- no colours, and a refused list
 abbrev pub noColours : Colours
-noColours = record { count = 0; starts = replicate 64 0; lens = replicate 64 0 }
+noColours = record { count = 0; starts = replicate mostColours 0; lens = replicate mostColours 0 }
 
 abbrev pub refusedColours : Fault → ColoursRead
 refusedColours f = record { fault = f; colours = noColours; next = 0 }
@@ -74,9 +75,9 @@ coloursFrom s c at (suc k) =
     pick (ltb (findName s c (take len (drop start s))) (c .count)) (refusedColours (fault 5 start))
     (coloursFrom s (withColour c start len) (start + len) k))
 
--- a count 1 to 64, then so many names
+-- a count from 1 to the most, then so many names
 unfoldable pub coloursOf : List ℕ → ColoursRead
-coloursOf s = onward refusedColours (numberIn s 0 1 64) (λ count next. coloursFrom s noColours next count)
+coloursOf s = onward refusedColours (numberIn s 0 1 mostColours) (λ count next. coloursFrom s noColours next count)
 
 abbrev pub afterColours {ℓ} : {A : Type ℓ} → (Fault → A) → ColoursRead → (Colours → ℕ → A) → A
 afterColours refuse r go = faultless refuse (r .fault) (go (r .colours) (r .next))

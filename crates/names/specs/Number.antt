@@ -24,7 +24,8 @@ byteAt s at go = pick (leb (length s) at) (endsHere s) (go (getD s at 0))
 unfoldable pub lastGroup : ℕ → ℕ → ℕ → ℕ → Read
 lastGroup at group v next = pick (eqb group 0) (Refused (fault 2 at)) (Value v next)
 
--- the second group and the third, after a first that counts low: a byte below 128 is the last group, and a third byte above 127 gets 2 at the number's first byte
+-- the second group and the third, after a first that counts low: a byte below 128 is the last group, and a third byte above 127 gets 2 at the
+-- number's first byte
 unfoldable pub longerAt : List ℕ → ℕ → ℕ → Read
 longerAt s at low =
     byteAt s (at + 1) (λ second.

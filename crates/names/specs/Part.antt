@@ -1,4 +1,5 @@
--- Which part of a lent slice a returned slice is: the very bytes of the lent one from a place on, and not others that equal them. Equal bytes may stand at several places.
+-- Which part of a lent slice a returned slice is: the very bytes of the lent one from a place on, and not others that equal them. Equal bytes
+-- may stand at several places.
 use Prim.Native.Nat.{ℕ, _+_}
 use mathlib.Core.Path.{_≡_}
 use mathlib.Core.List.{List}

@@ -5,10 +5,17 @@ use lib.ListN.{length, getD}
 use Rattle.names.specs.Number.{spellNumber}
 use Rattle.names.specs.Name.{Name, Shown}
 
--- 1 to 40 bytes, each of which may stand in a name
+-- the greatest counts: the bytes of a name, and the names of a list
+abbrev pub longestName : ℕ
+longestName = 40
+
+abbrev pub mostColours : ℕ
+mostColours = 64
+
+-- at least one byte, each of which may stand in a name
 pub record NameOk (n : Name) : Type 0 where
   pub some : 1 ≤ length n
-  pub few : length n ≤ 40
+  pub few : length n ≤ longestName
   pub shown : (i : ℕ) → i < length n → Shown (length n) i (getD n i 0)
 
 -- no name stands twice
@@ -16,10 +23,10 @@ abbrev pub Distinct : List Name → Type 0
 Distinct [] = Unit {0}
 Distinct (n ∷ ns) = (List·Memᴰ n ns → ⊥) × Distinct ns
 
--- 1 to 64 names
+-- at least one name, each of which keeps the rules
 pub record ColoursOk (ns : List Name) : Type 0 where
   pub some : 1 ≤ length ns
-  pub few : length ns ≤ 64
+  pub few : length ns ≤ mostColours
   pub each : (n : Name) → List·Memᴰ n ns → NameOk n
   pub distinct : Distinct ns
 

@@ -1,7 +1,8 @@
 // A colour list: a count, then each name with its length before it. No name stands twice.
+use crate::colour;
+use crate::colour::ColourRead;
 use crate::fault::fault;
 use crate::name;
-use crate::name::NameRead;
 use crate::number;
 use crate::number::Fault;
 use crate::number::Read;
@@ -9,13 +10,17 @@ ghost use mathlib.Core.Path.{_≡_};
 ghost use Prim.Native.Nat.{_≤_};
 ghost use lib.ListN.{take, drop};
 ghost use Rattle.names.specs.Name.{sameName};
-ghost use Rattle.names.specs.Colours.{listOf, findName, findIn, colourAt, noColours, refusedColours, coloursFrom, coloursOf, ListInto};
+ghost use Rattle.names.specs.Spelling.{mostColours};
+ghost use Rattle.names.specs.Colours.{listOf, findName, findIn, noColours, refusedColours, coloursFrom, coloursOf, ListInto};
+
+// A list has no more colours than this.
+pub const MOST_COLOURS: usize = 64;
 
 // Where each name of a list starts in the input and how long it is; 0 past the count.
 pub struct Colours {
     pub count: usize,
-    pub starts: [u16; 64],
-    pub lens: [u8; 64],
+    pub starts: [u16; MOST_COLOURS],
+    pub lens: [u8; MOST_COLOURS],
 }
 
 // A list that was read, with the place after it; a refused one has no colours and the place 0.
@@ -32,29 +37,27 @@ pub struct ListRead {
     pub next: usize,
 }
 
-// Where a name starts and how long it is, or the fault.
-enum ColourRead {
-    At(usize, usize),
-    Refused(Fault),
-}
-
 // A list with no name.
 pub fn no_colours() -> Colours
     ensures { λ r. ⌜ r ≡ noColours ⌝ }
 {
     Colours {
         count: 0,
-        starts: [0; 64],
-        lens: [0; 64],
+        starts: [0; MOST_COLOURS],
+        lens: [0; MOST_COLOURS],
     }
 }
 
 // A refused list leaves nothing in the arrays.
-fn refuse_list(f: Fault, starts: &mut [u16; 64], lens: &mut [u8; 64]) -> ListRead
+fn refuse_list(
+    f: Fault,
+    starts: &mut [u16; MOST_COLOURS],
+    lens: &mut [u8; MOST_COLOURS],
+) -> ListRead
     ensures { λ r. ⌜ ListInto (refusedColours f) r (now (starts .exit)) (now (lens .exit)) ⌝ }
 {
-    *starts = [0; 64];
-    *lens = [0; 64];
+    *starts = [0; MOST_COLOURS];
+    *lens = [0; MOST_COLOURS];
     ListRead {
         fault: f,
         count: 0,
@@ -74,14 +77,14 @@ fn is_named(s: &[u8], start: u16, size: u8, name: &[u8], len: usize) -> bool
 pub fn find_name<'a>(
     s: &[u8],
     count: usize,
-    starts: &'a [u16; 64],
-    lens: &'a [u8; 64],
+    starts: &'a [u16; MOST_COLOURS],
+    lens: &'a [u8; MOST_COLOURS],
     name: &[u8],
     len: usize,
 ) -> usize
     ensures { λ r. ⌜ r ≡ findName (now (s .entry)) (listOf count (now (starts .entry)) (now (lens .entry))) (take len (now (name .entry))) ⌝ }
 {
-    if 64 < count {
+    if MOST_COLOURS < count {
         return count;
     }
     for j in 0..count {
@@ -99,7 +102,7 @@ pub fn find_in(s: &[u8], c: Colours, t: &[u8], d: Colours, i: usize) -> usize
     if d.count <= i {
         return c.count;
     }
-    if 64 <= i {
+    if MOST_COLOURS <= i {
         return c.count;
     }
     let start = d.starts[i] as usize;
@@ -107,40 +110,22 @@ pub fn find_in(s: &[u8], c: Colours, t: &[u8], d: Colours, i: usize) -> usize
     find_name(s, c.count, &c.starts, &c.lens, name::tail(t, start), len)
 }
 
-// A length 1 to 40, then a name of that many bytes.
-fn read_colour(s: &[u8], at: usize) -> ColourRead
-    ensures { λ r. ⌜ r ≡ colourAt (now (s .entry)) at ⌝ }
-{
-    let r = number::read_in(s, at, 1, 40);
-    match r {
-        Read::Refused(f) => ColourRead::Refused(f),
-        Read::Value(len, start) => {
-            let n = name::read_name(name::tail(s, start), len);
-            match n {
-                NameRead::Whole => ColourRead::At(start, len),
-                NameRead::Ends => ColourRead::Refused(fault(1, s.len())),
-                NameRead::Bad(k) => ColourRead::Refused(fault(4, start + k)),
-            }
-        }
-    }
-}
-
 // So many names from a place near the start on.
 fn read_names(
     s: &[u8],
     count: usize,
     from: usize,
-    starts: &mut [u16; 64],
-    lens: &mut [u8; 64],
+    starts: &mut [u16; MOST_COLOURS],
+    lens: &mut [u8; MOST_COLOURS],
 ) -> ListRead
-    requires { ⌜ (count ≤ 64) × (from ≤ 3) ⌝ }
+    requires { ⌜ (count ≤ mostColours) × (from ≤ 3) ⌝ }
     ensures { λ r. ⌜ ListInto (coloursFrom (now (s .entry)) noColours from count) r (now (starts .exit)) (now (lens .exit)) ⌝ }
 {
-    *starts = [0; 64];
-    *lens = [0; 64];
+    *starts = [0; MOST_COLOURS];
+    *lens = [0; MOST_COLOURS];
     let mut at = from;
     for i in 0..count {
-        let r = read_colour(s, at);
+        let r = colour::read_colour(s, at);
         match r {
             ColourRead::Refused(f) => return refuse_list(f, starts, lens),
             ColourRead::At(start, len) => {
@@ -162,10 +147,14 @@ fn read_names(
 
 // The colour list that the input begins with, read into lent arrays: whatever they held, they end with the places of the list and 0 past its
 // count.
-pub fn read_list(s: &[u8], starts: &mut [u16; 64], lens: &mut [u8; 64]) -> ListRead
+pub fn read_list(
+    s: &[u8],
+    starts: &mut [u16; MOST_COLOURS],
+    lens: &mut [u8; MOST_COLOURS],
+) -> ListRead
     ensures { λ r. ⌜ ListInto (coloursOf (now (s .entry))) r (now (starts .exit)) (now (lens .exit)) ⌝ }
 {
-    let r = number::read_in(s, 0, 1, 64);
+    let r = number::read_in(s, 0, 1, MOST_COLOURS);
     match r {
         Read::Refused(f) => refuse_list(f, starts, lens),
         Read::Value(count, at) => read_names(s, count, at, starts, lens),
@@ -176,8 +165,8 @@ pub fn read_list(s: &[u8], starts: &mut [u16; 64], lens: &mut [u8; 64]) -> ListR
 pub fn read_colours(s: &[u8]) -> ColoursRead
     ensures { λ r. ⌜ r ≡ coloursOf (now (s .entry)) ⌝ }
 {
-    let mut starts = [0u16; 64];
-    let mut lens = [0u8; 64];
+    let mut starts = [0u16; MOST_COLOURS];
+    let mut lens = [0u8; MOST_COLOURS];
     let r = read_list(s, &mut starts, &mut lens);
     let fault = r.fault;
     ColoursRead {

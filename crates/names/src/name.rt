@@ -6,6 +6,9 @@ ghost use Rattle.names.specs.Name.{leastAt, nameOf, sameName};
 ghost use Rattle.names.specs.Part.{Part, tailStart};
 ghost use Rattle.names.specs.Put.{Puts};
 
+// A colour's name has no more bytes than this.
+pub const LONGEST_NAME: usize = 40;
+
 // The part of a slice from a place on: nothing past the end.
 pub fn tail(s: &[u8], at: usize) -> &[u8]
     ensures { λ r. ⌜ Part (s .entry) (tailStart (now (s .entry)) at) (drop at (now (s .entry))) r ⌝ }

@@ -1,9 +1,9 @@
 -- The count is read in its range, and the names are read from there: the definition's two cases.
 use Rattle.names.proofs.ReadingNumbers.{number-in}
-use Rattle.names.proofs.ToldInParts.{told-of}
 use native.Mathlib.Omega.{arith}
 use mathlib.Core.Path.{_∙_, sym}
 use Rattle.names.specs.Colours.{coloursOf}
+use Rattle.names.specs.Spelling.{mostColours}
 use borrow.Author.Needs.{needs}
 use Rattle.names.proofs.colours.read_list.Statement.{statement}
 use Rattle.names.proofs.colours.read_list.Tie as tie
@@ -11,7 +11,7 @@ use Rattle.names.proofs.colours.read_list.Tie as tie
 read-names-requires : tie.Need-read-names-requires
 read-names-requires c κs =
     let counted = c .before .before .before in
-    let g = number-in _ _ 1 64 _ _ (sym (counted .before .before .read-in .ensures) ∙ counted .r2 .given .1) in
+    let g = number-in _ _ 1 mostColours _ _ (sym (counted .before .before .read-in .ensures) ∙ counted .r2 .given .1) in
     omega arith
 
 returns : tie.Need-returns

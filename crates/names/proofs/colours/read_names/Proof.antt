@@ -8,16 +8,16 @@ use native.Mathlib.Omega.{arith}
 use denote.Ref.{now}
 use lib.ListN.{take, drop}
 use Rattle.names.specs.Colours.{listOf, findName, colourAt, coloursFrom, noColours}
-use Rattle.names.specs.declared.colours.ColourRead.the-variants.{At}
+use Rattle.names.specs.declared.colour.ColourRead.the-variants.{At}
 use Rattle.names.proofs.Count.{left-suc, left-all, left-none}
-use Rattle.names.proofs.ReadingColours.{colour-lies}
+use Rattle.names.proofs.ReadingColours.{colourSpan, colour-lies}
 use Rattle.names.proofs.ToldInParts.{told-of}
 use Rattle.names.proofs.colours.read_names.Statement.{statement}
 use Rattle.names.proofs.colours.read_names.Tie as tie
 
 abbrev Inv-loop : tie.InvT-loop
 Inv-loop s count from starts₀ lens₀ at₀ i₀ starts lens at i =
-    (i ≤ count) × (coloursFrom s (listOf i starts lens) at (count - i) ≡ coloursFrom s noColours from count) × (at ≤ 3 + 43 * i)
+    (i ≤ count) × (coloursFrom s (listOf i starts lens) at (count - i) ≡ coloursFrom s noColours from count) × (at ≤ 3 + colourSpan * i)
 
 abbrev μ-loop : tie.MeasureT-loop
 μ-loop s count from starts₀ lens₀ at₀ i₀ starts lens at i = count - i

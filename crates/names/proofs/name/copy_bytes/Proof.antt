@@ -1,7 +1,6 @@
 -- What stands after each turn is the copy of so many bytes; after the last it is the bytes put at the place.
 use Prim.Native.Nat.{ℕ, _+_, _-_, _<_, _≤_}
 use native.Mathlib.Numerals.{add-one}
-use Prim.Native.Nat.{_+_, _-_, _<_, _≤_}
 use mathlib.Core.Path.{_≡_, sym, ap, _∙_}
 use native.Mathlib.Omega.{arith}
 use denote.Ref.{now}
@@ -18,10 +17,16 @@ abbrev μ-loop : tie.MeasureT-loop
 μ-loop name out₀ at i₀ out i = length name - i
 
 returns : tie.Need-returns Inv-loop μ-loop
-returns c = let h : length (now (c .before .args .out)) < c .before .args .at + length (now (c .before .args .name)) = omega arith in (sym (past-out _ _ _ h), sym (put-out _ _ _ h))
+returns c =
+    let a = c .before .args in
+    let none : length (now (a .out)) < a .at + length (now (a .name)) = omega arith in
+    (sym (past-out _ _ _ none), sym (put-out _ _ _ none))
 
 returns-2 : tie.Need-returns-2 Inv-loop μ-loop
-returns-2 c = let h : length (now (c .before .before .args .out)) < c .before .before .args .at + length (now (c .before .before .args .name)) = omega arith in (sym (past-out _ _ _ h), sym (put-out _ _ _ h))
+returns-2 c =
+    let a = c .before .before .args in
+    let none : length (now (a .out)) < a .at + length (now (a .name)) = omega arith in
+    (sym (past-out _ _ _ none), sym (put-out _ _ _ none))
 
 loop-holds : tie.Need-loop-holds Inv-loop μ-loop
 loop-holds c = let a = c .before .before .args in (omega arith, paste-zero (now (a .out)) (a .at) (now (a .name)))

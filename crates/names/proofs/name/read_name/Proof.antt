@@ -23,20 +23,28 @@ returns c = simp (left-suc _ _ (c .before .loop-test .taken), le-leb _ _ (c .if1
 
 returns-2 : tie.Need-returns-2 Inv-loop μ-loop
 returns-2 c =
-    let turn = c .before .before .before .before in
-    simp (left-suc _ _ (turn .loop-test .taken), lt-leb _ _ (c .before .before .before .if1 .left), ← c .before .least-at .ensures, lt-ltb _ _ (c .if2 .taken)) at (turn .before .loop .inv .1)
+    let there = c .before .before .before in
+    let turn = there .before in
+    simp (left-suc _ _ (turn .loop-test .taken), lt-leb _ _ (there .if1 .left), ← c .before .least-at .ensures, lt-ltb _ _ (c .if2 .taken))
+    at (turn .before .loop .inv .1)
 
 returns-3 : tie.Need-returns-3 Inv-loop μ-loop
 returns-3 c =
-    let turn = c .before .before .before .before .before in
-    simp (left-suc _ _ (turn .loop-test .taken), lt-leb _ _ (c .before .before .before .before .if1 .left), ← c .before .before .least-at .ensures, le-ltb _ _ (c .before .if2 .left), lt-ltb _ _ (c .if3 .taken))
+    let least = c .before .before in
+    let there = least .before .before in
+    let turn = there .before in
+    let low = le-ltb _ _ (c .before .if2 .left) in
+    simp (left-suc _ _ (turn .loop-test .taken), lt-leb _ _ (there .if1 .left), ← least .least-at .ensures, low, lt-ltb _ _ (c .if3 .taken))
     at (turn .before .loop .inv .1)
 
 loop-again : tie.Need-loop-again Inv-loop μ-loop
 loop-again c =
-    let turn = c .before .before .before .before .before in (
+    let least = c .before .before in
+    let there = least .before .before in
+    let turn = there .before in
+    let low = le-ltb _ _ (c .before .if2 .left) in (
       omega arith,
-      simp (left-suc _ _ (turn .loop-test .taken), lt-leb _ _ (c .before .before .before .before .if1 .left), ← c .before .before .least-at .ensures, le-ltb _ _ (c .before .if2 .left), le-ltb _ _ (c .if3 .left))
+      simp (left-suc _ _ (turn .loop-test .taken), lt-leb _ _ (there .if1 .left), ← least .least-at .ensures, low, le-ltb _ _ (c .if3 .left))
           at (turn .before .loop .inv .1),
     )
 

@@ -1,4 +1,6 @@
 -- Each way to end is a case of the definition: the number's own fault, a number below the count, and one that is not.
+use Prim.Native.Nat.{_<_}
+use native.Mathlib.Omega.{arith}
 use borrow.Author.Tests.{le-ltb, lt-ltb}
 use Rattle.names.specs.Number.{numberBelow}
 use borrow.Author.Needs.{needs}
@@ -13,7 +15,8 @@ returns-2 : tie.Need-returns-2
 unfolding numberBelow
 returns-2 c =
     let v = c .before .before in
-    simp (← v .before .before .read-number .ensures, v .r2 .given .1, lt-ltb _ _ (c .if1 .taken))
+    let below : v .r2 .given .0 .0 < v .before .before .before .before .args .count = omega (arith, c .if1 .taken) in
+    simp (← v .before .before .read-number .ensures, v .r2 .given .1, lt-ltb _ _ below)
 
 returns-3 : tie.Need-returns-3
 unfolding numberBelow

@@ -1,4 +1,6 @@
 -- Each way to end is a case of the definition: the number's own fault, a number below, above and in the range.
+use Prim.Native.Nat.{_<_}
+use native.Mathlib.Omega.{arith}
 use borrow.Author.Tests.{le-ltb, lt-ltb}
 use Rattle.names.specs.Number.{numberIn}
 use borrow.Author.Needs.{needs}
@@ -16,7 +18,8 @@ unfolding numberIn
 returns-2 c =
     let t = c .before in
     let v = t .before .before .before in
-    simp (← v .before .before .read-number .ensures, v .r2 .given .1, le-ltb _ _ (t .before .if1 .left), lt-ltb _ _ (t .if2 .taken), c .fault2 .ensures)
+    let above : v .before .before .before .before .args .most < v .r2 .given .0 .0 = omega (arith, t .if2 .taken) in
+    simp (← v .before .before .read-number .ensures, v .r2 .given .1, le-ltb _ _ (t .before .if1 .left), lt-ltb _ _ above, c .fault2 .ensures)
 
 returns-3 : tie.Need-returns-3
 unfolding numberIn

@@ -1,10 +1,9 @@
 -- Each answer rewrites the spelling to its bytes, and the stores to putting them at the place; the spelling's length says that they fit.
-use lib.ListN.{length-set}
+use lib.ListN.{length-set, length}
 use Prim.Native.Nat.{_+_, _<_, _≤_}
 use mathlib.Core.Path.{sym}
 use native.Mathlib.Omega.{arith}
 use denote.Ref.{now}
-use lib.ListN.{length}
 use Rattle.names.specs.Number.{spellNumber}
 use Rattle.names.proofs.SpellingNumbers.{spell-one, spell-two, spell-three, spell-none, spell-short, spell-long, spell-longest}
 use Rattle.names.proofs.Putting.{past-in, past-out, put-out, put-nil, past-nil, put-one, put-two, put-three}

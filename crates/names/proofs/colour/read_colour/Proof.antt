@@ -8,8 +8,8 @@ use lib.ListN.{length, length-drop}
 use denote.Ref.{now}
 use Rattle.names.specs.Colours.{colourAt}
 use borrow.Author.Needs.{needs}
-use Rattle.names.proofs.colours.read_colour.Statement.{statement}
-use Rattle.names.proofs.colours.read_colour.Tie as tie
+use Rattle.names.proofs.colour.read_colour.Statement.{statement}
+use Rattle.names.proofs.colour.read_colour.Tie as tie
 
 add-fault : tie.Need-add-fault
 add-fault c =
