@@ -87,7 +87,7 @@ static const uint16_t *print_panel(const uint16_t *node, size_t rows, size_t col
 static void print_piece(uint64_t reason)
 {
     size_t top = dv_reason_row(reason), left = dv_reason_column(reason);
-    printf("a piece of it does: rows %zu to %zu of columns %zu to %zu, and no larger one\n", top + 1,
+    printf("a piece of it is: rows %zu to %zu of columns %zu to %zu, and no larger one\n", top + 1,
            top + dv_reason_height(reason), left + 1, left + dv_reason_width(reason));
 }
 

@@ -119,7 +119,8 @@ enum dv_answer_number {
     DV_IN_FAMILY = 15       // the sheet is in the family, so that there is no reason why not
 };
 
-// A fixed text for each answer number, in English, to stand after what it is said of: the sheet: not in the family.
+// A fixed text for each answer number, in English, to stand after what it is said of, as in "the sheet: not in the
+// family".
 static inline const char *dv_text(unsigned number)
 {
     switch (number) {

@@ -43,6 +43,15 @@ static void expect_enough(unsigned long count, const char *what, unsigned number
     exit(1);
 }
 
+// Each kind has chance of its own, so that a new one changes no other.
+static void seed_kind(void)
+{
+    uint64_t seed = seed_of_run;
+    for (const char *letter = kind; *letter != '\0'; letter++)
+        seed = seed * 31 + (unsigned char)*letter;
+    chance_seed(seed);
+}
+
 void compare_kinds(uint64_t seed)
 {
     size_t kinds;
@@ -54,6 +63,7 @@ void compare_kinds(uint64_t seed)
     for (size_t i = 0; i < kinds; i++) {
         unsigned long before = comparisons;
         kind = of[i].name;
+        seed_kind();
         forget_call();
         of[i].act();
         printf("%s %s %lu", i == 0 ? "" : ",", kind, comparisons - before);
