@@ -6,14 +6,16 @@ use native.Mathlib.Numerals.{add-one}
 use native.Mathlib.Omega.{arith}
 use lib.ListN.{length, getD, take, set, length-map, List·getD-map}
 use lib.Seq.{take-suc, take-all, take-at, set-at, length-take-le}
+use borrow.Author.Tests.{eq-eqb, ne-eqb}
+use Rattle.books.specs.Picture.{joins}
 use Rattle.books.specs.declared.rule.Rule.{Rule}
 use Rattle.books.specs.declared.rule.Body.{Body}
 use Rattle.books.specs.declared.rule.Body.the-variants.{Colour, Across, Down}
 use Rattle.books.specs.Rules.{noRule}
-use Rattle.books.specs.RuleBytes.{bodied, fourOf, lentRules, ruleIn, rulesIn}
+use Rattle.books.specs.RuleBytes.{bodied, fourOf, lentRules, kindDir, ruleIn, rulesIn}
 
 body-back : (a : ℕ) (x : Body) → ruleIn (bodied a x) ≡ record { head = a; body = x }
-unfolding ruleIn
+unfolding ruleIn kindDir
 body-back a (Colour c) = refl
 body-back a (Across l r) = refl
 body-back a (Down u v) = refl
@@ -21,9 +23,19 @@ body-back a (Down u v) = refl
 pub rule-back : (r : Rule) → ruleIn (fourOf r) ≡ r
 rule-back r = body-back (r .head) (r .body)
 
+-- A row of kind 0 has a colour, and any other a join in the direction of its kind.
+module _ (x : List ℕ) where
+  pub colour-in : getD x 1 0 ≡ 0 → ruleIn x .body ≡ Colour (getD x 2 0)
+  unfolding ruleIn
+  colour-in e = rw (eq-eqb (getD x 1 0) 0 e)
+
+  pub join-in : (getD x 1 0 ≡ 0 → ⊥) → ruleIn x .body ≡ joins (kindDir (getD x 1 0)) (getD x 2 0) (getD x 3 0)
+  unfolding ruleIn
+  join-in n = rw (ne-eqb (getD x 1 0) 0 n)
+
 -- the i-th rule is that of the i-th row
 pub rule-of-row : (rows : List (List ℕ)) (i : ℕ) → getD (rulesIn rows) i noRule ≡ ruleIn (getD rows i [])
-unfolding ruleIn
+unfolding ruleIn kindDir
 rule-of-row rows i = List·getD-map ruleIn rows i []
 
 rules-back : (rules : List Rule) → rulesIn (map fourOf rules) ≡ rules

@@ -10,7 +10,7 @@ use Rattle.names.proofs.Settled.{Settles, settles, SettlesPart, part-settles}
 pub use Rattle.names.proofs.Settled.{settled}
 use Rattle.books.specs.Book.{noFamily, bookOf}
 use Rattle.books.specs.Sheet.{sheetOf}
-use Rattle.books.specs.RuleBytes.{lentRules}
+use Rattle.books.specs.RuleBytes.{lentRules, kindDir}
 use Rattle.books.specs.Order.{numberedSheet, orderOf}
 use Rattle.books.specs.Answer.{plain, blaming, packed}
 use Rattle.books.specs.Calls.{bookAnswer, sheetAnswer, ticketOf, shown, shownStart, shownPlace}
@@ -50,6 +50,9 @@ read-order-settled book sheet = settles _
 
 pub lend-settled : (rules : List Rule) (count : ℕ) → Settles (lentRules rules count)
 lend-settled rules count = settles _
+
+pub direction-settled : (kind : ℕ) → Settles (kindDir kind)
+direction-settled kind = settles _
 
 -- ── Calls ──
 

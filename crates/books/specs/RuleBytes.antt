@@ -4,10 +4,12 @@ use mathlib.Core.List.{List, [], _∷_, _++_, map}
 use lib.Dec.{eqb}
 use lib.ListN.{getD, take, replicate}
 use Rattle.names.specs.Pick.{pick}
-use Rattle.books.specs.Rules.{joinBody}
+use Rattle.books.specs.Picture.{joins}
 use Rattle.books.specs.declared.rule.Rule.{Rule}
 use Rattle.books.specs.declared.rule.Body.{Body}
 use Rattle.books.specs.declared.rule.Body.the-variants.{Colour, Across, Down}
+use Rattle.books.specs.declared.rule.Dir.{Dir}
+use Rattle.books.specs.declared.rule.Dir.the-variants.{Across as across, Down as down}
 
 abbrev pub bodied : ℕ → Body → List ℕ
 bodied head (Colour c) = head ∷ 0 ∷ c ∷ 0 ∷ []
@@ -21,12 +23,16 @@ fourOf r = bodied (r .head) (r .body)
 unfoldable pub lentRules : List Rule → ℕ → List (List ℕ)
 lentRules rules count = map fourOf (take count rules) ++ replicate (200 - count) (replicate 4 0)
 
+-- the direction of a join, by its kind
+unfoldable pub kindDir : ℕ → Dir
+kindDir kind = pick (eqb kind 1) across down
+
 -- the rule that stands in a row, and the rules that stand in rows
 unfoldable pub ruleIn : List ℕ → Rule
 ruleIn x =
     record {
       head = getD x 0 0;
-      body = pick (eqb (getD x 1 0) 0) (Colour (getD x 2 0)) (joinBody (getD x 1 0) (getD x 2 0) (getD x 3 0));
+      body = pick (eqb (getD x 1 0) 0) (Colour (getD x 2 0)) (joins (kindDir (getD x 1 0)) (getD x 2 0) (getD x 3 0));
     }
 
 abbrev pub rulesIn : List (List ℕ) → List Rule

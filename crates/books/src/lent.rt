@@ -1,9 +1,10 @@
 // The rules of a family laid out in rows of four bytes: head and kind, then a colour, or two motifs, as a book spells them. Rows can be lent to a function
 // that calls itself; by value the rules would be copied at every call and stand on the stack at every level.
 use crate::rule::Body;
+use crate::rule::Dir;
 use crate::rule::Rule;
 ghost use mathlib.Core.Path.{_≡_};
-ghost use Rattle.books.specs.RuleBytes.{fourOf, lentRules};
+ghost use Rattle.books.specs.RuleBytes.{fourOf, lentRules, kindDir};
 
 // A rule's four bytes.
 fn four(r: Rule) -> [u8; 4]
@@ -33,4 +34,14 @@ pub fn lend(rules: [Rule; 200], count: usize) -> [[u8; 4]; 200]
         i += 1;
     }
     rows
+}
+
+// The direction of a join, by the kind in its row.
+pub fn direction(kind: u8) -> Dir
+    ensures { λ d. ⌜ d ≡ kindDir kind ⌝ }
+{
+    if kind == 1 {
+        return Dir::Across;
+    }
+    Dir::Down
 }

@@ -22,7 +22,6 @@ use Rattle.books.specs.Decide.{called?, derives?}
 use Rattle.pieces.specs.Pieces.{pieces}
 use Rattle.pieces.specs.Table.{entry, table}
 use Rattle.names.specs.Bits.{bits}
-use Rattle.pieces.specs.Direction.{reach, front, back}
 use Rattle.pieces.specs.Choice.{works, cutOf, covers, fits, takes, taken, lowest, chosen, choose}
 use Rattle.names.specs.Counted.{least, each}
 use Rattle.pieces.specs.Tree.{treeWithin, treeOf}
@@ -70,7 +69,7 @@ pub cases : Cases
 unfolding numberAt longerAt lastGroup numberIn numberBelow spellNumber leastAt nameOf sameName listed findName colourAt coloursOf put
     colourNumberAt joinAt bodyAt ruleAt rulesAt figuresAt ruledAt figuredAt bookOf sizeAt cellsOf filledAt sheetOf
     andThen orElse called? anyCut fitsBody anyRule givesIn derives?
-    each pieces bits entry table reach front back least works cutOf covers fits takes taken lowest chosen choose treeWithin treeOf
+    each pieces bits entry table least works cutOf covers fits takes taken lowest chosen choose treeWithin treeOf
     judged roomed derivation
     without merged copies joined repeated either-of few? within? written made lent
 cases =

@@ -13,13 +13,13 @@ use Rattle.names.proofs.Tests.{lt-or-le, and-both, and-make}
 use Rattle.books.specs.Picture.{joins}
 use Rattle.books.specs.declared.rule.Rule.{Rule}
 use Rattle.books.specs.declared.rule.Body.{Body}
-use Rattle.books.specs.declared.rule.Body.the-variants.{Colour, Across as AcrossBody, Down as DownBody}
+use Rattle.books.specs.declared.rule.Body.the-variants.{Colour, Across, Down}
 use Rattle.pieces.specs.declared.piece.Piece.{Piece}
-use Rattle.pieces.specs.declared.part.Direction.{Direction}
-use Rattle.pieces.specs.declared.part.Direction.the-variants.{Across, Down}
+use Rattle.books.specs.declared.rule.Dir.{Dir}
+use Rattle.books.specs.declared.rule.Dir.the-variants.{Across as across, Down as down}
 use Rattle.pieces.specs.declared.choice.Choice.{Choice}
 use Rattle.pieces.specs.declared.choice.Choice.the-variants.{Leaf, Join}
-use Rattle.pieces.specs.Direction.{dirOf, reach}
+use Rattle.pieces.specs.Parts.{extent}
 use Rattle.books.specs.Rules.{noRule}
 use Rattle.pieces.specs.View.{View}
 use Rattle.pieces.specs.Choice.{works, cutOf, covers, fits, takes, taken, lowest, chosen, choose}
@@ -36,42 +36,42 @@ pub record Taken (v : View) (rules : List Rule) (a : ℕ) (q : Piece) (i : ℕ) 
   pub lower : (j : ℕ) → j < i → taken v rules a q j ≡ false
 
 -- k is the smallest cut that works
-pub record Cut (has : ℕ → Piece → Bool) (d : Direction) (l r : ℕ) (q : Piece) (k : ℕ) : Type 0 where
+pub record Cut (has : ℕ → Piece → Bool) (d : Dir) (l r : ℕ) (q : Piece) (k : ℕ) : Type 0 where
   pub from-one : 1 ≤ k
-  pub inside : k < reach d q
+  pub inside : k < extent d q
   pub working : works has d l r q k ≡ true
   pub lower : (j : ℕ) → 1 ≤ j → j < k → works has d l r q j ≡ false
 
 abbrev pub Right : View → List Rule → ℕ → Piece → Choice → Type 0
 Right v rules a q (Leaf i) = (c : ℕ) × Taken v rules a q i (Colour c)
-Right v rules a q (Join i d k l r) = Taken v rules a q i (joins (dirOf d) l r) × Cut (v .has) d l r q k
+Right v rules a q (Join i d k l r) = Taken v rules a q i (joins d l r) × Cut (v .has) d l r q k
 
 -- A cut works exactly where both parts have their bits.
-pub cut-set : (has : ℕ → Piece → Bool) (d : Direction) (l r : ℕ) (q : Piece) (k : ℕ) → 1 ≤ k → k < reach d q → works has d l r q k ≡ true → BothSet has d l r q k
+pub cut-set : (has : ℕ → Piece → Bool) (d : Dir) (l r : ℕ) (q : Piece) (k : ℕ) → 1 ≤ k → k < extent d q → works has d l r q k ≡ true → BothSet has d l r q k
 unfolding works
-cut-set has d l r q k h g e = let (x, y) = and-both _ _ e in record { from-one = h; inside = g; front-set = x; back-set = y }
+cut-set has d l r q k h g e = let (x, y) = and-both _ _ e in record { from-one = h; inside = g; first-set = x; rest-set = y }
 
-pub set-works : (has : ℕ → Piece → Bool) (d : Direction) (l r : ℕ) (q : Piece) (k : ℕ) → BothSet has d l r q k → works has d l r q k ≡ true
+pub set-works : (has : ℕ → Piece → Bool) (d : Dir) (l r : ℕ) (q : Piece) (k : ℕ) → BothSet has d l r q k → works has d l r q k ≡ true
 unfolding works
-set-works has d l r q k c = and-make _ _ (c .front-set) (c .back-set)
+set-works has d l r q k c = and-make _ _ (c .first-set) (c .rest-set)
 
 -- The smallest cut works where it lies in the piece.
-cut-is : (has : ℕ → Piece → Bool) (d : Direction) (l r : ℕ) (q : Piece) → cutOf has d l r q < reach d q → Cut has d l r q (cutOf has d l r q)
+cut-is : (has : ℕ → Piece → Bool) (d : Dir) (l r : ℕ) (q : Piece) → cutOf has d l r q < extent d q → Cut has d l r q (cutOf has d l r q)
 unfolding cutOf
 cut-is has d l r q h =
-    let w : Least (works has d l r q) 1 (reach d q - 1) (least (works has d l r q) 1 (reach d q - 1)) = least-is _ _ _ in
+    let w : Least (works has d l r q) 1 (extent d q - 1) (least (works has d l r q) 1 (extent d q - 1)) = least-is _ _ _ in
     record { from-one = w .from; inside = h; working = w .accepted (omega (arith, w .from)); lower = w .lower }
 
 -- It lies there exactly where some cut works.
-cut-within : (has : ℕ → Piece → Bool) (d : Direction) (l r : ℕ) (q : Piece) → (cutOf has d l r q < reach d q) ↔ ((k : ℕ) × BothSet has d l r q k)
+cut-within : (has : ℕ → Piece → Bool) (d : Dir) (l r : ℕ) (q : Piece) → (cutOf has d l r q < extent d q) ↔ ((k : ℕ) × BothSet has d l r q k)
 unfolding cutOf
 cut-within has d l r q =
-    let w : Least (works has d l r q) 1 (reach d q - 1) (least (works has d l r q) 1 (reach d q - 1)) = least-is _ _ _ in (
-      λ h. (least (works has d l r q) 1 (reach d q - 1), cut-set has d l r q _ (w .from) h (w .accepted (omega (arith, w .from)))),
+    let w : Least (works has d l r q) 1 (extent d q - 1) (least (works has d l r q) 1 (extent d q - 1)) = least-is _ _ _ in (
+      λ h. (least (works has d l r q) 1 (extent d q - 1), cut-set has d l r q _ (w .from) h (w .accepted (omega (arith, w .from)))),
       λ c. ⊎-elim
           (λ less. absurd (true≢false (sym (set-works has d l r q (c .0) (c .1)) ∙ w .lower (c .0) (c .1 .from-one) less)))
           (λ upto. omega (arith, c .1 .inside))
-          (lt-or-le (c .0) (least (works has d l r q) 1 (reach d q - 1))),
+          (lt-or-le (c .0) (least (works has d l r q) 1 (extent d q - 1))),
     )
 
 -- A colour fits a piece of one cell alone.
@@ -81,12 +81,12 @@ cell-fits v q c e = let (x, u) = and-both _ _ e in let (y, z) = and-both _ _ u i
 
 -- So the test of a body tells whether it fits.
 pub fits-suits : (v : View) (q : Piece) (x : Body) → (fits v q x ≡ true) ↔ Suits v q x
-unfolding fits reach
+unfolding fits
 fits-suits v q (Colour c) = (cell-fits v q c, λ e. covers-cell (v .paints) q c (e .0) (e .1) ∙ e .2)
-fits-suits v q (AcrossBody l r) =
-    let w = cut-within (v .has) Across l r q in (λ e. w .0 (ltb-true _ _ e), λ c. lt-ltb _ _ (w .1 c))
-fits-suits v q (DownBody u d) =
-    let w = cut-within (v .has) Down u d q in (λ e. w .0 (ltb-true _ _ e), λ c. lt-ltb _ _ (w .1 c))
+fits-suits v q (Across l r) =
+    let w = cut-within (v .has) across l r q in (λ e. w .0 (ltb-true _ _ e), λ c. lt-ltb _ _ (w .1 c))
+fits-suits v q (Down u d) =
+    let w = cut-within (v .has) down u d q in (λ e. w .0 (ltb-true _ _ e), λ c. lt-ltb _ _ (w .1 c))
 
 -- Where a rule fits it is taken, and the lowest is a rule.
 pub suits-taken : (v : View) (rules : List Rule) (a : ℕ) (q : Piece) (i : ℕ) (x : Body) → getD rules i noRule ≡ record { head = a; body = x } → Suits v q x
@@ -108,8 +108,8 @@ lowest-below v rules a q f =
 chosen-right : (v : View) (rules : List Rule) (a : ℕ) (q : Piece) (i : ℕ) (x : Body) → Taken v rules a q i x → Right v rules a q (chosen (v .has) q i x)
 unfolding chosen fits
 chosen-right v rules a q i (Colour c) t = (c, t)
-chosen-right v rules a q i (AcrossBody l r) t = (t, cut-is (v .has) Across l r q (unfold reach in ltb-true _ _ (t .fitting)))
-chosen-right v rules a q i (DownBody u w) t = (t, cut-is (v .has) Down u w q (unfold reach in ltb-true _ _ (t .fitting)))
+chosen-right v rules a q i (Across l r) t = (t, cut-is (v .has) across l r q (ltb-true _ _ (t .fitting)))
+chosen-right v rules a q i (Down u w) t = (t, cut-is (v .has) down u w q (ltb-true _ _ (t .fitting)))
 
 taken-both : (v : View) (rules : List Rule) (a : ℕ) (q : Piece) (i : ℕ) → taken v rules a q i ≡ true
     → (eqb (getD rules i noRule .head) a ≡ true) × (fits v q (getD rules i noRule .body) ≡ true)

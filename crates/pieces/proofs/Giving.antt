@@ -54,12 +54,12 @@ pub derives-able : {b : Contents} {a : ℕ} {p : Picture} → Derives b a p → 
 derives-able {b} {a} (paint c h hr hc e) = let (i, u) = has-at b a (Colour c) h in (i, Colour c, u, (hr, hc, e))
 derives-able {b} {a} {p} (join d l r k h hk hs x y) =
     let (i, u) = has-at b a (joins d l r) h in
-    (i, joins d l r, u, able-joins b p d l r k (record { from-one = hk; inside = hs; front-in = x; back-in = y }))
+    (i, joins d l r, u, able-joins b p d l r k (record { from-one = hk; inside = hs; first-in = x; rest-in = y }))
 
 pub given-derives : {b : Contents} {a : ℕ} {p : Picture} {xs : List ℕ} → Given b a p xs → Derives b a p
 given-derives {b} {a} (leaf i c u ab lo) = paint c (at-has b i a (Colour c) u) (ab .0) (ab .1) (ab .2)
 given-derives {b} {a} (node d i l r k u w lo sm x y) =
-    join d l r k (at-has b i a (joins d l r) u) (w .from-one) (w .inside) (w .front-in) (w .back-in)
+    join d l r k (at-has b i a (joins d l r) u) (w .from-one) (w .inside) (w .first-in) (w .rest-in)
 
 -- Two lowest rules are one rule.
 same-rule : (b : Contents) {a i j : ℕ} {p : Picture} {x y : Body} → At b i a x → At b j a y → Able b p x → Able b p y

@@ -12,19 +12,19 @@ use Rattle.books.specs.Derives.{Derives}
 use Rattle.books.specs.declared.rule.Body.{Body}
 use Rattle.books.specs.declared.rule.Body.the-variants.{Colour}
 use Rattle.pieces.specs.declared.piece.Piece.{Piece}
-use Rattle.pieces.specs.declared.part.Direction.{Direction}
+use Rattle.books.specs.declared.rule.Dir.{Dir}
 use Rattle.pieces.specs.declared.choice.Choice.{Choice}
 use Rattle.pieces.specs.declared.choice.Choice.the-variants.{Leaf, Join}
 use Rattle.pieces.specs.Pieces.{Inside}
 use Rattle.pieces.specs.Area.{area}
-use Rattle.pieces.specs.Direction.{dirOf, front, back}
+use Rattle.pieces.specs.Parts.{firstPart, restPart}
 use Rattle.pieces.specs.Table.{cut}
 use Rattle.pieces.specs.View.{View}
 use Rattle.pieces.proofs.ExactViews.{Exact}
 use Rattle.pieces.specs.Given.{At, Works, Able, Lowest, Given, leaf, node}
 use Rattle.pieces.specs.Choice.{choose}
 use Rattle.pieces.specs.Tree.{nodeTree, treeWithin, treeOf}
-use Rattle.pieces.proofs.Cutting.{area-pos, cut-front, cut-back}
+use Rattle.pieces.proofs.Cutting.{area-pos, cut-first, cut-rest}
 use Rattle.pieces.proofs.Choosing.{Taken, Cut, Right, cut-set, set-works, fits-suits, suits-taken, choose-right}
 use Rattle.pieces.proofs.EveryNode.{set-exactly, suits-able, derived-fits}
 use Rattle.pieces.proofs.TreeSteps.{Parts, parts}
@@ -45,8 +45,8 @@ module _ (b : Contents) (p : Picture) (v : View) (exact : Exact b p v) (q : Piec
       )
 
   -- ... and the cut that is taken the smallest.
-  cut-smallest : (d : Direction) (l r k : ℕ) → Cut (v .has) d l r q k
-      → Works b (dirOf d) l r (cut p q) k × ((j : ℕ) → Works b (dirOf d) l r (cut p q) j → k ≤ j)
+  cut-smallest : (d : Dir) (l r k : ℕ) → Cut (v .has) d l r q k
+      → Works b d l r (cut p q) k × ((j : ℕ) → Works b d l r (cut p q) j → k ≤ j)
   cut-smallest d l r k c = (
     set-exactly b p v exact q inq d l r k .0 (cut-set (v .has) d l r q k (c .from-one) (c .inside) (c .working)),
     λ j w. ⊎-elim
@@ -65,13 +65,13 @@ module _ (b : Contents) (p : Picture) (v : View) (exact : Exact b p v) where
         let (u, able, low) = taken-lowest b p v exact q inq i a (Colour (w .0)) (w .1) in
         leaf i (w .0) u able low
     node-given (Join i d k l r) w =
-        let (u, able, low) = taken-lowest b p v exact q inq i a (joins (dirOf d) l r) (w .0) in
+        let (u, able, low) = taken-lowest b p v exact q inq i a (joins d l r) (w .0) in
         let (ws, smallest) = cut-smallest b p v exact q inq d l r k (w .1) in
         let c : Parts (p .rows) (p .cols) d k q = parts (p .rows) (p .cols) q inq d k (w .1 .from-one) (w .1 .inside) in
-        let gx = smaller l (front d k q) (c .front-in) (omega (arith, c .areas, c .back-some)) (rw (cut-front p q d k) at (ws .front-in)) in
-        let gy = smaller r (back d k q) (c .back-in) (omega (arith, c .areas, c .front-some)) (rw (cut-back p q d k) at (ws .back-in)) in
-        node {xs = treeWithin n v (b .rules) l (front d k q)} {ys = treeWithin n v (b .rules) r (back d k q)}
-        (dirOf d) i l r k u ws low smallest (rw (cut-front p q d k) gx) (rw (cut-back p q d k) gy)
+        let gx = smaller l (firstPart d k q) (c .first-in) (omega (arith, c .areas, c .rest-some)) (rw (cut-first p q d k) at (ws .first-in)) in
+        let gy = smaller r (restPart d k q) (c .rest-in) (omega (arith, c .areas, c .first-some)) (rw (cut-rest p q d k) at (ws .rest-in)) in
+        node {xs = treeWithin n v (b .rules) l (firstPart d k q)} {ys = treeWithin n v (b .rules) r (restPart d k q)}
+        d i l r k u ws low smallest (rw (cut-first p q d k) gx) (rw (cut-rest p q d k) gy)
 
   given-within : (n a : ℕ) (q : Piece) → Inside (p .rows) (p .cols) q → area q ≤ n → Derives b a (cut p q) → Given b a (cut p q) (treeWithin n v (b .rules) a q)
   unfolding treeWithin

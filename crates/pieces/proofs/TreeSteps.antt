@@ -7,49 +7,50 @@ use native.Mathlib.Omega.{arith}
 use lib.ListN.{length, length-append}
 use Rattle.books.specs.declared.rule.Rule.{Rule}
 use Rattle.pieces.specs.declared.piece.Piece.{Piece}
-use Rattle.pieces.specs.declared.part.Direction.{Direction}
+use Rattle.books.specs.declared.rule.Dir.{Dir}
 use Rattle.pieces.specs.declared.choice.Choice.{Choice}
 use Rattle.pieces.specs.declared.choice.Choice.the-variants.{Leaf, Join}
 use Rattle.pieces.specs.Pieces.{Inside}
 use Rattle.pieces.specs.Area.{area, treeSize}
-use Rattle.pieces.specs.Direction.{reach, front, back}
+use Rattle.pieces.specs.Parts.{extent, firstPart, restPart}
 use Rattle.pieces.specs.View.{View}
 use Rattle.pieces.specs.Choice.{choose}
 use Rattle.pieces.specs.Tree.{nodeTree, treeWithin, treeOf}
-use Rattle.pieces.specs.inner.Fitted.{own, in-front, in-back, Fitted}
-use Rattle.pieces.proofs.Cutting.{reach-small, front-inside, back-inside, area-pos, parts-area}
+use Rattle.pieces.specs.inner.Fitted.{own, in-first, in-rest, Fitted}
+use Rattle.pieces.proofs.Cutting.{extent-small, area-pos, parts-area}
+use Rattle.pieces.proofs.PartsOfPieces.{first-inside, rest-inside}
 use Rattle.pieces.proofs.Choosing.{Right, cell-fits, choose-right}
 
 -- The parts of a cut are pieces of smaller area.
-pub record Parts (m n : ℕ) (d : Direction) (k : ℕ) (q : Piece) : Type 0 where
-  pub front-in : Inside m n (front d k q)
-  pub back-in : Inside m n (back d k q)
-  pub front-some : 1 ≤ area (front d k q)
-  pub back-some : 1 ≤ area (back d k q)
-  pub areas : area (front d k q) + area (back d k q) ≡ area q
+pub record Parts (m n : ℕ) (d : Dir) (k : ℕ) (q : Piece) : Type 0 where
+  pub first-in : Inside m n (firstPart d k q)
+  pub rest-in : Inside m n (restPart d k q)
+  pub first-some : 1 ≤ area (firstPart d k q)
+  pub rest-some : 1 ≤ area (restPart d k q)
+  pub areas : area (firstPart d k q) + area (restPart d k q) ≡ area q
 
-pub parts : (m n : ℕ) (q : Piece) → Inside m n q → (d : Direction) (k : ℕ) → 1 ≤ k → k < reach d q → Parts m n d k q
+pub parts : (m n : ℕ) (q : Piece) → Inside m n q → (d : Dir) (k : ℕ) → 1 ≤ k → k < extent d q → Parts m n d k q
 parts m n q i d k h g =
-    let f : Inside m n (front d k q) = front-inside m n q i d k h g in
-    let b : Inside m n (back d k q) = back-inside m n q i d k g in
+    let f : Inside m n (firstPart d k q) = first-inside d k i h (omega arith) in
+    let b : Inside m n (restPart d k q) = rest-inside d k i g in
     record {
-      front-in = f;
-      back-in = b;
-      front-some = area-pos m n (front d k q) f;
-      back-some = area-pos m n (back d k q) b;
+      first-in = f;
+      rest-in = b;
+      first-some = area-pos m n (firstPart d k q) f;
+      rest-some = area-pos m n (restPart d k q) b;
       areas = parts-area d k q (omega arith);
     }
 
 -- A choice that was made where a rule fits at every node is right, and a rule fits at every node of its parts.
 abbrev FittedParts : View → List Rule → Piece → Choice → Type 0
 FittedParts v rules q (Leaf i) = Unit {0}
-FittedParts v rules q (Join i d k l r) = Fitted v rules l (front d k q) × Fitted v rules r (back d k q)
+FittedParts v rules q (Join i d k l r) = Fitted v rules l (firstPart d k q) × Fitted v rules r (restPart d k q)
 
 pub fitted-parts : (v : View) (rules : List Rule) (a : ℕ) (q : Piece) → Fitted v rules a q → (o : Choice) → choose v rules a q ≡ o → FittedParts v rules q o
 fitted-parts v rules a q f (Leaf i) e = tt
 fitted-parts v rules a q f (Join i d k l r) e = (
-  record { at-each = λ n. f .at-each (in-front i d k l r e n) },
-  record { at-each = λ n. f .at-each (in-back i d k l r e n) },
+  record { at-each = λ n. f .at-each (in-first i d k l r e n) },
+  record { at-each = λ n. f .at-each (in-rest i d k l r e n) },
 )
 
 pub fitted-right : (v : View) (rules : List Rule) (a : ℕ) (q : Piece) → Fitted v rules a q → Right v rules a q (choose v rules a q)
@@ -64,8 +65,8 @@ module _ (v : View) (rules : List Rule) (m n : ℕ) where
   node-same s t a q i e (Join j d k l r) w f =
       let p : Parts m n d k q = parts m n q i d k (w .1 .from-one) (w .1 .inside) in
       ap₂ (λ (x y : List ℕ). j ∷ k ∷ (x ++ y))
-      (e l (front d k q) (p .front-in) (omega (arith, p .areas, p .back-some)) (f .0))
-      (e r (back d k q) (p .back-in) (omega (arith, p .areas, p .front-some)) (f .1))
+      (e l (firstPart d k q) (p .first-in) (omega (arith, p .areas, p .rest-some)) (f .0))
+      (e r (restPart d k q) (p .rest-in) (omega (arith, p .areas, p .first-some)) (f .1))
 
   -- The area is depth enough.
   enough : (f g : ℕ) (a : ℕ) (q : Piece) → Inside m n q → area q ≤ f → area q ≤ g → Fitted v rules a q → treeWithin f v rules a q ≡ treeWithin g v rules a q
@@ -89,8 +90,8 @@ module _ (v : View) (rules : List Rule) (m n : ℕ) where
 
 module _ (v : View) (rules : List Rule) (m n : ℕ) (P : Piece → List ℕ → Type 0)
     (leaf : (q : Piece) (i : ℕ) → q .height ≡ 1 → q .width ≡ 1 → i < length rules → P q (i ∷ 0 ∷ []))
-    (node : (q : Piece) (d : Direction) (i k : ℕ) (xs ys : List ℕ) → Inside m n q → 1 ≤ k → k < reach d q → i < length rules
-    → P (front d k q) xs → P (back d k q) ys → P q (i ∷ k ∷ (xs ++ ys))) where
+    (node : (q : Piece) (d : Dir) (i k : ℕ) (xs ys : List ℕ) → Inside m n q → 1 ≤ k → k < extent d q → i < length rules
+    → P (firstPart d k q) xs → P (restPart d k q) ys → P q (i ∷ k ∷ (xs ++ ys))) where
   within-each : (f : ℕ) (a : ℕ) (q : Piece) → Inside m n q → area q ≤ f → Fitted v rules a q → P q (treeWithin f v rules a q)
   unfolding treeWithin
   within-each zero a q i h w = absurd (omega (arith, area-pos m n q i))
@@ -103,17 +104,17 @@ module _ (v : View) (rules : List Rule) (m n : ℕ) (P : Piece → List ℕ → 
       go (Leaf j) r z e = let (one, alone, _) = cell-fits v q (r .0) (r .1 .fitting) in leaf q j one alone (r .1 .below)
       go (Join j d k l r) u z e =
           let p : Parts m n d k q = parts m n q i d k (u .1 .from-one) (u .1 .inside) in
-          node q d j k (treeWithin f v rules l (front d k q)) (treeWithin f v rules r (back d k q)) i (u .1 .from-one) (u .1 .inside) (u .0 .below)
-          (e l (front d k q) (p .front-in) (omega (arith, p .areas, p .back-some)) (z .0))
-          (e r (back d k q) (p .back-in) (omega (arith, p .areas, p .front-some)) (z .1))
+          node q d j k (treeWithin f v rules l (firstPart d k q)) (treeWithin f v rules r (restPart d k q)) i (u .1 .from-one) (u .1 .inside) (u .0 .below)
+          (e l (firstPart d k q) (p .first-in) (omega (arith, p .areas, p .rest-some)) (z .0))
+          (e r (restPart d k q) (p .rest-in) (omega (arith, p .areas, p .first-some)) (z .1))
 
   tree-each : (a : ℕ) (q : Piece) → Inside m n q → Fitted v rules a q → P q (treeOf v rules a q)
   unfolding treeOf
   tree-each a q i w = within-each (area q) a q i (omega arith) w
 
 -- 2mn - 1 nodes of two numbers each
-pub parts-room : (m n : ℕ) (d : Direction) (k : ℕ) (q : Piece) → Parts m n d k q → treeSize q ≡ 2 + (treeSize (front d k q) + treeSize (back d k q))
-parts-room m n d k q p = omega (arith, p .areas, p .front-some, p .back-some)
+pub parts-room : (m n : ℕ) (d : Dir) (k : ℕ) (q : Piece) → Parts m n d k q → treeSize q ≡ 2 + (treeSize (firstPart d k q) + treeSize (restPart d k q))
+parts-room m n d k q p = omega (arith, p .areas, p .first-some, p .rest-some)
 
 pub tree-length : (v : View) (rules : List Rule) (m n : ℕ) (a : ℕ) (q : Piece) → Inside m n q → Fitted v rules a q → length (treeOf v rules a q) ≡ treeSize q
 tree-length v rules m n =
@@ -135,4 +136,4 @@ pub tree-small : (v : View) (rules : List Rule) (m n top : ℕ) → length rules
 tree-small v rules m n top hr hm hn ht =
     tree-each v rules m n (λ q. Small top)
     (λ q i h w less. (omega arith, (ht, tt)))
-    (λ q d i k xs ys inq h g less x y. (omega arith, (omega (arith, reach-small m n q inq d top hm hn), small-append top xs ys x y)))
+    (λ q d i k xs ys inq h g less x y. (omega arith, (omega (arith, extent-small m n q inq d top hm hn), small-append top xs ys x y)))

@@ -8,23 +8,23 @@ use Rattle.names.specs.Counted.{least}
 use Rattle.names.specs.Pick.{andThen}
 use Rattle.books.specs.declared.rule.Rule.{Rule}
 use Rattle.books.specs.declared.rule.Body.{Body}
-use Rattle.books.specs.declared.rule.Body.the-variants.{Colour, Across as AcrossBody, Down as DownBody}
+use Rattle.books.specs.declared.rule.Body.the-variants.{Colour, Across, Down}
 use Rattle.pieces.specs.declared.piece.Piece.{Piece}
-use Rattle.pieces.specs.declared.part.Direction.{Direction}
-use Rattle.pieces.specs.declared.part.Direction.the-variants.{Across, Down}
+use Rattle.books.specs.declared.rule.Dir.{Dir}
+use Rattle.books.specs.declared.rule.Dir.the-variants.{Across as across, Down as down}
 use Rattle.pieces.specs.declared.choice.Choice.{Choice}
 use Rattle.pieces.specs.declared.choice.Choice.the-variants.{Leaf, Join}
-use Rattle.pieces.specs.Direction.{reach, front, back}
+use Rattle.pieces.specs.Parts.{extent, firstPart, restPart}
 use Rattle.books.specs.Rules.{noRule}
 use Rattle.pieces.specs.View.{View}
 
 -- a cut works where both parts have their bits
-unfoldable pub works : (ℕ → Piece → Bool) → Direction → ℕ → ℕ → Piece → ℕ → Bool
-works has d l r q k = andThen (has l (front d k q)) (λ _. has r (back d k q))
+unfoldable pub works : (ℕ → Piece → Bool) → Dir → ℕ → ℕ → Piece → ℕ → Bool
+works has d l r q k = andThen (has l (firstPart d k q)) (λ _. has r (restPart d k q))
 
 -- the smallest cut that works, or the piece's reach where none does
-unfoldable pub cutOf : (ℕ → Piece → Bool) → Direction → ℕ → ℕ → Piece → ℕ
-cutOf has d l r q = least (works has d l r q) 1 (reach d q - 1)
+unfoldable pub cutOf : (ℕ → Piece → Bool) → Dir → ℕ → ℕ → Piece → ℕ
+cutOf has d l r q = least (works has d l r q) 1 (extent d q - 1)
 
 -- whether a piece is one cell of a colour
 unfoldable pub covers : (ℕ → Piece → Bool) → Piece → ℕ → Bool
@@ -33,8 +33,8 @@ covers paints q c = andThen (eqb (q .height) 1) (λ _. andThen (eqb (q .width) 1
 -- whether a body fits a piece
 unfoldable pub fits : View → Piece → Body → Bool
 fits v q (Colour c) = covers (v .paints) q c
-fits v q (AcrossBody l r) = ltb (cutOf (v .has) Across l r q) (q .width)
-fits v q (DownBody u w) = ltb (cutOf (v .has) Down u w q) (q .height)
+fits v q (Across l r) = ltb (cutOf (v .has) across l r q) (q .width)
+fits v q (Down u w) = ltb (cutOf (v .has) down u w q) (q .height)
 
 -- whether a rule has head a and fits
 unfoldable pub takes : View → ℕ → Piece → Rule → Bool
@@ -48,13 +48,13 @@ unfoldable pub lowest : View → List Rule → ℕ → Piece → ℕ
 lowest v rules a q = least (taken v rules a q) 0 (length rules)
 
 -- rule number i with the cut that its body wants
-abbrev pub joinWith : (ℕ → Piece → Bool) → Piece → ℕ → Direction → ℕ → ℕ → Choice
+abbrev pub joinWith : (ℕ → Piece → Bool) → Piece → ℕ → Dir → ℕ → ℕ → Choice
 joinWith has q i d l r = Join i d (cutOf has d l r q) l r
 
 unfoldable pub chosen : (ℕ → Piece → Bool) → Piece → ℕ → Body → Choice
 chosen has q i (Colour c) = Leaf i
-chosen has q i (AcrossBody l r) = joinWith has q i Across l r
-chosen has q i (DownBody u w) = joinWith has q i Down u w
+chosen has q i (Across l r) = joinWith has q i across l r
+chosen has q i (Down u w) = joinWith has q i down u w
 
 -- asked only where some rule is taken
 unfoldable pub choose : View → List Rule → ℕ → Piece → Choice

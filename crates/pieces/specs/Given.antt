@@ -21,8 +21,8 @@ pub record At (b : Contents) (i a : ℕ) (x : Body) : Type 0 where
 pub record Works (b : Contents) (d : Dir) (l r : ℕ) (p : Picture) (k : ℕ) : Type 0 where
   pub from-one : 1 ≤ k
   pub inside : k < size d p
-  pub front-in : Derives b l (first d k p)
-  pub back-in : Derives b r (rest d k p)
+  pub first-in : Derives b l (first d k p)
+  pub rest-in : Derives b r (rest d k p)
 
 -- a body can derive p
 abbrev pub Able : Contents → Picture → Body → Type 0

@@ -1,7 +1,6 @@
 pub mod Pieces
 pub mod Parts
 pub mod Table
-pub mod Direction
 pub mod Area
 pub mod View
 pub mod Given

@@ -11,7 +11,7 @@ use Rattle.pieces.specs.declared.piece.Piece.{Piece}
 use Rattle.pieces.specs.declared.choice.Choice.{Choice}
 use Rattle.pieces.specs.declared.choice.Choice.the-variants.{Leaf, Join}
 use Rattle.pieces.specs.Area.{whole, area}
-use Rattle.pieces.specs.Direction.{front, back}
+use Rattle.pieces.specs.Parts.{firstPart, restPart}
 use Rattle.pieces.specs.Table.{cut}
 use Rattle.pieces.specs.View.{View, named}
 use Rattle.pieces.specs.Choice.{choose}
@@ -19,7 +19,7 @@ use Rattle.pieces.specs.Choice.{choose}
 -- node first, then the left or upper part, then the right or lower part, with `go` for the tree of a part; the cut of a colour rule is written as 0
 abbrev pub nodeTree : (ℕ → Piece → List ℕ) → Piece → Choice → List ℕ
 nodeTree go q (Leaf i) = i ∷ 0 ∷ []
-nodeTree go q (Join i d k l r) = i ∷ k ∷ (go l (front d k q) ++ go r (back d k q))
+nodeTree go q (Join i d k l r) = i ∷ k ∷ (go l (firstPart d k q) ++ go r (restPart d k q))
 
 unfoldable pub treeWithin : ℕ → View → List Rule → ℕ → Piece → List ℕ
 treeWithin zero v rules a q = []

@@ -1,27 +1,27 @@
 // What is taken at a piece and its motif: the lowest-numbered rule that fits, and for a join the smallest cut that works.
 // The rules are lent, and colours has for each cell the number of its colour in the book; the rest is as for the cuts.
 use crate::cut::both_have;
-use crate::part::Direction;
 use crate::part::Part;
 use crate::part::parts_of;
 use crate::part::reach;
 use crate::piece::Piece;
 use crate::piece::Size;
 use crate::piece::times;
+use books::lent::direction;
+use books::rule::Dir;
 ghost use mathlib.Core.Path.{_≡_};
 ghost use Prim.Native.Nat.{_*_, _≤_};
 ghost use lib.ListN.{length};
 ghost use Rattle.pieces.specs.Choice.{covers, cutOf, fits, lowest, chosen, choose};
 ghost use Rattle.pieces.specs.inner.Room.{Room};
 ghost use Rattle.pieces.specs.inner.Fitted.{RuleFits};
-ghost use Rattle.pieces.specs.Direction.{directionOf};
 ghost use Rattle.books.specs.RuleBytes.{ruleIn, rulesIn};
 ghost use Rattle.pieces.specs.inner.Seen.{On, Tabled, Ready, hasBit, hasColour, seen};
 
 // A colour rule, by its number; or a join, by its number, direction, cut and the motifs of its two parts.
 pub(crate) enum Choice {
     Leaf(usize),
-    Join(usize, Direction, usize, u8, u8),
+    Join(usize, Dir, usize, u8, u8),
 }
 
 // Whether a piece is one cell of a colour.
@@ -39,7 +39,7 @@ fn covers(colours: &[u8], size: Size, p: Piece, colour: u8) -> bool
 }
 
 // The smallest cut of a piece that works for a join's motifs, or its reach where none does.
-fn smallest_cut(work: &[u32], size: Size, p: Piece, d: Direction, l: u8, r: u8) -> usize
+fn smallest_cut(work: &[u32], size: Size, p: Piece, d: Dir, l: u8, r: u8) -> usize
     requires { ⌜ Tabled size (now work) × On size p ⌝ }
     ensures { λ k. ⌜ k ≡ cutOf (hasBit size (now (work .entry))) d l r p ⌝ }
 {
@@ -52,16 +52,6 @@ fn smallest_cut(work: &[u32], size: Size, p: Piece, d: Direction, l: u8, r: u8) 
         k += 1;
     }
     k
-}
-
-// The direction of a join, by its kind.
-fn direction(kind: u8) -> Direction
-    ensures { λ d. ⌜ d ≡ directionOf kind ⌝ }
-{
-    if kind == 1 {
-        return Direction::Across;
-    }
-    Direction::Down
 }
 
 // Whether a rule's body fits a piece, by the rule's bytes: a colour where the piece is one cell of it, a join where a cut works.

@@ -1,16 +1,11 @@
 // The two parts of a piece that is cut across or down: each is again a piece, with a motif of its own.
 use crate::piece::Piece;
+use books::rule::Dir;
 ghost use mathlib.Core.Path.{_≡_};
 ghost use Prim.Native.Nat.{_+_, _≤_};
-ghost use Rattle.pieces.specs.Direction.{reach};
+ghost use Rattle.pieces.specs.Parts.{extent};
 ghost use Rattle.pieces.specs.inner.Room.{most};
 ghost use Rattle.pieces.specs.inner.PartsOf.{partsOf};
-
-// The two ways of joining.
-pub(crate) enum Direction {
-    Across,
-    Down,
-}
 
 // A piece and its motif.
 pub(crate) struct Part {
@@ -25,29 +20,29 @@ pub(crate) struct Parts {
 }
 
 // How far a piece reaches in a direction: its columns, or its rows.
-pub(crate) fn reach(p: Piece, d: Direction) -> usize
-    ensures { λ r. ⌜ r ≡ reach d p ⌝ }
+pub(crate) fn reach(p: Piece, d: Dir) -> usize
+    ensures { λ r. ⌜ r ≡ extent d p ⌝ }
 {
     match d {
-        Direction::Across => p.width,
-        Direction::Down => p.height,
+        Dir::Across => p.width,
+        Dir::Down => p.height,
     }
 }
 
 // The two parts of a piece at a cut, for their motifs. The piece lies on a sheet that there is room for and the cut in the piece, so that nothing wraps.
-pub(crate) fn parts_of(p: Piece, d: Direction, k: usize, l: u8, r: u8) -> Parts
-    requires { ⌜ (k ≤ reach d p) × (p .top + p .height ≤ most) × (p .left + p .width ≤ most) ⌝ }
+pub(crate) fn parts_of(p: Piece, d: Dir, k: usize, l: u8, r: u8) -> Parts
+    requires { ⌜ (k ≤ extent d p) × (p .top + p .height ≤ most) × (p .left + p .width ≤ most) ⌝ }
     ensures { λ x. ⌜ x ≡ partsOf d k l r p ⌝ }
 {
     let mut first = p;
     let mut rest = p;
     match d {
-        Direction::Across => {
+        Dir::Across => {
             first.width = k;
             rest.left = p.left + k;
             rest.width = p.width - k;
         }
-        Direction::Down => {
+        Dir::Down => {
             first.height = k;
             rest.top = p.top + k;
             rest.height = p.height - k;

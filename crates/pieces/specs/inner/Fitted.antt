@@ -7,28 +7,28 @@ use lib.ListN.{length, getD}
 use Rattle.books.specs.Rules.{noRule}
 use Rattle.books.specs.declared.rule.Rule.{Rule}
 use Rattle.books.specs.declared.rule.Body.{Body}
-use Rattle.books.specs.declared.rule.Body.the-variants.{Colour, Across as AcrossBody, Down as DownBody}
+use Rattle.books.specs.declared.rule.Body.the-variants.{Colour, Across, Down}
 use Rattle.pieces.specs.declared.piece.Piece.{Piece}
 use Rattle.pieces.specs.declared.part.Part.{Part}
-use Rattle.pieces.specs.declared.part.Direction.{Direction}
-use Rattle.pieces.specs.declared.part.Direction.the-variants.{Across, Down}
+use Rattle.books.specs.declared.rule.Dir.{Dir}
+use Rattle.books.specs.declared.rule.Dir.the-variants.{Across as across, Down as down}
 use Rattle.pieces.specs.declared.choice.Choice.the-variants.{Join}
-use Rattle.pieces.specs.Direction.{reach, front, back}
+use Rattle.pieces.specs.Parts.{extent, firstPart, restPart}
 use Rattle.pieces.specs.View.{View}
 use Rattle.pieces.specs.Choice.{choose}
 
 -- a cut of a piece whose two parts have their bits set
-pub record BothSet (has : ℕ → Piece → Bool) (d : Direction) (l r : ℕ) (q : Piece) (k : ℕ) : Type 0 where
+pub record BothSet (has : ℕ → Piece → Bool) (d : Dir) (l r : ℕ) (q : Piece) (k : ℕ) : Type 0 where
   pub from-one : 1 ≤ k
-  pub inside : k < reach d q
-  pub front-set : has l (front d k q) ≡ true
-  pub back-set : has r (back d k q) ≡ true
+  pub inside : k < extent d q
+  pub first-set : has l (firstPart d k q) ≡ true
+  pub rest-set : has r (restPart d k q) ≡ true
 
 -- a colour for the cell, or a join with such a cut
 abbrev pub Suits : View → Piece → Body → Type 0
 Suits v q (Colour c) = (q .height ≡ 1) × (q .width ≡ 1) × (v .paints c q ≡ true)
-Suits v q (AcrossBody l r) = (k : ℕ) × BothSet (v .has) Across l r q k
-Suits v q (DownBody u w) = (k : ℕ) × BothSet (v .has) Down u w q k
+Suits v q (Across l r) = (k : ℕ) × BothSet (v .has) across l r q k
+Suits v q (Down u w) = (k : ℕ) × BothSet (v .has) down u w q k
 
 -- a rule with head a fits
 pub record RuleFits (v : View) (rules : List Rule) (a : ℕ) (q : Piece) : Type 0 where
@@ -41,10 +41,10 @@ pub record RuleFits (v : View) (rules : List Rule) (a : ℕ) (q : Piece) : Type 
 -- the nodes of the tree of a at q, each a motif x at a piece y: its own, and those of the two parts of the join that is taken
 pub data NodeOf (v : View) (rules : List Rule) : ℕ → Piece → ℕ → Piece → Type 0 where
   own : {a : ℕ} {q : Piece} → NodeOf v rules a q a q
-  in-front : {a x : ℕ} {q y : Piece} (i : ℕ) (d : Direction) (k l r : ℕ) → choose v rules a q ≡ Join i d k l r
-      → NodeOf v rules l (front d k q) x y → NodeOf v rules a q x y
-  in-back : {a x : ℕ} {q y : Piece} (i : ℕ) (d : Direction) (k l r : ℕ) → choose v rules a q ≡ Join i d k l r
-      → NodeOf v rules r (back d k q) x y → NodeOf v rules a q x y
+  in-first : {a x : ℕ} {q y : Piece} (i : ℕ) (d : Dir) (k l r : ℕ) → choose v rules a q ≡ Join i d k l r
+      → NodeOf v rules l (firstPart d k q) x y → NodeOf v rules a q x y
+  in-rest : {a x : ℕ} {q y : Piece} (i : ℕ) (d : Dir) (k l r : ℕ) → choose v rules a q ≡ Join i d k l r
+      → NodeOf v rules r (restPart d k q) x y → NodeOf v rules a q x y
 
 pub record Fitted (v : View) (rules : List Rule) (a : ℕ) (q : Piece) : Type 0 where
   pub at-each : {x : ℕ} {y : Piece} → NodeOf v rules a q x y → RuleFits v rules x y

@@ -1,13 +1,14 @@
 -- The loop tries one cut after the other: the least cut from k on is the least of all, and a cut that works lies in the piece.
 use Prim.Native.Nat.{_-_, _≤_}
 use mathlib.Core.Path.{_≡_, sym, _∙_}
+use native.Mathlib.Nat.{le-of-lt}
 use native.Mathlib.Omega.{arith}
 use denote.Ref.{now}
 use borrow.Author.Needs.{needs}
 use Rattle.pieces.specs.inner.Seen.{hasBit}
 use Rattle.pieces.specs.Choice.{works, cutOf}
 use Rattle.names.specs.Counted.{least}
-use Rattle.pieces.proofs.Cutting.{front-inside, back-inside}
+use Rattle.pieces.proofs.PartsOfPieces.{first-inside, rest-inside}
 use Rattle.names.proofs.Least.{least-found, least-passed, least-none}
 use Rattle.pieces.proofs.choice.smallest_cut.Statement.{statement}
 use Rattle.pieces.proofs.choice.smallest_cut.Tie as tie
@@ -38,7 +39,7 @@ both-have-requires c κs =
     let s = began t in
     let inside = rw (t .before .reach .ensures) at (c .before .loop-test .taken) in
     rw (c .parts-of .ensures)
-    (s .pre .0, front-inside _ _ _ (s .pre .1) _ _ (t .loop .inv .0) inside, back-inside _ _ _ (s .pre .1) _ _ inside)
+    (s .pre .0, first-inside (s .args .d) _ (s .pre .1) (t .loop .inv .0) (le-of-lt inside), rest-inside (s .args .d) _ (s .pre .1) inside)
 
 -- What the test of a cut says.
 tried : (t : tie.After-both-have Inv-loop μ-loop) →

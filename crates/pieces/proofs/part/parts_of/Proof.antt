@@ -1,18 +1,15 @@
 -- The two directions are the definition's: the cut lies in the piece and the piece on a sheet, so that nothing wraps.
 use Prim.Native.Nat.{_≤_}
 use native.Mathlib.Omega.{arith}
-use Rattle.pieces.specs.Direction.{reach, front, back}
 use borrow.Author.Needs.{needs}
 use Rattle.pieces.proofs.part.parts_of.Statement.{statement}
 use Rattle.pieces.proofs.part.parts_of.Tie as tie
 
 -- In the arm of a direction: the cut lies in the piece.
 across-in : (t : tie.After-enum-told) → let a = t .before .before .args in a .k ≤ a .p .width
-unfolding reach
 across-in t = rw (t .enum-told .given .1) at (t .before .before .pre .0)
 
 down-in : (t : tie.After-enum-told2) → let a = t .before .before .args in a .k ≤ a .p .height
-unfolding reach
 down-in t = rw (t .enum-told2 .given .1) at (t .before .before .pre .0)
 
 add-rest : tie.Need-add-rest
@@ -28,11 +25,9 @@ sub-rest-2 : tie.Need-sub-rest-2
 sub-rest-2 c = down-in (c .before .before)
 
 returns : tie.Need-returns
-unfolding front back
 returns c = rw (c .before .before .enum-told .given .1)
 
 returns-2 : tie.Need-returns-2
-unfolding front back
 returns-2 c = rw (c .before .before .enum-told2 .given .1)
 
 pub parts-of-spec : {M : Type 1} → statement M

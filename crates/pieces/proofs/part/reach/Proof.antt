@@ -1,15 +1,12 @@
 -- The two directions are the definition's.
-use Rattle.pieces.specs.Direction.{reach}
 use borrow.Author.Needs.{needs}
 use Rattle.pieces.proofs.part.reach.Statement.{statement}
 use Rattle.pieces.proofs.part.reach.Tie as tie
 
 returns : tie.Need-returns
-unfolding reach
 returns c = rw (c .enum-told .given .1)
 
 returns-2 : tie.Need-returns-2
-unfolding reach
 returns-2 c = rw (c .enum-told2 .given .1)
 
 pub reach-spec : {M : Type 1} → statement M

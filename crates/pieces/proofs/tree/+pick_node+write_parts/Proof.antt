@@ -137,7 +137,7 @@ module _ (t : ℕ) where
       let put = c .before .before .before .before .put-node2 in
       rw (c .before .parts-of .ensures) (
         omega (arith, s .pre .0, p),
-        (g .0, ((p .front-in, p .back-in, omega (arith, g .1 .0 .1, j .rooms, put .ensures .next-is, put .kept .0)), (j .front-fitted, j .back-fitted))),
+        (g .0, ((p .first-in, p .rest-in, omega (arith, g .1 .0 .1, j .rooms, put .ensures .next-is, put .kept .0)), (j .first-fitted, j .rest-fitted))),
       )
 
   pick-node-same-length : pick-node-lts.Need-same-length (picks t) (pick-node-at t) pick-node.Post
