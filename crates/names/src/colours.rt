@@ -30,7 +30,7 @@ pub struct ColoursRead {
     pub next: usize,
 }
 
-// The same of a list whose places went into lent arrays: what is told besides.
+// What is told of a list whose places went into lent arrays.
 pub struct ListRead {
     pub fault: Fault,
     pub count: usize,
@@ -48,7 +48,7 @@ pub fn no_colours() -> Colours
     }
 }
 
-// A refused list leaves nothing in the arrays.
+// A refused list leaves 0 in all of both arrays.
 fn refuse_list(
     f: Fault,
     starts: &mut [u16; MOST_COLOURS],

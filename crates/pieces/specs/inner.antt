@@ -4,6 +4,7 @@ pub mod NextTo
 pub mod Seen
 pub mod PartsOf
 pub mod Fitted
+pub mod Tried
 pub mod Course
 pub mod Firing
 pub mod Masks

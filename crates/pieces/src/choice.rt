@@ -12,16 +12,29 @@ use books::rule::Dir;
 ghost use mathlib.Core.Path.{_≡_};
 ghost use Prim.Native.Nat.{_*_, _≤_};
 ghost use lib.ListN.{length};
-ghost use Rattle.pieces.specs.Choice.{covers, cutOf, fits, lowest, chosen, choose};
+ghost use Rattle.pieces.specs.Choice.{covers, cutOf, choose};
 ghost use Rattle.pieces.specs.inner.Room.{Room};
 ghost use Rattle.pieces.specs.inner.Fitted.{RuleFits};
 ghost use Rattle.books.specs.RuleBytes.{ruleIn, rulesIn};
+ghost use Rattle.pieces.specs.inner.Tried.{tried};
 ghost use Rattle.pieces.specs.inner.Seen.{On, Tabled, Ready, hasBit, hasColour, seen};
 
 // A colour rule, by its number; or a join, by its number, direction, cut and the motifs of its two parts.
 pub(crate) enum Choice {
     Leaf(usize),
-    Join(usize, Dir, usize, u8, u8),
+    Join {
+        rule: usize,
+        direction: Dir,
+        cut: usize,
+        first: u8,
+        second: u8,
+    },
+}
+
+// A rule that is tried at a piece is taken where it fits, and passed over where it does not.
+enum Tried {
+    Taken(Choice),
+    Passed,
 }
 
 // Whether a piece is one cell of a colour.
@@ -54,56 +67,48 @@ fn smallest_cut(work: &[u32], size: Size, p: Piece, d: Dir, l: u8, r: u8) -> usi
     k
 }
 
-// Whether a rule's body fits a piece, by the rule's bytes: a colour where the piece is one cell of it, a join where a cut works.
-fn rule_fits(work: &[u32], colours: &[u8], size: Size, p: Piece, rule: [u8; 4]) -> bool
-    requires { ⌜ Ready size (now work) (now colours) × On size p ⌝ }
-    ensures { λ x. ⌜ x ≡ fits (seen size (now (work .entry)) (now (colours .entry))) p (ruleIn rule .body) ⌝ }
-{
-    if rule[1] == 0 {
-        return covers(colours, size, p, rule[2]);
-    }
-    let d = direction(rule[1]);
-    smallest_cut(work, size, p, d, rule[2], rule[3]) < reach(p, d)
-}
-
-// The rules are tried in their order: the first that has the motif for its head and fits, or the number of the rules where none does.
-fn lowest_rule(rules: &[[u8; 4]], work: &[u32], colours: &[u8], size: Size, x: Part) -> usize
+// A rule is tried at a piece and its motif, by its number and its row: one with another head is passed over; a colour fits where the piece is one cell
+// of it, and a join where a cut works, and is taken with the smallest.
+fn try_rule(work: &[u32], colours: &[u8], size: Size, x: Part, i: usize, rule: [u8; 4]) -> Tried
     requires { ⌜ Ready size (now work) (now colours) × On size (x .piece) ⌝ }
-    ensures { λ i. ⌜ i ≡ lowest (seen size (now (work .entry)) (now (colours .entry))) (rulesIn (now (rules .entry))) (x .motif) (x .piece) ⌝ }
+    ensures { λ o. ⌜ o ≡ tried (seen size (now (work .entry)) (now (colours .entry))) (x .motif) (x .piece) i (ruleIn rule) ⌝ }
 {
-    let mut i = 0;
-    while i < rules.len() {
-        let rule = rules[i];
-        if rule[0] == x.motif {
-            if rule_fits(work, colours, size, x.piece, rule) {
-                return i;
-            }
-        }
-        i += 1;
+    if rule[0] != x.motif {
+        return Tried::Passed;
     }
-    i
-}
-
-// What a rule gives at a piece, by its number and its bytes: itself where it is a colour rule, and a join with its smallest cut.
-fn chosen(work: &[u32], size: Size, p: Piece, i: usize, rule: [u8; 4]) -> Choice
-    requires { ⌜ Tabled size (now work) × On size p ⌝ }
-    ensures { λ o. ⌜ o ≡ chosen (hasBit size (now (work .entry))) p i (ruleIn rule .body) ⌝ }
-{
     if rule[1] == 0 {
-        return Choice::Leaf(i);
+        if covers(colours, size, x.piece, rule[2]) {
+            return Tried::Taken(Choice::Leaf(i));
+        }
+        return Tried::Passed;
     }
     let d = direction(rule[1]);
-    let k = smallest_cut(work, size, p, d, rule[2], rule[3]);
-    Choice::Join(i, d, k, rule[2], rule[3])
+    let k = smallest_cut(work, size, x.piece, d, rule[2], rule[3]);
+    if k < reach(x.piece, d) {
+        return Tried::Taken(Choice::Join {
+            rule: i,
+            direction: d,
+            cut: k,
+            first: rule[2],
+            second: rule[3],
+        });
+    }
+    Tried::Passed
 }
 
-// What is taken at a piece where a rule fits: the lowest rule that does, so that there is one.
+// What is taken at a piece where a rule fits: of the rules that have the motif for their head the first that fits. There is one, so that the search ends.
 pub(crate) fn choose(rules: &[[u8; 4]], work: &[u32], colours: &[u8], size: Size, x: Part) -> Choice
     requires { ⌜ Ready size (now work) (now colours) × On size (x .piece) ⌝ }
     requires { ⌜ RuleFits (seen size (now work) (now colours)) (rulesIn (now rules)) (x .motif) (x .piece) ⌝ }
     ensures { λ o. ⌜ o ≡ choose (seen size (now (work .entry)) (now (colours .entry))) (rulesIn (now (rules .entry))) (x .motif) (x .piece) ⌝ }
 {
-    let i = lowest_rule(rules, work, colours, size, x);
-    let rule = rules[i];
-    chosen(work, size, x.piece, i, rule)
+    let mut i = 0;
+    loop {
+        let rule = rules[i];
+        let tried = try_rule(work, colours, size, x, i, rule);
+        if let Tried::Taken(choice) = tried {
+            return choice;
+        }
+        i += 1;
+    }
 }

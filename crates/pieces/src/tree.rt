@@ -53,15 +53,21 @@ fn pick_node(
 {
     let choice = choose(rules, work, colours, size, x);
     match choice {
-        Choice::Leaf(i) => put_node(tree, at, i, 0),
-        Choice::Join(i, d, k, l, r) => {
-            let next = put_node(tree, at, i, k);
+        Choice::Leaf(rule) => put_node(tree, at, rule, 0),
+        Choice::Join {
+            rule,
+            direction,
+            cut,
+            first,
+            second,
+        } => {
+            let next = put_node(tree, at, rule, cut);
             write_parts(
                 rules,
                 work,
                 colours,
                 size,
-                parts_of(x.piece, d, k, l, r),
+                parts_of(x.piece, direction, cut, first, second),
                 tree,
                 next,
             )

@@ -2,7 +2,9 @@
 use Rattle.names.proofs.Count.{left-suc, left-all, left-none}
 use borrow.Author.Tests.{le-ltb, lt-ltb, le-leb, lt-leb}
 use native.Mathlib.Omega.{arith}
-use Prim.Native.Nat.{_≤_, _-_}
+use Prim.Native.Nat.{ℕ, _<_, _≤_, _-_}
+use denote.Ref.{now}
+use lib.ListN.{getD}
 use mathlib.Core.Path.{_≡_}
 use Rattle.names.specs.Name.{nameFrom, nameOf}
 use Rattle.names.proofs.name.read_name.Statement.{statement}
@@ -13,6 +15,10 @@ Inv-loop s len i₀ i = (i ≤ len) × (nameFrom s len i (len - i) ≡ nameOf s 
 
 abbrev μ-loop : tie.MeasureT-loop
 μ-loop s len i₀ i = len - i
+
+-- the byte at the loop's turn
+abbrev byte : tie.At-loop Inv-loop μ-loop → ℕ
+byte l = getD (now (l .before .before .args .s)) (l .loop .i) 0
 
 loop-holds : tie.Need-loop-holds Inv-loop μ-loop
 unfolding nameOf
@@ -34,7 +40,8 @@ returns-3 c =
     let there = least .before .before in
     let turn = there .before in
     let low = le-ltb _ _ (c .before .if2 .left) in
-    simp (left-suc _ _ (turn .loop-test .taken), lt-leb _ _ (there .if1 .left), ← least .least-at .ensures, low, lt-ltb _ _ (c .if3 .taken))
+    let high : 126 < byte (turn .before) = omega (arith, c .if3 .taken) in
+    simp (left-suc _ _ (turn .loop-test .taken), lt-leb _ _ (there .if1 .left), ← least .least-at .ensures, low, lt-ltb _ _ high)
     at (turn .before .loop .inv .1)
 
 loop-again : tie.Need-loop-again Inv-loop μ-loop
@@ -42,9 +49,10 @@ loop-again c =
     let least = c .before .before in
     let there = least .before .before in
     let turn = there .before in
-    let low = le-ltb _ _ (c .before .if2 .left) in (
+    let low = le-ltb _ _ (c .before .if2 .left) in
+    let high : byte (turn .before) ≤ 126 = omega (arith, c .if3 .left) in (
       omega arith,
-      simp (left-suc _ _ (turn .loop-test .taken), lt-leb _ _ (there .if1 .left), ← least .least-at .ensures, low, le-ltb _ _ (c .if3 .left))
+      simp (left-suc _ _ (turn .loop-test .taken), lt-leb _ _ (there .if1 .left), ← least .least-at .ensures, low, le-ltb _ _ high)
           at (turn .before .loop .inv .1),
     )
 
