@@ -4,16 +4,14 @@ use Prim.Native.Nat.{ℕ, _≤_, _<_}
 use mathlib.Core.Path.{_≡_, refl, sym, ap, _∙_, subst}
 use mathlib.Core.Bool.{Bool, true, false, true≢false, false≢true}
 use mathlib.Core.List.{List}
-use mathlib.Core.Logic.{⊎-elim}
 use native.Mathlib.Omega.{arith}
-use borrow.Author.Tests.{eqb-true, leb-true, eq-eqb, ne-eqb, le-leb}
+use borrow.Author.Tests.{eqb-true, leb-true, eq-eqb, le-leb}
 use lib.Dec.{eqb, leb}
 use lib.ListN.{length}
 use Rattle.names.specs.Pick.{pick}
 use Rattle.names.specs.declared.colours.Colours.{Colours}
 use Rattle.names.proofs.Picking.{pick-ind}
 use Rattle.names.proofs.SpellingNumbers.{Bytes}
-use Rattle.names.proofs.Tests.{true-or-false}
 use Rattle.books.specs.Answer.{plain}
 use Rattle.books.specs.Book.{bookOf}
 use Rattle.books.specs.Contents.{Contents}
@@ -26,7 +24,6 @@ use Rattle.books.specs.declared.book.BookRead.{BookRead}
 use Rattle.books.specs.declared.family.Family.{Family}
 use Rattle.books.specs.declared.order.NumberedSheet.{NumberedSheet}
 use Rattle.books.specs.declared.sheet.Sheet.{Sheet}
-use Rattle.books.proofs.Deciding.{refused}
 use Rattle.books.proofs.Ordering.{numbers-for, numbered-room, numbered-few}
 use Rattle.books.proofs.ReadingBooks.{book-places}
 use Rattle.books.proofs.ReadingSheets.{sheet-lies}
@@ -34,7 +31,8 @@ use Rattle.pieces.specs.Area.{whole}
 use Rattle.pieces.specs.Asking.{SplitFrom, Splits, Asking, unwritten, tabled, asking, Asks}
 use Rattle.pieces.specs.Derivation.{entriesNeeded, filled}
 use Rattle.pieces.specs.Table.{entry}
-use Rattle.names.specs.Bits.{bit}
+use Rattle.names.specs.Bits.{isSet}
+use Rattle.pieces.specs.Largest.{marked}
 use Rattle.pieces.specs.declared.asking.Split.{Split}
 use Rattle.pieces.specs.declared.masks.Joins.{Joins}
 use Rattle.pieces.specs.inner.Layout.{mostRules, allMasks}
@@ -46,7 +44,7 @@ use Rattle.pieces.proofs.AcceptedInputs.{rules-read, as-read, cells-num
 use Rattle.pieces.proofs.AskingAnswers.{sheet-first, room-second, table-last}
 use Rattle.pieces.proofs.Cutting.{whole-inside, cut-whole}
 use Rattle.books.specs.Lent.{contentsOf, pictureOf}
-use Rattle.pieces.proofs.Entries.{entry-bit, entry-derives}
+use Rattle.pieces.proofs.Entries.{entry-set}
 use Rattle.pieces.proofs.Judging.{filled-holds, held-entry}
 use Rattle.pieces.proofs.Laying.{split-few}
 use Rattle.pieces.proofs.WholeTable.{whole-table}
@@ -118,18 +116,11 @@ sheet-shows book c sheet is z = subst Shows (sym is) (shows book c sheet (rw is 
 -- ── The bit of a motif at the whole sheet ──
 
 module _ (b : Contents) (p : Picture) (entries : List ℕ) (rows-some : 1 ≤ p .rows) (cols-some : 1 ≤ p .cols) (a : ℕ) (low : a < b .motifs) where
-  entry-tests : eqb (bit (entry b p) a) 1 ≡ derives? b a p
-  entry-tests =
-      ⊎-elim
-      (λ t. eq-eqb (bit (entry b p) a) 1 (entry-bit b p a .1 (low, t)) ∙ sym t)
-      (λ t. ne-eqb (bit (entry b p) a) 1 (λ o. refused b a p .0 t (entry-derives b p a o)) ∙ sym t)
-      (true-or-false (derives? b a p))
-
   bit-tests : hasBit (sized (p .rows) (p .cols)) (filled b p entries) a (whole (p .rows) (p .cols)) ≡ derives? b a p
-  unfolding hasBit
+  unfolding hasBit marked
   bit-tests =
       let e = held-entry b p (filled b p entries) (filled-holds b p entries) (whole (p .rows) (p .cols)) (whole-inside (p .rows) (p .cols) rows-some cols-some) in
-      ap (λ (x : ℕ). eqb (bit x a) 1) (e ∙ ap (entry b) (cut-whole p)) ∙ entry-tests
+      ap (λ (x : ℕ). isSet x a) (e ∙ ap (entry b) (cut-whole p)) ∙ entry-set b p a low
 
 -- ── What is answered ──
 

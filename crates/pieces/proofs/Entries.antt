@@ -1,21 +1,23 @@
 -- Bit a of an entry is set exactly when a is a motif of the book that derives the piece.
 use mathlib.Core.Path.{_≡_, refl, sym, ap, _∙_, subst}
 use mathlib.Core.Logic.{⊎-elim, _↔_}
-use mathlib.Core.Bool.{Bool, true, false}
+use mathlib.Core.Bool.{Bool, true, false, true≢false}
 use Prim.Native.Nat.{ℕ, zero, suc, _+_, _^_, _≤_, _<_}
 use native.Mathlib.Nat.{pow-suc, one-mul, lt-of-lt-of-le}
 use native.Mathlib.Decide.{ℕ-discrete}
 use native.Mathlib.Omega.{arith}
 use lib.Bits.{bitOr, or-shifted-r, or-zero-r}
 use lib.Pow.{pow-mono}
+use borrow.Author.Tests.{eq-eqb, ne-eqb}
 use Rattle.names.specs.Pick.{pick}
+use Rattle.names.proofs.Tests.{true-or-false}
 use Rattle.books.specs.Contents.{Contents}
 use Rattle.books.specs.Picture.{Picture}
 use Rattle.books.specs.Derives.{Derives}
 use Rattle.books.specs.Decide.{derives?}
 use Rattle.books.proofs.Deciding.{decided}
 use Rattle.pieces.specs.Table.{entry}
-use Rattle.names.specs.Bits.{bit, bits}
+use Rattle.names.specs.Bits.{bit, bits, isSet}
 use Rattle.names.proofs.Bits.{bit-pow, pow-has, or-split, or-left, or-right, none-set}
 
 -- ---- the number with chosen bits
@@ -77,3 +79,12 @@ entry-derives b q a h = decided b a q .0 (entry-bit b q a .0 h .1)
 
 pub derives-entry : (b : Contents) (q : Picture) (a : ℕ) → a < b .motifs → Derives b a q → bit (entry b q) a ≡ 1
 derives-entry b q a l d = entry-bit b q a .1 (l, decided b a q .1 d)
+
+-- So the test of a motif's bit is the test whether the motif derives the piece.
+pub entry-set : (b : Contents) (q : Picture) (a : ℕ) → a < b .motifs → isSet (entry b q) a ≡ derives? b a q
+unfolding isSet
+entry-set b q a low =
+    ⊎-elim
+    (λ t. eq-eqb _ 1 (entry-bit b q a .1 (low, t)) ∙ sym t)
+    (λ t. ne-eqb _ 1 (λ o. true≢false (sym (entry-bit b q a .0 o .1) ∙ t)) ∙ sym t)
+    (true-or-false (derives? b a q))

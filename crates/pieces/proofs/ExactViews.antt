@@ -22,7 +22,8 @@ use Rattle.books.proofs.Deciding.{called, decided}
 use Rattle.pieces.specs.declared.piece.Piece.{Piece}
 use Rattle.pieces.specs.Pieces.{Inside, slotOf}
 use Rattle.pieces.specs.Table.{cut, entry}
-use Rattle.names.specs.Bits.{bit}
+use Rattle.names.specs.Bits.{bit, isSet}
+use Rattle.pieces.specs.Largest.{marked}
 use Rattle.pieces.specs.View.{View, named}
 use Rattle.pieces.specs.inner.Seen.{sized, hasBit, hasColour, seen}
 use Rattle.pieces.proofs.Entries.{entry-derives, derives-entry}
@@ -58,7 +59,7 @@ module _ (b : Contents) (p : Picture) (sound : Sound b) (apart : Distinct (b .co
     (entries : (q : Piece) → Inside (p .rows) (p .cols) q → getD work (slotOf (p .rows) (p .cols) q) 0 ≡ entry b (cut p q))
     (numbers : (i j : ℕ) → i < p .rows → j < p .cols → getD colours (i * p .cols + j) 0 ≡ listed (b .colours) (p .cell i j)) where
   bit-exact : (a : ℕ) (q : Piece) → Inside (p .rows) (p .cols) q → (hasBit (sized (p .rows) (p .cols)) work a q ≡ true) ↔ Derives b a (cut p q)
-  unfolding hasBit
+  unfolding hasBit marked isSet
   bit-exact a q inq =
       rw (entries q inq) (
         λ e. entry-derives b (cut p q) a (eqb-true (bit (entry b (cut p q)) a) 1 e),

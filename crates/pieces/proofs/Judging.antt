@@ -28,7 +28,8 @@ use Rattle.pieces.specs.declared.piece.Piece.{Piece}
 use Rattle.pieces.specs.Pieces.{pieces, Inside, slotOf, total}
 use Rattle.pieces.specs.Area.{whole, treeSize}
 use Rattle.pieces.specs.Table.{cut, entry, table}
-use Rattle.names.specs.Bits.{bit}
+use Rattle.names.specs.Bits.{bit, isSet}
+use Rattle.pieces.specs.Largest.{marked}
 use Rattle.pieces.specs.inner.Seen.{sized, hasBit, seen}
 use Rattle.pieces.proofs.ExactViews.{Exact}
 use Rattle.pieces.specs.Tree.{treeOf}
@@ -119,7 +120,7 @@ module _ {book : List ℕ} {f : Family} {bytes : List ℕ} {g : Sheet} (given : 
 
   -- where it has not, the sheet is not derived
   not-derived : hasBit (sized (g .rows) (g .cols)) work (f .start) (whole (g .rows) (g .cols)) ≡ false → Derives b (f .start) p → ⊥
-  unfolding hasBit
+  unfolding hasBit marked isSet
   not-derived e x =
       let sheet = whole (g .rows) (g .cols) in
       let entered = held-entry b p work holds sheet whole-in in

@@ -18,7 +18,7 @@ use Rattle.pieces.specs.declared.piece.Piece.{Piece}
 use Rattle.pieces.specs.Pieces.{piece, Inside, pieces, total, slotOf}
 use Rattle.pieces.specs.Area.{area}
 use Rattle.pieces.specs.Largest.{noPiece, larger, largestFrom, largestOf, marked, within, fitsTable, largestIn}
-use Rattle.pieces.specs.inner.Larger.{withBit, largerBy}
+use Rattle.pieces.specs.inner.Larger.{largerBy}
 use Rattle.pieces.specs.inner.NextTo.{NextTo}
 use Rattle.pieces.specs.inner.Room.{most, Room}
 use Rattle.pieces.proofs.CellsFirst.{slot-cell}
@@ -97,7 +97,7 @@ module _ (test : Piece → Bool) (best q : Piece) where
 -- by the entry at the slot of a piece
 pub larger-marked : (m n : ℕ) (work : List ℕ) (a k : ℕ) (best p : Piece) → slotOf m n p ≡ k
     → largerBy (getD work k 0) a best p ≡ larger (marked m n work a) best p
-unfolding larger withBit marked
+unfolding larger marked
 larger-marked m n work a k best p here = rw (← here)
 
 -- ── What is found ──

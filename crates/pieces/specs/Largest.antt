@@ -2,13 +2,13 @@
 use Prim.Native.Nat.{ℕ}
 use mathlib.Core.Bool.{Bool}
 use mathlib.Core.List.{List, [], _∷_}
-use lib.Dec.{eqb, ltb, leb}
+use lib.Dec.{ltb, leb}
 use lib.ListN.{length, getD}
 use Rattle.names.specs.Pick.{pick, andThen}
 use Rattle.pieces.specs.declared.piece.Piece.{Piece}
 use Rattle.pieces.specs.Pieces.{piece, pieces, total, slotOf}
 use Rattle.pieces.specs.Area.{area}
-use Rattle.names.specs.Bits.{bit}
+use Rattle.names.specs.Bits.{isSet}
 use Rattle.pieces.specs.inner.Room.{most}
 
 -- no piece has no rows
@@ -29,7 +29,7 @@ largestOf test m n = largestFrom test noPiece (pieces m n)
 
 -- whether a slice has bit a set at the slot of a piece
 unfoldable pub marked : ℕ → ℕ → List ℕ → ℕ → Piece → Bool
-marked m n work a q = eqb (bit (getD work (slotOf m n q) 0) a) 1
+marked m n work a q = isSet (getD work (slotOf m n q) 0) a
 
 -- some rows, or columns, and no more than the code's numbers have room for
 unfoldable pub within : ℕ → Bool

@@ -5,19 +5,27 @@ use crate::part::Parts;
 use crate::piece::Size;
 use crate::piece::slot;
 ghost use mathlib.Core.Path.{_≡_};
+ghost use Rattle.names.specs.Bits.{isSet};
 ghost use Rattle.pieces.specs.inner.Seen.{On, Tabled, hasBit, bothHave};
 
-// Whether a motif has its bit set at a piece. An entry has 32 bits.
+// Whether an entry has a motif's bit set. It has 32 bits.
+pub(crate) fn has_bit(entry: u32, motif: u8) -> bool
+    ensures { λ r. ⌜ r ≡ isSet entry motif ⌝ }
+{
+    if motif < 32 {
+        (entry >> (motif as u32)) % 2 == 1
+    } else {
+        false
+    }
+}
+
+// Whether a motif has its bit set at a piece.
 pub(crate) fn has(work: &[u32], size: Size, x: Part) -> bool
     requires { ⌜ Tabled size (now work) × On size (x .piece) ⌝ }
     ensures { λ r. ⌜ r ≡ hasBit size (now (work .entry)) (x .motif) (x .piece) ⌝ }
 {
     let at = slot(size.rows, size.cols, x.piece);
-    if x.motif < 32 {
-        (work[at] >> (x.motif as u32)) % 2 == 1
-    } else {
-        false
-    }
+    has_bit(work[at], x.motif)
 }
 
 // Whether both parts of a cut have their bits.

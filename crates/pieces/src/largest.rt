@@ -1,4 +1,5 @@
 // The largest piece of a sheet at which a motif has its bit: of greatest area, and of the same area the earliest in the table.
+use crate::cut::has_bit;
 use crate::piece;
 use crate::piece::Piece;
 ghost use mathlib.Core.Path.{_≡_};
@@ -7,18 +8,7 @@ ghost use lib.ListN.{length};
 ghost use Rattle.pieces.specs.Pieces.{total};
 ghost use Rattle.pieces.specs.Largest.{within, fitsTable, marked, largestOf, largestIn};
 ghost use Rattle.pieces.specs.inner.Room.{most, Room};
-ghost use Rattle.pieces.specs.inner.Larger.{withBit, largerBy};
-
-// Whether an entry has a motif's bit. An entry has 32 bits.
-fn with_bit(entry: u32, motif: u8) -> bool
-    ensures { λ r. ⌜ r ≡ withBit entry motif ⌝ }
-{
-    if motif < 32 {
-        (entry >> (motif as u32)) % 2 == 1
-    } else {
-        false
-    }
-}
+ghost use Rattle.pieces.specs.inner.Larger.{largerBy};
 
 // Of the largest piece so far and another with its entry: the other one only where it is larger and has the bit.
 fn larger(entry: u32, motif: u8, best: Piece, p: Piece) -> Piece
@@ -26,7 +16,7 @@ fn larger(entry: u32, motif: u8, best: Piece, p: Piece) -> Piece
     ensures { λ r. ⌜ r ≡ largerBy entry motif best p ⌝ }
 {
     if piece::times(best.height, best.width) < piece::times(p.height, p.width) {
-        if with_bit(entry, motif) {
+        if has_bit(entry, motif) {
             return p;
         }
     }

@@ -17,17 +17,17 @@ use Rattle.books.specs.declared.rule.Dir.the-variants.{Across as across, Down a
 use Rattle.books.specs.Derives.{Derives, paint, join}
 use Rattle.books.specs.Decide.{derives?}
 use Rattle.books.specs.Keeps.{Sound}
-use Rattle.books.proofs.Deciding.{decided, refused}
+use Rattle.books.proofs.Deciding.{refused}
 use Rattle.names.specs.Counted.{least}
 use Rattle.pieces.specs.Pieces.{piece, Inside, slotOf}
 use Rattle.pieces.specs.Table.{cut, entry}
-use Rattle.names.specs.Bits.{bit, bits}
+use Rattle.names.specs.Bits.{bits}
 use Rattle.pieces.specs.Largest.{marked, largestIn}
 use Rattle.pieces.specs.inner.Room.{Room}
 use Rattle.pieces.specs.declared.piece.Piece.{Piece}
 use Rattle.names.proofs.Bits.{none-set}
 use Rattle.pieces.proofs.CellsFirst.{slot-cell}
-use Rattle.pieces.proofs.Entries.{entry-derives, derives-entry}
+use Rattle.pieces.proofs.Entries.{derives-entry, entry-set}
 use Rattle.pieces.proofs.ExactViews.{motif-below}
 use Rattle.pieces.proofs.Judging.{Holds, held-long, held-entry}
 use Rattle.names.proofs.Least.{least-same}
@@ -117,12 +117,7 @@ module _ (b : Contents) (p : Picture) (sound : Sound b) (sizes : Room (p .rows) 
 
   marked-derived : (q : Piece) → Inside (p .rows) (p .cols) q → marked (p .rows) (p .cols) work (b .start) q ≡ derives? b (b .start) (cut p q)
   unfolding marked
-  marked-derived q i = rw (held-entry b p work held q i) (go (true-or-false (derives? b (b .start) (cut p q))))
-    where
-      go : (derives? b (b .start) (cut p q) ≡ true) ⊎ (derives? b (b .start) (cut p q) ≡ false)
-          → eqb (bit (entry b (cut p q)) (b .start)) 1 ≡ derives? b (b .start) (cut p q)
-      go (inl e) = rw e (eq-eqb _ 1 (derives-entry b (cut p q) (b .start) (sound .start-fits) (decided b (b .start) (cut p q) .0 e)))
-      go (inr e) = rw e (ne-eqb _ 1 (λ o. refused b (b .start) (cut p q) .0 e (entry-derives b (cut p q) (b .start) o)))
+  marked-derived q i = rw (held-entry b p work held q i) (entry-set b (cut p q) (b .start) (sound .start-fits))
 
   first-shown : least (bare work) 0 (p .rows * p .cols) ≡ firstUnnamed b p
   unfolding firstUnnamed

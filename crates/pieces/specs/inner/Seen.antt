@@ -8,10 +8,10 @@ use Rattle.names.specs.Pick.{andThen}
 use Rattle.pieces.specs.declared.piece.Piece.{Piece}
 use Rattle.pieces.specs.declared.piece.Size.{Size}
 use Rattle.pieces.specs.declared.part.Parts.{Parts}
-use Rattle.pieces.specs.Pieces.{Inside, slotOf, total}
+use Rattle.pieces.specs.Pieces.{Inside, total}
 use Rattle.pieces.specs.Area.{whole}
-use Rattle.names.specs.Bits.{bit}
 use Rattle.pieces.specs.View.{View}
+use Rattle.pieces.specs.Largest.{marked}
 use Rattle.pieces.specs.inner.Room.{Room}
 
 abbrev pub sized : ℕ → ℕ → Size
@@ -26,7 +26,7 @@ wholeOf s = whole (s .rows) (s .cols)
 
 -- by a table, ...
 unfoldable pub hasBit : Size → List ℕ → ℕ → Piece → Bool
-hasBit s work a q = eqb (bit (getD work (slotOf (s .rows) (s .cols) q) 0) a) 1
+hasBit s work a q = marked (s .rows) (s .cols) work a q
 
 -- ... and by the number that each cell's colour has in the book
 unfoldable pub hasColour : Size → List ℕ → ℕ → Piece → Bool

@@ -9,12 +9,12 @@ use Rattle.pieces.proofs.largest.larger.Tie as tie
 returns : tie.Need-returns
 returns c =
     let t = c .before .before in
-    larger-takes _ _ _ (omega (arith, t .if1 .taken, t .before .before .times .ensures, t .before .times2 .ensures)) (sym (c .before .with-bit .ensures) ∙ c .if2 .taken)
+    larger-takes _ _ _ (omega (arith, t .if1 .taken, t .before .before .times .ensures, t .before .times2 .ensures)) (sym (c .before .has-bit .ensures) ∙ c .if2 .taken)
 
 returns-2 : tie.Need-returns-2
 returns-2 c =
     let t = c .before .before in
-    larger-without _ _ _ (omega (arith, t .if1 .taken, t .before .before .times .ensures, t .before .times2 .ensures)) (sym (c .before .with-bit .ensures) ∙ c .if2 .left)
+    larger-without _ _ _ (omega (arith, t .if1 .taken, t .before .before .times .ensures, t .before .times2 .ensures)) (sym (c .before .has-bit .ensures) ∙ c .if2 .left)
 
 returns-3 : tie.Need-returns-3
 returns-3 c = larger-smaller _ _ _ (omega (arith, c .if1 .left, c .before .before .times .ensures, c .before .times2 .ensures))
