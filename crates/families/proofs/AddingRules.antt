@@ -37,9 +37,13 @@ next-place at i = omega arith
 pub one-written : (rules : List Rule) (at : ℕ) (x : Rule) (xs : List Rule) → sets (set rules at x) (at + 1) xs ≡ sets rules at (x ∷ xs)
 one-written rules at x xs = ap (λ (n : ℕ). sets (set rules at x) n xs) (add-one at)
 
+-- what is left to be changed from a place on, changed there, makes the whole
+abbrev pub StillChanges : (Rule → Rule) → Rules → List Rule → List Rule → ℕ → Type 0
+StillChanges t k before rules i = sets rules i (map t (drop i (standing k))) ≡ sets before 0 (map t (standing k))
+
 module _ (k : Rules) (rows : Rows k) where
   pub standing-length : length (standing k) ≡ k .count
-  standing-length = length-take-le (k .count) (k .rules) (omega (arith, rows .few, rows .places200))
+  standing-length = length-take-le (k .count) (k .rules) (omega (arith, rows .few, rows .places-all))
 
   -- one rule less is left
   pub left-next : (i : ℕ) → i < k .count → drop i (standing k) ≡ ruleAt k i ∷ drop (i + 1) (standing k)
@@ -50,6 +54,16 @@ module _ (k : Rules) (rows : Rows k) where
 
   pub left-none : (i : ℕ) → k .count ≤ i → drop i (standing k) ≡ []
   left-none i h = drop-of-length-le (standing k) {i = i} (omega (arith, standing-length))
+
+  -- one rule less is left to be changed
+  pub change-next : (t : Rule → Rule) (rules : List Rule) (i : ℕ) → i < k .count
+      → sets (set rules i (t (ruleAt k i))) (i + 1) (map t (drop (i + 1) (standing k))) ≡ sets rules i (map t (drop i (standing k)))
+  change-next t rules i h =
+      one-written rules i (t (ruleAt k i)) (map t (drop (i + 1) (standing k)))
+      ∙ ap (λ (l : List Rule). sets rules i (map t l)) (sym (left-next i h))
+
+  pub change-none : (t : Rule → Rule) (rules : List Rule) (i : ℕ) → k .count ≤ i → sets rules i (map t (drop i (standing k))) ≡ rules
+  change-none t rules i h = ap (λ (l : List Rule). sets rules i (map t l)) (left-none i h)
 
   pub rule-stands : (i : ℕ) → i < k .count → List·Memᴰ (ruleAt k i) (standing k)
   rule-stands i h = Memᴰ·cast (sym (getD-take (k .count) (k .rules) i noRule h)) (getD-mem (standing k) i noRule (omega (arith, standing-length)))
@@ -83,12 +97,12 @@ module _ (l : Rules) (xs : List Rule) (st : Stands l xs) where
   -- what was added stands after what stood before
   pub followed-stands : (ys : List Rule) → length xs + length ys ≤ 200 → Stands (followed l ys) (xs ++ ys)
   followed-stands ys room =
-      let places = st .rows .places200 in
+      let places = st .rows .places-all in
       let fits : l .count + length ys ≤ 200 = omega (arith, stands-count) in
       let before : length (standing l ++ ys) ≡ l .count + length ys =
       length-append (standing l) ys ∙ ap (λ (n : ℕ). n + length ys) (standing-length l (st .rows)) in
       record {
-        rows = record { few = fits; places200 = length-sets (l .rules) (l .count) ys ∙ places };
+        rows = record { few = fits; places-all = length-sets (l .rules) (l .count) ys ∙ places };
         are = ap (take (l .count + length ys)) (sets-eq ys (l .rules) (l .count) (omega (arith, places)))
             ∙ take-at (standing l ++ ys) (drop (l .count + length ys) (l .rules)) (l .count + length ys) before
             ∙ ap (λ (zs : List Rule). zs ++ ys) (st .are);
@@ -97,10 +111,10 @@ module _ (l : Rules) (xs : List Rule) (st : Stands l xs) where
   -- what was changed stands in the place of what it was
   pub changed-stands : (t : Rule → Rule) → Stands (changed t l) (map t xs)
   changed-stands t =
-      let places = st .rows .places200 in
+      let places = st .rows .places-all in
       let all : length (map t (standing l)) ≡ l .count = length-map (standing l) t ∙ standing-length l (st .rows) in
       record {
-        rows = record { few = st .rows .few; places200 = length-sets (l .rules) 0 (map t (standing l)) ∙ places };
+        rows = record { few = st .rows .few; places-all = length-sets (l .rules) 0 (map t (standing l)) ∙ places };
         are = ap (take (l .count)) (sets-eq (map t (standing l)) (l .rules) 0 (omega (arith, st .rows .few, places)))
             ∙ take-at (map t (standing l)) (drop (0 + length (map t (standing l))) (l .rules)) (l .count) all
             ∙ ap (map t) (st .are);

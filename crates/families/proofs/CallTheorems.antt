@@ -4,36 +4,32 @@ use Prim.Native.Nat.{ℕ, _≤_}
 use mathlib.Core.Path.{_≡_, sym, _∙_, ap, subst}
 use mathlib.Core.List.{List}
 use mathlib.Core.Logic.{_↔_, _⊎_}
-use lib.ListN.{length, take, drop}
-use Rattle.names.specs.Put.{put}
+use lib.ListN.{length, take}
 use Rattle.names.specs.declared.number.Fault.{Fault}
-use Rattle.names.proofs.Putting.{put-length}
 use Rattle.names.proofs.SpellingNumbers.{Bytes}
 use Rattle.books.specs.Contents.{Contents}
-use Rattle.books.specs.Book.{bookOf}
 use Rattle.books.specs.Derives.{Member}
 use Rattle.books.specs.Keeps.{Sound, Keeps}
 use Rattle.books.specs.Picture.{Picture}
 use Rattle.books.specs.declared.rule.Dir.the-variants.{Across as across, Down as down}
 use Rattle.books.specs.SpellBook.{spellBook}
-use Rattle.books.specs.declared.answer.Answer.{Answer}
 use Rattle.books.proofs.ReadingBooks.{BookSpelled, book-accepted}
 use Rattle.books.proofs.LongestBook.{spelling-bytes}
-use Rattle.books.proofs.SpellingBooks.{book-read-back}
 use Rattle.families.specs.Joined.{Both, Run}
 use Rattle.families.specs.Images.{reversed, transpose, Image}
 use Rattle.families.specs.Combine.{either-of, beside, above, run, stack, mirrored, flipped, transposed}
-use Rattle.families.specs.Limits.{WithinLimits}
 use Rattle.families.specs.Outcome.{Outcome, made, onOne, onSecond, onTwo, Leaves}
 use Rattle.books.specs.Lent.{contentsOf}
 use Rattle.families.specs.NewBook.{IsBook, Held, NewBook}
 use Rattle.families.specs.Answers.{answerOf, countOf}
 use Rattle.families.proofs.Keeping.{KeptTwo, KeptOne, joined-keeps, either-of-keeps, repeated-keeps, transposed-keeps, swapping-keeps, keeps-within}
-use Rattle.families.proofs.Outcomes.{made-wrote, lent-went, front-put, beyond-put}
-use Rattle.families.proofs.ReadingOff.{ReadOff, one-read, two-read}
-use Rattle.families.proofs.Refusing.{read-verdict, one-verdict}
+use Rattle.families.proofs.Outcomes.{lent-went}
+use Rattle.families.proofs.ReadingOff.{one-read, two-read}
+use Rattle.families.proofs.Refusing.{one-verdict}
+use Rattle.families.proofs.NewBooks.{Spelled, spelled-accepted, spelled-contents, new-book, zero-is, made-spelled}
 use Rattle.families.proofs.Lengths.{swapping-as-long, transposed-as-long}
-use Rattle.families.proofs.Theorems.{either-of-holds, beside-holds, above-holds, run-holds, stack-holds, mirrored-holds, flipped-holds, transposed-holds, mirrored-again, flipped-again, transposed-again}
+use Rattle.families.proofs.Theorems.{either-of-holds, beside-holds, above-holds, run-holds, stack-holds, mirrored-holds, flipped-holds, transposed-holds}
+use Rattle.families.proofs.Theorems.{mirrored-again, flipped-again, transposed-again}
 
 -- A call on two books that answers 0 has written a book that holds what X makes of theirs; ...
 abbrev pub HoldsTwo : (Contents → Contents → Contents) → ((Picture → Type 0) → (Picture → Type 0) → Picture → Type 0) → Type 0
@@ -51,55 +47,6 @@ GivesBack op = (book out left out′ left′ : List ℕ) (r r′ : ℕ) → Byte
     → length book ≤ length out → Leaves (onOne op book out) r left
     → length book ≤ length out′ → Leaves (onOne op (take (countOf r) left) out′) r′ left′
     → (answerOf r .number ≡ 0) × (answerOf r′ .number ≡ 0) × (take (countOf r′) left′ ≡ book)
-
--- The spelling of contents that keep the rules stands at the front of the slice, and beyond it nothing has changed.
-record Spelled (c : Contents) (out left : List ℕ) (count : ℕ) : Type 0 where
-  keeps : Keeps c
-  front : take count left ≡ spellBook c
-  room : count ≤ length out
-  beyond : drop count left ≡ drop count out
-  as-long : length left ≡ length out
-
--- It is read back.
-spelled-accepted : (c : Contents) (s : List ℕ) → Keeps c → s ≡ spellBook c → IsBook s
-spelled-accepted c s keeps e = ap (λ (t : List ℕ). bookOf t .fault) e ∙ book-read-back c keeps .0
-
-spelled-contents : (c : Contents) (s : List ℕ) → Keeps c → s ≡ spellBook c → contentsOf s ≡ c
-spelled-contents c s keeps e = ap contentsOf e ∙ book-read-back c keeps .1
-
-new-book : (c : Contents) (X : Picture → Type 0) (out left : List ℕ) (count : ℕ) → ((p : Picture) → Member c p ↔ X p) → Spelled c out left count → NewBook out left count X
-new-book c X out left count holds w =
-    let contents : contentsOf (take count left) ≡ c = spelled-contents c (take count left) (w .keeps) (w .front) in
-    record {
-      accepted = spelled-accepted c (take count left) (w .keeps) (w .front);
-      keeps = subst Keeps (sym contents) (w .keeps);
-      holds = λ p. subst (λ (b : Contents). Member b p ↔ X p) (sym contents) (holds p);
-      room = w .room;
-      beyond = w .beyond;
-      as-long = w .as-long;
-    }
-
--- the number that is read off is the outcome's
-zero-is : (o : Outcome) (left : List ℕ) (r : ℕ) → ReadOff o left r → answerOf r .number ≡ 0 → o .answer .number ≡ 0
-zero-is o left r read z = sym (ap (λ (a : Answer). a .number) (read .answer-is)) ∙ z
-
--- A call whose outcome is that of contents, and whose number is 0, has written their spelling.
-made-spelled : (c : Contents) (out : List ℕ) (o : Outcome) (left : List ℕ) (r : ℕ) → (WithinLimits c → Keeps c)
-    → o ≡ made c out → ReadOff o left r → answerOf r .number ≡ 0 → Spelled c out left (countOf r)
-made-spelled c out o left r keeps e read z =
-    let l : List ℕ = spellBook c in
-    let verdict = read-verdict c out o left r e read in
-    let (small, room) = verdict .zero .0 z in
-    let count : countOf r ≡ length l = verdict .counted z in
-    let wrote = made-wrote c out (sym (ap (λ (p : Outcome). p .answer .number) e) ∙ zero-is o left r read z) in
-    let there : left ≡ put out 0 l = read .left-is ∙ (ap (λ (p : Outcome). p .out) e ∙ wrote) in
-    record {
-      keeps = keeps small;
-      front = (λ i. take (count i) (there i)) ∙ front-put out l room;
-      room = subst (λ (n : ℕ). n ≤ length out) (sym count) room;
-      beyond = (λ i. drop (count i) (there i)) ∙ (beyond-put out l room ∙ ap (λ (n : ℕ). drop n out) (sym count));
-      as-long = ap length there ∙ put-length out 0 l;
-    }
 
 -- Two lent books.
 two-new : (op : Contents → Contents → Contents) (X : (Picture → Type 0) → (Picture → Type 0) → Picture → Type 0) → KeptTwo op

@@ -6,6 +6,7 @@ use mathlib.Core.Bool.{true, false, true≢false}
 use mathlib.Core.List.{List, [], _∷_, _++_, append-assoc, append-nil}
 use native.Mathlib.Omega.{arith}
 use lib.ListN.{length, length-append}
+use Rattle.names.specs.Spelling.{mostColours}
 use Rattle.names.specs.Colours.{namesIn, noColours}
 use Rattle.names.specs.declared.colours.Colours.{Colours}
 use Rattle.names.proofs.ReadingColours.{names-count}
@@ -29,14 +30,14 @@ use Rattle.families.proofs.Testing.{within-limits, within-counts}
 use Rattle.families.proofs.AddingRules.{Stands, stands-count, followed-stands, changed-stands}
 
 -- Contents that are within the limits are drafted, and others are told.
-pub drafted-makes : (s t : List ℕ) (f : Family) (more : Colours) (l : Rules) (c : Contents) → Sized f → more .count ≤ 64 → Rows l
+pub drafted-makes : (s t : List ℕ) (f : Family) (more : Colours) (l : Rules) (c : Contents) → Sized f → more .count ≤ mostColours → Rows l
     → namesIn s (f .colours) ++ namesIn t more ≡ c .colours → standing l ≡ c .rules → within? c ≡ true
     → Makes s t c (draftedAs f more (c .motifs) (c .start) l)
 drafted-makes s t f more l c sized few rows colours rules small =
     record {
       tested = sym small;
       drafted = λ _ i. record { colours = colours i; motifs = c .motifs; start = c .start; rules = rules i };
-      ready = record { colours-few = sized .colours-few; more-few = few; rules-few = rows .few; rules-all = rows .places200 };
+      ready = record { colours-few = sized .colours-few; more-few = few; rules-few = rows .few; rules-all = rows .places-all };
     }
 
 pub exceeding-makes : (s t : List ℕ) (f : Family) (c : Contents) → Sized f → within? c ≡ false → Makes s t c (tooMuch f)
@@ -44,7 +45,7 @@ exceeding-makes s t f c sized much =
     record {
       tested = sym much;
       drafted = λ e. absurd (true≢false (sym e));
-      ready = record { colours-few = sized .colours-few; more-few = omega arith; rules-few = sized .rows .few; rules-all = sized .rows .places200 };
+      ready = record { colours-few = sized .colours-few; more-few = omega arith; rules-few = sized .rows .few; rules-all = sized .rows .places-all };
     }
 
 module _ (s t : List ℕ) (f : Family) (sized : Sized f) where

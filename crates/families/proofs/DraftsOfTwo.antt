@@ -7,6 +7,7 @@ use mathlib.Core.List.{List, [], _∷_, _++_, map, append-assoc, List·Memᴰ, L
 use native.Mathlib.Omega.{arith}
 use lib.ListN.{length, getD, length-append}
 use Rattle.names.specs.Name.{listed}
+use Rattle.names.specs.Spelling.{mostColours}
 use Rattle.names.specs.Colours.{namesIn}
 use Rattle.names.proofs.ReadingColours.{names-count, name-at}
 use Rattle.books.specs.Contents.{Contents}
@@ -97,7 +98,7 @@ module _ (s t : List ℕ) (f g : Family) (m : Merged) (lf : Lent s f) (lg : Lent
       ∙ length-append (first .colours) (namesIn t (m .more))
       ∙ omega (arith, names-count s (f .colours), names-count t (m .more))
 
-  more-few : m .more .count ≤ 64
+  more-few : m .more .count ≤ mostColours
   more-few = omega (arith, mm .few, lg .fitted .sized .colours-few)
 
   -- the motifs and the colours of any pairing, tested with the rules that it adds

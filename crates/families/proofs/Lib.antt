@@ -25,6 +25,7 @@ pub mod Finishing
 pub mod Outcomes
 pub mod ReadingOff
 pub mod Demand1
+pub mod NewBooks
 pub mod CallTheorems
 pub mod Refusing
 pub mod Settled

@@ -7,7 +7,7 @@ use mathlib.Core.Logic.{_⊎_, inl, inr, ⊎-elim}
 use native.Mathlib.Omega.{arith}
 use lib.ListN.{length, length-append}
 use Rattle.names.specs.Name.{Name}
-use Rattle.names.specs.Spelling.{Distinct, ColoursOk}
+use Rattle.names.specs.Spelling.{mostColours, Distinct, ColoursOk}
 use Rattle.names.proofs.Picking.{pick-ind}
 use Rattle.names.proofs.Listing.{listed-test}
 use Rattle.families.specs.Merged.{holds, without, merged}
@@ -68,7 +68,7 @@ unfolding merged
 merged-length xs ys = simp length-append (omega arith)
 
 -- Merged colours may stand in a book where they are not too many.
-pub merged-ok : (xs ys : List Name) → ColoursOk xs → ColoursOk ys → length (merged xs ys) ≤ 64 → ColoursOk (merged xs ys)
+pub merged-ok : (xs ys : List Name) → ColoursOk xs → ColoursOk ys → length (merged xs ys) ≤ mostColours → ColoursOk (merged xs ys)
 merged-ok xs ys kx ky few =
     record {
       some = omega (arith, kx .some, merged-length xs ys);

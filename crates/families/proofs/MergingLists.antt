@@ -11,6 +11,7 @@ use borrow.Author.Tests.{lt-ltb, le-ltb}
 use lib.ListN.{length, getD, take, set, length-append, length-set}
 use lib.Seq.{take-all, getD-set-same, getD-set-other}
 use Rattle.names.specs.Name.{Name, listed}
+use Rattle.names.specs.Spelling.{mostColours}
 use Rattle.names.specs.Colours.{nameIn, namesIn, findName, noColours, withColour}
 use Rattle.names.specs.declared.colours.Colours.{Colours}
 use Rattle.names.proofs.Finding.{find-listed}
@@ -27,10 +28,10 @@ module _ (s : List ℕ) (f : Colours) (t : List ℕ) (g : Colours) where
     pub names : namesIn s f ++ namesIn t more ≡ merged (namesIn s f) (take i (namesIn t g))
     pub numbered : (j : ℕ) → j < i → getD numbers j 0 ≡ listed (merged (namesIn s f) (namesIn t g)) (nameIn t g j)
     pub few : more .count ≤ i
-    pub numbers64 : length numbers ≡ 64
+    pub numbers-all : length numbers ≡ mostColours
 
 module _ (s : List ℕ) (f : Colours) (t : List ℕ) (g : Colours) (lf : Lists s f) (lg : Lists t g) where
-  pub so-far-none : (numbers : List ℕ) → length numbers ≡ 64 → SoFar s f t g 0 noColours numbers
+  pub so-far-none : (numbers : List ℕ) → length numbers ≡ mostColours → SoFar s f t g 0 noColours numbers
   so-far-none numbers e =
       record {
         within = omega arith;
@@ -38,7 +39,7 @@ module _ (s : List ℕ) (f : Colours) (t : List ℕ) (g : Colours) (lf : Lists s
         names = append-nil (namesIn s f) ∙ sym (merged-nil (namesIn s f));
         numbered = λ j h. absurd (omega arith);
         few = omega arith;
-        numbers64 = e;
+        numbers-all = e;
       }
 
   module _ (i : ℕ) (more : Colours) (numbers : List ℕ) (h : i < g .count) (so : SoFar s f t g i more numbers) where
@@ -54,26 +55,28 @@ module _ (s : List ℕ) (f : Colours) (t : List ℕ) (g : Colours) (lf : Lists s
     more-numbered n e =
         below-more _ i
         (λ j hj. getD-set-other numbers i j n 0 (omega arith) ∙ so .numbered j hj)
-        (getD-set-same numbers i n 0 (omega (arith, so .numbers64, lg .few)) ∙ e ∙ ap (listed (merged (namesIn s f) (namesIn t g))) named)
+        (getD-set-same numbers i n 0 (omega (arith, so .numbers-all, lg .few)) ∙ e ∙ ap (listed (merged (namesIn s f) (namesIn t g))) named)
 
     pub so-far-held : findName s f (nameIn t g i) < f .count → SoFar s f t g (i + 1) more (set numbers i (findName s f (nameIn t g i)))
     so-far-held lt =
-        let held : holds (namesIn s f) (getD (namesIn t g) i []) ≡ true = lt-ltb (listed (namesIn s f) (getD (namesIn t g) i [])) (length (namesIn s f)) (omega (arith, found, names-count s f)) in
+        let name : Name = getD (namesIn t g) i [] in
+        let held : holds (namesIn s f) name ≡ true = lt-ltb (listed (namesIn s f) name) (length (namesIn s f)) (omega (arith, found, names-count s f)) in
         record {
           within = omega arith;
           places = so .places;
           names = rw (add-one i) (so .names ∙ sym (merged-held (namesIn s f) (namesIn t g) i (omega (arith, names-count t g)) held));
           numbered = more-numbered _ (found ∙ sym (number-held (namesIn s f) (namesIn t g) _ held));
           few = omega (arith, so .few);
-          numbers64 = length-set numbers _ _ ∙ so .numbers64;
+          numbers-all = length-set numbers _ _ ∙ so .numbers-all;
         }
 
     pub so-far-new : f .count ≤ findName s f (nameIn t g i)
         → SoFar s f t g (i + 1) (withColour more (getD (g .starts) i 0) (getD (g .lens) i 0)) (set numbers i (f .count + more .count))
     so-far-new le =
-        let room : more .count < 64 = omega (arith, so .few, lg .few) in
+        let room : more .count < mostColours = omega (arith, so .few, lg .few) in
         let less : i < length (namesIn t g) = omega (arith, names-count t g) in
-        let lacked : holds (namesIn s f) (getD (namesIn t g) i []) ≡ false = le-ltb (listed (namesIn s f) (getD (namesIn t g) i [])) (length (namesIn s f)) (omega (arith, found, names-count s f)) in
+        let name : Name = getD (namesIn t g) i [] in
+        let lacked : holds (namesIn s f) name ≡ false = le-ltb (listed (namesIn s f) name) (length (namesIn s f)) (omega (arith, found, names-count s f)) in
         let before : length (merged (namesIn s f) (take i (namesIn t g))) ≡ f .count + more .count =
         sym (ap length (so .names)) ∙ length-append (namesIn s f) (namesIn t more) ∙ omega (arith, names-count s f, names-count t more) in
         record {
@@ -87,7 +90,7 @@ module _ (s : List ℕ) (f : Colours) (t : List ℕ) (g : Colours) (lf : Lists s
               ∙ sym (merged-new (namesIn s f) (namesIn t g) i less lacked));
           numbered = more-numbered _ (sym before ∙ sym (number-new (namesIn s f) (namesIn t g) i (lg .distinct) less lacked));
           few = omega (arith, so .few);
-          numbers64 = length-set numbers _ _ ∙ so .numbers64;
+          numbers-all = length-set numbers _ _ ∙ so .numbers-all;
         }
 
   pub so-far-all : (more : Colours) (numbers : List ℕ) → SoFar s f t g (g .count) more numbers → Merges s f t g (record { more = more; numbers = numbers })

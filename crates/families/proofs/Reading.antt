@@ -6,6 +6,7 @@ use mathlib.Core.List.{List}
 use borrow.Author.Tests.{eq-eqb, ne-eqb}
 use Rattle.names.proofs.SpellingNumbers.{Bytes}
 use Rattle.names.specs.Pick.{pick}
+use Rattle.names.specs.Spelling.{mostColours}
 use Rattle.books.specs.Contents.{Contents}
 use Rattle.books.specs.Lent.{contentsOf}
 use Rattle.books.specs.ContentsIn.{contentsIn}
@@ -33,15 +34,13 @@ book-lent s bytes z =
           colours-few = places .few;
           motifs-few = lies .motifs-few;
           start-fits = lies .start-fits;
-          rows = record { few = lies .rules-few; places200 = lies .rules-size };
+          rows = record { few = lies .rules-few; places-all = lies .rules-size };
         };
-        fits = fit-more _ _ 32 64 (standing (rulesOf f)) (keeps .motifs-few) (keeps .colours-ok .few) (keeps .sound .rules-fit);
+        fits = fit-more _ _ 32 mostColours (standing (rulesOf f)) (keeps .motifs-few) (keeps .colours-ok .few) (keeps .sound .rules-fit);
       };
       keeps = keeps;
       lists = record {
         few = places .few;
-        starts64 = places .starts64;
-        lens64 = places .lens64;
         inside = places .inside;
         distinct = keeps .colours-ok .distinct;
       };

@@ -6,6 +6,7 @@ use mathlib.Core.Logic.{_↔_}
 use lib.ListN.{length}
 use borrow.Author.Tests.{leb-true, le-leb}
 use Rattle.names.specs.Pick.{pick}
+use Rattle.names.specs.Spelling.{mostColours}
 use Rattle.books.specs.Contents.{Contents}
 use Rattle.families.specs.Limits.{WithinLimits}
 use Rattle.families.specs.Within.{few?, within?}
@@ -14,7 +15,7 @@ both-true : (a b : Bool) → pick a b false ≡ true → (a ≡ true) × (b ≡ 
 both-true true b e = (refl, e)
 both-true false b e = absurd (true≢false (sym e))
 
-pub few-true : (colours motifs rules : ℕ) → few? colours motifs rules ≡ true → (colours ≤ 64) × (motifs ≤ 32) × (rules ≤ 200)
+pub few-true : (colours motifs rules : ℕ) → few? colours motifs rules ≡ true → (colours ≤ mostColours) × (motifs ≤ 32) × (rules ≤ 200)
 unfolding few?
 few-true colours motifs rules e =
     let (c, rest) = both-true _ _ e in

@@ -6,6 +6,7 @@ use books::family::Family;
 use books::rule::Body;
 use books::rule::Dir;
 use books::rule::Rule;
+use names::colours::MOST_COLOURS;
 ghost use mathlib.Core.Path.{_≡_};
 ghost use Prim.Native.Nat.{_+_, _≤_, _<_};
 ghost use Rattle.books.specs.Picture.{joins};
@@ -62,7 +63,12 @@ fn join_rule(way: Dir, head: usize, first: usize, second: usize) -> Rule
 }
 
 // Both families' rules, and under the new start copies of those of both starts, or the rule that joins both starts.
-pub(crate) fn pair_rules(pairing: Pairing, f: Family, g: Family, numbers: [u8; 64]) -> Rules
+pub(crate) fn pair_rules(
+    pairing: Pairing,
+    f: Family,
+    g: Family,
+    numbers: [u8; MOST_COLOURS],
+) -> Rules
     requires { ⌜ PairFits pairing f g ⌝ }
     ensures { λ r. ⌜ r ≡ pairRules pairing f g numbers ⌝ }
 {

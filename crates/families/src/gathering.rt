@@ -1,9 +1,11 @@
 // Gathering the rules of a new book from those of one or two others.
 use books::rule::Body;
 use books::rule::Rule;
+use names::colours::MOST_COLOURS;
 ghost use mathlib.Core.Path.{_≡_};
 ghost use mathlib.Core.List.{[], _∷_, List·Memᴰ};
 ghost use Prim.Native.Nat.{_+_, _≤_, _<_};
+ghost use Rattle.names.specs.Spelling.{mostColours};
 ghost use Rattle.books.specs.declared.rule.Rule.{Rule};
 ghost use Rattle.books.specs.Keeps.{RuleFits};
 ghost use Rattle.families.specs.Combine.{copies};
@@ -86,8 +88,8 @@ pub(crate) fn add_copies(l: Rules, k: Rules, head: usize, new: usize) -> Rules
 }
 
 // A rule of a second book as it stands after a first: its motifs raised, its colour under its number in the merged list.
-fn raised_rule(rule: Rule, by: usize, numbers: [u8; 64]) -> Rule
-    requires { ⌜ (by ≤ 32) × RuleFits 32 64 rule ⌝ }
+fn raised_rule(rule: Rule, by: usize, numbers: [u8; MOST_COLOURS]) -> Rule
+    requires { ⌜ (by ≤ 32) × RuleFits 32 mostColours rule ⌝ }
     ensures { λ r. ⌜ r ≡ raisedBy by numbers rule ⌝ }
 {
     let up = by as u8;
@@ -110,8 +112,8 @@ fn raised_rule(rule: Rule, by: usize, numbers: [u8; 64]) -> Rule
 }
 
 // All rules of a second book, raised.
-pub(crate) fn raise_rules(k: Rules, by: usize, numbers: [u8; 64]) -> Rules
-    requires { ⌜ (by ≤ 32) × Rows k × ((r : Rule) → List·Memᴰ r (standing k) → RuleFits 32 64 r) ⌝ }
+pub(crate) fn raise_rules(k: Rules, by: usize, numbers: [u8; MOST_COLOURS]) -> Rules
+    requires { ⌜ (by ≤ 32) × Rows k × ((r : Rule) → List·Memᴰ r (standing k) → RuleFits 32 mostColours r) ⌝ }
     ensures { λ r. ⌜ r ≡ changed (raisedBy by numbers) k ⌝ }
 {
     let mut rules = k.rules;

@@ -11,6 +11,7 @@ use books::family::Family;
 use books::rule::Dir;
 use names::colours;
 use names::colours::Colours;
+use names::colours::MOST_COLOURS;
 ghost use mathlib.Core.Path.{_≡_};
 ghost use Rattle.families.specs.Within.{few?};
 ghost use Rattle.families.specs.inner.Lent.{Sized, Lent};
@@ -22,18 +23,18 @@ pub(crate) struct Made {
     pub(crate) draft: Draft,
 }
 
-// At most 64 colours, 32 motifs, 200 rules.
+// No more colours, motifs and rules than a book may have.
 fn within(colours: usize, motifs: usize, rules: usize) -> bool
     ensures { λ r. ⌜ r ≡ few? colours motifs rules ⌝ }
 {
-    if colours <= 64 {
+    if colours <= MOST_COLOURS {
         if motifs <= 32 { rules <= 200 } else { false }
     } else {
         false
     }
 }
 
-// What exceeds the limits.
+// Too much is told, and not drafted: the first book's family stands in for a draft that is never written.
 fn exceeding(f: Family) -> Made
     ensures { λ r. ⌜ r ≡ tooMuch f ⌝ }
 {

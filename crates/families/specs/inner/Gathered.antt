@@ -27,4 +27,4 @@ changed t l = record { count = l .count; rules = sets (l .rules) 0 (map t (stand
 -- a row of 200 places, of which no more are taken
 pub record Rows (l : Rules) : Type 0 where
   pub few : l .count ≤ 200
-  pub places200 : length (l .rules) ≡ 200
+  pub places-all : length (l .rules) ≡ 200

@@ -27,7 +27,7 @@ draftedAs f more motifs start l =
       };
     }
 
--- what exceeds the limits
+-- what exceeds the limits: the family stands in for a draft that is never written
 abbrev pub tooMuch : Family → Made
 tooMuch f = record { within = false; draft = record { family = f; more = noColours } }
 

@@ -4,17 +4,15 @@ use mathlib.Core.Path.{_≡_}
 use mathlib.Core.List.{List, _++_}
 use lib.ListN.{length, getD}
 use Rattle.names.specs.Name.{listed}
-use Rattle.names.specs.Spelling.{Distinct}
+use Rattle.names.specs.Spelling.{mostColours, Distinct}
 use Rattle.names.specs.Colours.{nameIn, namesIn}
 use Rattle.names.specs.declared.colours.Colours.{Colours}
 use Rattle.families.specs.Merged.{merged}
 use Rattle.families.specs.declared.merge.Merged.{Merged}
 
--- the colours of a lent book, as reading leaves them: at most 64 parts of the book, with distinct names
+-- the colours of a lent book, as reading leaves them: parts of the book, with distinct names, and not too many
 pub record Lists (s : List ℕ) (c : Colours) : Type 0 where
-  pub few : c .count ≤ 64
-  pub starts64 : length (c .starts) ≡ 64
-  pub lens64 : length (c .lens) ≡ 64
+  pub few : c .count ≤ mostColours
   pub inside : (i : ℕ) → i < c .count → getD (c .starts) i 0 + getD (c .lens) i 0 ≤ length s
   pub distinct : Distinct (namesIn s c)
 

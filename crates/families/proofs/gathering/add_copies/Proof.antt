@@ -14,7 +14,10 @@ use Rattle.families.proofs.gathering.add_copies.Statement.{statement}
 use Rattle.families.proofs.gathering.add_copies.Tie as tie
 
 abbrev Inv-loop : tie.InvT-loop
-Inv-loop head new k rules₀ at₀ count i₀ rules at i = (i ≤ count) × (at + length (copies new head (drop i (standing k))) ≡ at₀ + length (copies new head (standing k))) × (sets rules at (copies new head (drop i (standing k))) ≡ sets rules₀ at₀ (copies new head (standing k)))
+Inv-loop head new k rules₀ at₀ count i₀ rules at i =
+    (i ≤ count)
+    × (at + length (copies new head (drop i (standing k))) ≡ at₀ + length (copies new head (standing k)))
+    × (sets rules at (copies new head (drop i (standing k))) ≡ sets rules₀ at₀ (copies new head (standing k)))
 
 abbrev μ-loop : tie.MeasureT-loop
 μ-loop head new k rules₀ at₀ count i₀ rules at i = count - i
@@ -52,7 +55,9 @@ loop-again c =
     let inv = simp here at (l .inv) in
     simp (w .1, w .2, one-written) (omega arith, omega (arith, inv .1), inv .2))
     (λ w.
-    simp (w .1, w .2) (omega arith, simp (copies-elsewhere (a .t2) rows (a .head) (l .i) less (a .new) (w .0 .left)) at (l .inv .1), simp (copies-elsewhere (a .t2) rows (a .head) (l .i) less (a .new) (w .0 .left)) at (l .inv .2)))
+    let elsewhere = copies-elsewhere (a .t2) rows (a .head) (l .i) less (a .new) (w .0 .left) in
+    let inv = simp elsewhere at (l .inv) in
+    simp (w .1, w .2) (omega arith, inv .1, inv .2))
     (c .if1 .came)
 
 returns : tie.Need-returns Inv-loop μ-loop

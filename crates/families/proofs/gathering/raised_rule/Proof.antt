@@ -9,16 +9,28 @@ array-read-t17 : tie.Need-array-read-t17
 array-read-t17 c = simp (c .before .body .given .1) at (c .before .before .before .before .pre .1 .body-fits)
 
 add-t19 : tie.Need-add-t19
-add-t19 c = let fits = simp (c .before .body2 .given .1) at (c .before .before .before .before .pre .1 .body-fits) in omega (arith, fits, c .before .before .before .before .pre .0)
+add-t19 c =
+    let p = c .before .before .before .before .pre in
+    let fits = simp (c .before .body2 .given .1) at (p .1 .body-fits) in
+    omega (arith, fits, p .0)
 
 add-t20 : tie.Need-add-t20
-add-t20 c = let fits = simp (c .before .body2 .given .1) at (c .before .before .before .before .pre .1 .body-fits) in omega (arith, fits, c .before .before .before .before .pre .0)
+add-t20 c =
+    let p = c .before .before .before .before .pre in
+    let fits = simp (c .before .body2 .given .1) at (p .1 .body-fits) in
+    omega (arith, fits, p .0)
 
 add-t22 : tie.Need-add-t22
-add-t22 c = let fits = simp (c .before .body3 .given .1) at (c .before .before .before .before .pre .1 .body-fits) in omega (arith, fits, c .before .before .before .before .pre .0)
+add-t22 c =
+    let p = c .before .before .before .before .pre in
+    let fits = simp (c .before .body3 .given .1) at (p .1 .body-fits) in
+    omega (arith, fits, p .0)
 
 add-t23 : tie.Need-add-t23
-add-t23 c = let fits = simp (c .before .body3 .given .1) at (c .before .before .before .before .pre .1 .body-fits) in omega (arith, fits, c .before .before .before .before .pre .0)
+add-t23 c =
+    let p = c .before .before .before .before .pre in
+    let fits = simp (c .before .body3 .given .1) at (p .1 .body-fits) in
+    omega (arith, fits, p .0)
 
 returns : tie.Need-returns
 unfolding raisedBy
