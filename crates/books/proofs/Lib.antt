@@ -3,6 +3,7 @@ pub mod LentRules
 pub mod SamePictures
 pub mod Gluing
 pub mod NothingEmpty
+pub mod CellsCalled
 pub mod Searches
 pub mod Deciding
 pub mod Onwards

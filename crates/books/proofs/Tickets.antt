@@ -1,11 +1,19 @@
 -- The ticket of a sheet has no part in what is derived: sheets that differ in it alone are the same picture, and derivation goes by the picture.
 use Prim.Native.Nat.{ℕ, _≤_}
-use mathlib.Core.Path.{_≡_, refl}
+use mathlib.Core.Path.{_≡_, refl, sym, ap, _∙_}
+use mathlib.Core.List.{List}
 use mathlib.Core.Logic.{_↔_}
+use borrow.Author.Tests.{eq-eqb}
 use Rattle.names.specs.Number.{greatestNumber}
+use Rattle.books.specs.Calls.{ticketOf}
 use Rattle.books.specs.Contents.{Contents}
+use Rattle.books.specs.ContentsIn.{gridIn}
 use Rattle.books.specs.Grid.{Grid, GridKeeps, picture}
 use Rattle.books.specs.Derives.{Derives}
+use Rattle.books.specs.Lent.{pictureOf, lentBook, lentBoth}
+use Rattle.books.specs.Picture.{Picture}
+use Rattle.books.specs.Sheet.{sheetOf}
+use Rattle.books.specs.declared.answer.Answer.{Answer}
 use Rattle.books.proofs.SamePictures.{same-refl, same-derives}
 
 -- the sheet with another ticket
@@ -30,3 +38,24 @@ ticket-keeps n g h k =
       cells-all = k .cells-all;
       cells-fit = k .cells-fit;
     }
+
+-- ── As bytes ──
+
+-- two sheets as bytes, both accepted, whose contents are the same but for the ticket
+pub record SameButTicket (s t : List ℕ) : Type 0 where
+  pub first-fine : sheetOf s .fault .number ≡ 0
+  pub second-fine : sheetOf t .fault .number ≡ 0
+  pub else-same : gridIn t (sheetOf t .sheet) ≡ withTicket (ticketOf t) (gridIn s (sheetOf s .sheet))
+
+-- what a call makes of a book and an accepted sheet, it makes of the sheet's picture
+by-picture : {A : Type 0} (book sheet : List ℕ) (refuse : Answer → A) (go : Contents → Picture → A) → sheetOf sheet .fault .number ≡ 0
+    → lentBoth book sheet refuse go ≡ lentBook 1 book refuse (λ b. go b (pictureOf sheet))
+by-picture book sheet refuse go z = simp (eq-eqb (sheetOf sheet .fault .number) 0 z)
+
+-- so every call does the same with both, whatever the book
+pub ticket-alike : {A : Type 0} (book s t : List ℕ) (refuse : Answer → A) (go : Contents → Picture → A) → SameButTicket s t
+    → lentBoth book t refuse go ≡ lentBoth book s refuse go
+ticket-alike book s t refuse go x =
+    by-picture book t refuse go (x .second-fine)
+    ∙ ap (λ (p : Picture). lentBook 1 book refuse (λ b. go b p)) (ap picture (x .else-same))
+    ∙ sym (by-picture book s refuse go (x .first-fine))

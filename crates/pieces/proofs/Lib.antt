@@ -40,3 +40,4 @@ pub mod Orders
 pub mod Demand1
 pub mod Demand2
 pub mod Demand2Numbers
+pub mod NodesFit

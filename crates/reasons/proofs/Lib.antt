@@ -9,3 +9,4 @@ pub mod Apart
 pub mod Asked
 pub mod Demand1
 pub mod Settled
+pub mod Tickets

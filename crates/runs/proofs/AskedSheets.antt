@@ -16,17 +16,15 @@ use Rattle.books.specs.Book.{bookOf}
 use Rattle.books.specs.Calls.{ticketOf}
 use Rattle.books.specs.Derives.{Member}
 use Rattle.books.specs.Sheet.{sheetOf}
-use Rattle.books.specs.Size.{room}
 use Rattle.books.specs.declared.answer.Answer.{Answer}
 use Rattle.books.proofs.Ordering.{number-at, numbers-all, sheet-cells}
 use Rattle.books.proofs.Packing.{ticket-packs}
 use Rattle.books.proofs.ReadingBooks.{book-places}
 use Rattle.pieces.specs.Asking.{Asking, asking, Asks}
-use Rattle.pieces.specs.Derivation.{Derivation, entriesNeeded, derivation}
+use Rattle.pieces.specs.Derivation.{Derivation, entriesNeeded}
 use Rattle.pieces.specs.Table.{table}
 use Rattle.pieces.specs.declared.asking.Asked.{Asked}
-use Rattle.pieces.proofs.AskingAnswers.{sheet-first, derived-asked, other-asked, asked-table, as-derived}
-use Rattle.pieces.proofs.DerivationAnswers.{book-first}
+use Rattle.pieces.proofs.AskingAnswers.{sheet-first, derived-asked, other-asked, asked-table}
 use Rattle.books.specs.Lent.{contentsOf, pictureOf, Accepted}
 use Rattle.pieces.proofs.Endings.{derivation-ends}
 use Rattle.pieces.proofs.TableEntries.{table-length}
@@ -52,7 +50,7 @@ module _ (book sheet work : List ℕ) (fine : bookOf book .fault .number ≡ 0) 
   fits : sheetOf sheet .fault .number ≡ 0 → entriesNeeded (pictureOf sheet) ≤ length work
   fits z = omega (arith, table-fits sheet z, enough)
 
-  asked-number : asking book sheet work .answer .number ≡ answerOf book sheet
+  pub asked-number : asking book sheet work .answer .number ≡ answerOf book sheet
   unfolding answerOf
   asked-number =
       derivation-ends book sheet (replicate workRoom 0) (replicate treeRoom 0) (λ (d : Derivation). asking book sheet work .answer .number ≡ d .answer .number)
@@ -170,21 +168,3 @@ module _ (book sheet work : List ℕ) (fine : bookOf book .fault .number ≡ 0) 
 
       pub asked-adds : Adds book sheet work left f (withAsked f r)
       asked-adds = adds-first (ℕ-discrete (r .answer .number) 0)
-
--- ── Room enough ──
-
--- whatever stands in the slices, and however long they are beyond that: the answer is that of a derivation with room enough
-pub any-room : (book sheet entries numbers : List ℕ) → workRoom ≤ length entries → treeRoom ≤ length numbers
-    → derivation book sheet entries numbers .answer .number ≡ answerOf book sheet
-unfolding answerOf
-any-room book sheet entries numbers enough long = go (ℕ-discrete (bookOf book .fault .number) 0)
-  where
-    number : Derivation → ℕ
-    number d = d .answer .number
-
-    go : Dec (bookOf book .fault .number ≡ 0)
-        → derivation book sheet entries numbers .answer .number ≡ derivation book sheet (replicate workRoom 0) (replicate treeRoom 0) .answer .number
-    go (yes z) =
-        ap (λ (a : Answer). a .number) (as-derived book sheet entries numbers z (omega (arith, sheet-cells sheet .area-few)) .same-answer)
-        ∙ asked-number book sheet entries z enough
-    go (no n) = ap number (book-first book sheet entries numbers n) ∙ sym (ap number (book-first book sheet (replicate workRoom 0) (replicate treeRoom 0) n))

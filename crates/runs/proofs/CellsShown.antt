@@ -1,10 +1,8 @@
--- The cells of an accepted sheet have colours of the book: a derivation ends in cells that colour rules paint. So how many show a colour's full name is how many
--- have its number.
-use Prim.Native.Nat.{ℕ, _+_, _-_, _*_, _/_, _%_, _<_}
-use mathlib.Core.Path.{_≡_, refl, sym, ap, _∙_, subst}
+-- The cells of an accepted sheet have colours of the book, since the rules derive it. So how many show a colour's full name is how many have its number.
+use Prim.Native.Nat.{ℕ, _*_, _/_, _%_, _<_}
+use mathlib.Core.Path.{_≡_, refl, sym, ap, _∙_}
 use mathlib.Core.Bool.{Bool, true, false}
 use mathlib.Core.List.{List, [], map, List·Memᴰ, Memᴰ·cast}
-use mathlib.Core.Logic.{⊎-elim}
 use native.Mathlib.Nat.{mod-lt, div-add-mod', div-lt-iff-lt-mul}
 use native.Mathlib.Omega.{arith}
 use borrow.Author.Tests.{eq-eqb, eqb-true}
@@ -15,22 +13,20 @@ use Rattle.names.specs.Name.{Name, listed}
 use Rattle.names.specs.Colours.{namesIn}
 use Rattle.names.specs.Spelling.{Distinct}
 use Rattle.names.proofs.Finding.{find-listed}
-use Rattle.names.proofs.Listing.{getD-mem, listed-found, listed-own}
+use Rattle.names.proofs.Listing.{listed-found, listed-own}
 use Rattle.names.proofs.ReadingColours.{names-count, name-at}
 use Rattle.names.proofs.SpellingNumbers.{Bytes}
-use Rattle.names.proofs.Tests.{lt-or-le}
 use Rattle.books.specs.Book.{bookOf}
 use Rattle.books.specs.Cells.{noCells}
-use Rattle.books.specs.Contents.{Contents, Called}
+use Rattle.books.specs.Contents.{Contents}
 use Rattle.books.specs.ContentsIn.{contentsIn}
 use Rattle.books.specs.Decide.{called?}
-use Rattle.books.specs.Derives.{Derives, Member, paint, join}
+use Rattle.books.specs.Derives.{Member}
 use Rattle.books.specs.Order.{numberOf, numbersOf}
-use Rattle.books.specs.Picture.{Picture}
-use Rattle.books.specs.declared.rule.Dir.the-variants.{Across as across, Down as down}
 use Rattle.books.specs.Sheet.{sheetOf}
 use Rattle.books.specs.declared.family.Family.{Family}
 use Rattle.books.specs.declared.sheet.Sheet.{Sheet}
+use Rattle.books.proofs.CellsCalled.{cells-listed}
 use Rattle.books.proofs.Deciding.{called}
 use Rattle.books.proofs.Ordering.{number-at}
 use Rattle.books.proofs.ReadingBooks.{book-accepted}
@@ -39,24 +35,6 @@ use Rattle.books.specs.Lent.{pictureOf, Accepted, contentsOf}
 use Rattle.runs.specs.Figures.{showing, mostColours}
 use Rattle.runs.specs.Lists.{howMany}
 use Rattle.runs.proofs.CountingLists.{how-many-same}
-
--- ── A derived picture ──
-
-pub cells-called : {b : Contents} {a : ℕ} {p : Picture} → Derives b a p → (i j : ℕ) → i < p .rows → j < p .cols → (c : ℕ) × Called b c (p .cell i j)
-cells-called (paint c h hr hc e) i j hi hj =
-    let x : i ≡ 0 = omega arith in
-    let y : j ≡ 0 = omega arith in
-    (c, rw (x, y) e)
-cells-called {b} {p = p} (join across l r k h hk hs x y) i j hi hj =
-    ⊎-elim
-    (λ g. cells-called x i j hi g)
-    (λ g. let e : k + (j - k) ≡ j = omega arith in subst (λ (m : ℕ). (c : ℕ) × Called b c (p .cell i m)) e (cells-called y i (j - k) hi (omega arith)))
-    (lt-or-le j k)
-cells-called {b} {p = p} (join down l r k h hk hs x y) i j hi hj =
-    ⊎-elim
-    (λ g. cells-called x i j g hj)
-    (λ g. let e : k + (i - k) ≡ i = omega arith in subst (λ (m : ℕ). (c : ℕ) × Called b c (p .cell m j)) e (cells-called y (i - k) j (omega arith) hj))
-    (lt-or-le i k)
 
 -- ── A name by its number ──
 
@@ -110,8 +88,7 @@ module _ (book sheet : List ℕ) (bytes : Bytes book) (fine : Accepted book shee
   cell-listed i h =
       let row : i / g .cols < g .rows = div-lt-iff-lt-mul (lies .cols-some) .1 h in
       let col : i % g .cols < g .cols = mod-lt i (lies .cols-some) in
-      let (c, found) = cells-called member (i / g .cols) (i % g .cols) row col in
-      Memᴰ·cast (ap (λ (k : ℕ). names (getD cells k 0)) (sym (div-add-mod' i (g .cols))) ∙ found .1) (getD-mem (b .colours) c [] (found .0))
+      Memᴰ·cast (ap (λ (k : ℕ). names (getD cells k 0)) (sym (div-add-mod' i (g .cols)))) (cells-listed member (i / g .cols) (i % g .cols) row col)
 
   -- its number in the book is the number that the name has in the book's list
   cell-number : (i : ℕ) → i < area → numbers (getD cells i 0) ≡ listed (b .colours) (names (getD cells i 0))

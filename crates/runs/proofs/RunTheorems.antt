@@ -1,27 +1,54 @@
--- What the figures say of a run, over the list of its sheets: every sheet has one of the ten answers, so that the counts add up; the least and the
--- greatest ticket are tickets of accepted sheets and bound them; and where no sheet is accepted, nothing is told of tickets.
+-- What the figures say of a run, over the list of its sheets: every sheet has one of the ten answers, whatever the slices of a derivation that is asked, so
+-- that the counts add up; the least and the greatest ticket are tickets of accepted sheets and bound them; and where no sheet is accepted, nothing is told of tickets.
 use Prim.Native.Nat.{ℕ, _+_, _-_, _≤_, _<_}
-use mathlib.Core.Path.{_≡_, refl, ap, _∙_}
+use mathlib.Core.Path.{_≡_, refl, sym, ap, _∙_}
 use mathlib.Core.List.{List, [], _∷_, map}
 use mathlib.Core.Logic.{_⊎_, inl, inr}
+use native.Mathlib.Decide.{ℕ-discrete}
 use native.Mathlib.Omega.{arith}
 use borrow.Author.Count.{below-none, below-more}
 use lib.Dec.{eqb}
-use lib.ListN.{length, take, drop}
+use lib.ListN.{length, take, drop, replicate}
 use Rattle.names.specs.Number.{numberAt}
 use Rattle.names.specs.Pick.{fault}
 use Rattle.names.specs.declared.number.Read.the-variants.{Value}
 use Rattle.books.specs.Book.{bookOf}
 use Rattle.books.specs.Calls.{ticketOf}
+use Rattle.books.specs.declared.answer.Answer.{Answer}
+use Rattle.books.proofs.Ordering.{sheet-cells}
+use Rattle.pieces.specs.Derivation.{Derivation, derivation}
+use Rattle.pieces.proofs.AskingAnswers.{as-derived}
+use Rattle.pieces.proofs.DerivationAnswers.{book-first}
 use Rattle.names.specs.Counted.{each}
 use Rattle.runs.specs.Run.{frameAt, sheetIn, walkFrom, framing, sheetsOf}
-use Rattle.runs.specs.Figures.{answerOf, answering, accepted, got, cellsOf, tickets, answersGiven, figuresOf, noFigures}
+use Rattle.runs.specs.Figures.{workRoom, treeRoom, answerOf, answering, accepted, got, cellsOf, tickets, answersGiven, figuresOf, noFigures}
 use Rattle.runs.specs.Lists.{those, howMany, addedUp, anyIn, leastOf, greatestOf}
 use Rattle.runs.specs.declared.figures.Figures.{Figures}
 use Rattle.runs.specs.declared.framing.Frame.{Frame}
-use Rattle.runs.proofs.AnswersOfSheets.{Listed, answer-listed, nothing-answers}
+use Rattle.runs.proofs.AnswersOfSheets.{nothing-answers}
+use Rattle.runs.proofs.AskedSheets.{asked-number}
 use Rattle.runs.proofs.CountingLists.{once, how-many-none, how-many-cons, Bounds, least-bounds, greatest-bounds}
 use Rattle.runs.proofs.WalkingRuns.{framed-whole}
+-- The answer of a sheet is 0 to 8, or 11 (`answer-listed`), and 0 exactly where book and sheet are read and the family has the sheet (`accepted-exactly`).
+pub use Rattle.runs.proofs.AnswersOfSheets.{Listed, answer-listed, accepted-exactly}
+
+-- ── The answer of a sheet ──
+
+-- It is the number that every derivation with room for the greatest sheet gives, whatever stands in the slices and however long they are beyond that.
+pub any-room : (book sheet work tree : List ℕ) → workRoom ≤ length work → treeRoom ≤ length tree
+    → derivation book sheet work tree .answer .number ≡ answerOf book sheet
+unfolding answerOf
+any-room book sheet work tree enough long = go (ℕ-discrete (bookOf book .fault .number) 0)
+  where
+    number : Derivation → ℕ
+    number d = d .answer .number
+
+    go : Dec (bookOf book .fault .number ≡ 0)
+        → derivation book sheet work tree .answer .number ≡ derivation book sheet (replicate workRoom 0) (replicate treeRoom 0) .answer .number
+    go (yes z) =
+        ap (λ (a : Answer). a .number) (as-derived book sheet work tree z (omega (arith, sheet-cells sheet .area-few)) .same-answer)
+        ∙ asked-number book sheet work z enough
+    go (no n) = ap number (book-first book sheet work tree n) ∙ sym (ap number (book-first book sheet (replicate workRoom 0) (replicate treeRoom 0) n))
 
 -- ── The counts add up ──
 

@@ -1,8 +1,8 @@
 -- The card that is computed says what a size card must say, and no other list of numbers does: numbers with the same bits are equal.
 use Prim.Native.Nat.{ℕ, zero, suc, _+_, _-_, _^_, _≤_, _<_}
-use mathlib.Core.Path.{_≡_, refl, sym, ap, _∙_, subst}
-use mathlib.Core.Bool.{Bool, true, false}
-use mathlib.Core.List.{List, [], _∷_, List·Memᴰ, List·Memᴰ·head, List·Memᴰ·not-nil, List·Memᴰ·eq-of-singleton}
+use mathlib.Core.Path.{_≡_, sym, _∙_}
+use mathlib.Core.Bool.{true}
+use mathlib.Core.List.{List}
 use mathlib.Core.Logic.{_↔_}
 use native.Mathlib.Decide.{decLt}
 use native.Mathlib.Nat.{pow-suc, lt-of-lt-of-le}
@@ -10,16 +10,14 @@ use native.Mathlib.Omega.{arith}
 use lib.ListN.{length, getD, List·getD-eq-default}
 use lib.Pow.{pow-mono}
 use lib.Seq.{ext-getD}
-use Rattle.names.specs.Pick.{pick}
 use Rattle.books.specs.Contents.{Contents}
-use Rattle.names.specs.Counted.{each}
 use Rattle.names.specs.Bits.{bit}
 use Rattle.names.proofs.Bits.{bit-zero, bit-high, same-bit, same-bits}
 use Rattle.pieces.proofs.Entries.{bits-lt, bits-has, has-bits}
-use Rattle.sizes.specs.Size.{Size, by}
+use Rattle.sizes.specs.Size.{by}
 use Rattle.sizes.specs.Promise.{Sized, SizeCard}
-use Rattle.sizes.specs.Card.{sized?, cardRow, card, sizesOf}
-use Rattle.sizes.proofs.Listing.{each-length, each-at, each-has, has-each}
+use Rattle.sizes.specs.Card.{sized?, cardRow, card}
+use Rattle.sizes.proofs.Listing.{each-length, each-at}
 use Rattle.sizes.proofs.SizesOfSheets.{sizes-of-sheets}
 use Rattle.sizes.proofs.Testing.{size-decided}
 
@@ -68,7 +66,7 @@ module _ (b : Contents) (most : ℕ) where
   pub card-right : SizeCard b most (card b most)
   card-right = record { numbers = card-length; says = card-says; clear = card-clear }
 
--- ---- no other list is a card
+-- ── No other list is a card ──
 
 below-power : (n : ℕ) → n < 2 ^ n
 below-power zero = omega arith
@@ -109,33 +107,3 @@ module _ (b : Contents) (most : ℕ) (x y : List ℕ) (p : SizeCard b most x) (q
 
   pub card-unique : x ≡ y
   card-unique = ext-getD 0 x y (p .numbers ∙ sym (q .numbers)) (λ i h. same-number i (omega (arith, p .numbers)))
-
--- ---- the sizes listed are those that the family has
-
-listed : {A : Type 0} (t : Bool) (x y : A) → List·Memᴰ x (pick t (y ∷ []) []) → (t ≡ true) × (x ≡ y)
-listed true x y m = (refl, List·Memᴰ·eq-of-singleton m)
-listed false x y m = absurd (List·Memᴰ·not-nil m)
-
-pub size-listed : (b : Contents) (most r c : ℕ) → List·Memᴰ (by r c) (sizesOf b most) ↔ ((1 ≤ r) × (r ≤ most) × (1 ≤ c) × (c ≤ most) × Sized b r c)
-unfolding sizesOf
-size-listed b most r c = (forth, back)
-  where
-    forth : List·Memᴰ (by r c) (each most (λ i. each most (λ j. pick (sized? b i j) (by (suc i) (suc j) ∷ []) [])))
-        → (1 ≤ r) × (r ≤ most) × (1 ≤ c) × (c ≤ most) × Sized b r c
-    forth m =
-        let (i, hi, u) = each-has _ (by r c) most m in
-        let (j, hj, v) = each-has _ (by r c) most u in
-        let (t, e) = listed (sized? b i j) (by r c) (by (suc i) (suc j)) v in
-        let er : r ≡ suc i = ap (λ (s : Size). s .rows) e in
-        let ec : c ≡ suc j = ap (λ (s : Size). s .cols) e in
-        let x : Sized b (suc i) (suc j) = sized-decided b i j .0 t in
-        (omega arith, omega arith, omega arith, omega arith, subst (λ (n : ℕ). Sized b n c) (sym er) (subst (Sized b (suc i)) (sym ec) x))
-
-    back : (1 ≤ r) × (r ≤ most) × (1 ≤ c) × (c ≤ most) × Sized b r c
-        → List·Memᴰ (by r c) (each most (λ i. each most (λ j. pick (sized? b i j) (by (suc i) (suc j) ∷ []) [])))
-    back (hr, kr, hc, kc, x) =
-        let er : r ≡ suc (r - 1) = omega arith in
-        let ec : c ≡ suc (c - 1) = omega arith in
-        let t : sized? b (r - 1) (c - 1) ≡ true = sized-decided b (r - 1) (c - 1) .1 (rw (er, ec) at x) in
-        has-each _ (by r c) most (r - 1) (omega arith) (has-each _ (by r c) most (c - 1) (omega arith)
-        (rw t (List·Memᴰ·head (λ i. by (er i) (ec i)))))

@@ -20,6 +20,8 @@ use Rattle.sizes.proofs.Answering.{with-room, card-packs}
 use Rattle.sizes.proofs.CardRight.{card-length, card-right}
 use Rattle.sizes.proofs.Counting.{sizes-counted}
 use Rattle.sizes.proofs.Demand1.{size-card-answered, dv-size-card-answered}
+-- The list of sizes, whose length is the count, has exactly the sizes within the press that the family has (`size-listed`), and none twice (`sizes-apart`).
+pub use Rattle.sizes.proofs.SizesListed.{size-listed, sizes-apart}
 
 -- a slice that was left with the card of a family, and the number of its sizes
 pub record CardLeft (b : Contents) (slice left : List ℕ) (count : ℕ) : Type 0 where

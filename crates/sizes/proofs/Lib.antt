@@ -3,6 +3,7 @@ pub mod Testing
 pub mod Listing
 pub mod Counting
 pub mod CardRight
+pub mod SizesListed
 pub mod Laying
 pub mod Firing
 pub mod Slots
@@ -13,5 +14,6 @@ pub mod CardRows
 pub mod Answering
 pub mod Demand1
 pub mod CardTheorems
+pub mod CardBytes
 pub mod OneSize
 pub mod Settled

@@ -1,15 +1,17 @@
--- What stands in a list that is made place by place.
+-- What stands in a list that is made place by place, and when nothing stands in it twice.
 use Prim.Native.Nat.{ℕ, zero, suc, _<_}
 use mathlib.Core.Path.{_≡_, refl, sym, ap, _∙_, subst}
-use mathlib.Core.List.{List, [], _∷_, _++_, List·Memᴰ, List·Memᴰ·not-nil, List·Memᴰ·append-cases, Memᴰ·append-left, Memᴰ·append-right}
+use mathlib.Core.List.{List, [], _∷_, _++_, List·Memᴰ, List·Memᴰ·head, List·Memᴰ·tail, List·Memᴰ·not-nil, List·Memᴰ·append-cases}
+use mathlib.Core.List.{Memᴰ·append-left, Memᴰ·append-right, Memᴰ·cast}
 use mathlib.Core.Logic.{⊎-elim}
 use native.Mathlib.Decide.{ℕ-discrete}
 use native.Mathlib.Omega.{arith}
 use lib.ListN.{length, getD, length-append, List·getD-append}
 use lib.Seq.{getD-at}
 use Rattle.names.specs.Counted.{each}
+use Rattle.names.proofs.Listing.{getD-mem}
 
--- ---- one number at each place
+-- ── One number at each place ──
 
 module _ (f : ℕ → ℕ) where
   pub each-length : (n : ℕ) → length (each n (λ i. f i ∷ [])) ≡ n
@@ -26,7 +28,7 @@ module _ (f : ℕ → ℕ) where
       go ih (yes e) = getD-at (each n (λ i. f i ∷ [])) (f n) [] 0 i (each-length n ∙ sym e) ∙ ap f (sym e)
       go ih (no ne) = List·getD-append (each n (λ i. f i ∷ [])) (f n ∷ []) 0 i (omega (arith, each-length n)) ∙ ih (omega arith)
 
--- ---- members
+-- ── Members ──
 
 module _ {A : Type 0} (f : ℕ → List A) (x : A) where
   pub each-has : (n : ℕ) → List·Memᴰ x (each n f) → (i : ℕ) × (i < n) × List·Memᴰ x (f i)
@@ -43,3 +45,33 @@ module _ {A : Type 0} (f : ℕ → List A) (x : A) where
       go : (i < n → List·Memᴰ x (each n f)) → Dec (i ≡ n) → List·Memᴰ x (each n f ++ f n)
       go ih (yes e) = Memᴰ·append-right (each n f) (subst (λ (k : ℕ). List·Memᴰ x (f k)) e m)
       go ih (no ne) = Memᴰ·append-left (f n) (ih (omega arith))
+
+-- ── Nothing twice ──
+
+abbrev pub Apart : {A : Type 0} → List A → Type 0
+Apart [] = Unit {0}
+Apart (x ∷ xs) = (List·Memᴰ x xs → ⊥) × Apart xs
+
+apart-append : {A : Type 0} (xs ys : List A) → Apart xs → Apart ys → ((x : A) → List·Memᴰ x xs → List·Memᴰ x ys → ⊥) → Apart (xs ++ ys)
+apart-append [] ys p q none = q
+apart-append (x ∷ xs) ys p q none = (
+  λ m. ⊎-elim (p .0) (none x (List·Memᴰ·head refl)) (List·Memᴰ·append-cases xs m),
+  apart-append xs ys (p .1) q (λ y m. none y (List·Memᴰ·tail m)),
+)
+
+-- what each number gives has nothing twice, and no two numbers give the same
+pub apart-each : {A : Type 0} (f : ℕ → List A) → ((i : ℕ) → Apart (f i)) → ((i j : ℕ) (x : A) → List·Memᴰ x (f i) → List·Memᴰ x (f j) → i ≡ j)
+    → (n : ℕ) → Apart (each n f)
+unfolding each
+apart-each f each-apart one zero = tt
+apart-each f each-apart one (suc n) =
+    apart-append (each n f) (f n) (apart-each f each-apart one n) (each-apart n)
+    (λ x m u. let (i, h, v) = each-has f x n m in omega (arith, one i n x v u))
+
+-- two places that have the same are one place
+pub apart-places : {A : Type 0} (l : List A) → Apart l → (d : A) (i j : ℕ) → i < length l → j < length l → getD l i d ≡ getD l j d → i ≡ j
+apart-places [] p d i j h g e = absurd (omega arith)
+apart-places (x ∷ xs) p d zero zero h g e = refl
+apart-places (x ∷ xs) p d zero (suc j) h g e = absurd (p .0 (Memᴰ·cast e (getD-mem xs j d (omega arith))))
+apart-places (x ∷ xs) p d (suc i) zero h g e = absurd (p .0 (Memᴰ·cast (sym e) (getD-mem xs i d (omega arith))))
+apart-places (x ∷ xs) p d (suc i) (suc j) h g e = ap suc (apart-places xs (p .1) d i j (omega arith) (omega arith) e)

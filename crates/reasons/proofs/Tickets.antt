@@ -1,0 +1,11 @@
+-- The ticket has no part in why a sheet is not in the family: two accepted sheets, as bytes, that are the same but for the ticket get the same answer and the same
+-- reason, and leave the same table, since why-not goes by the picture of an accepted sheet.
+use Prim.Native.Nat.{ℕ}
+use mathlib.Core.Path.{_≡_}
+use mathlib.Core.List.{List}
+use Rattle.books.proofs.Tickets.{SameButTicket, ticket-alike}
+use Rattle.reasons.specs.Why.{refused, roomed, whyNot}
+
+pub ticket-alone : (book s t entries : List ℕ) → SameButTicket s t → whyNot book t entries ≡ whyNot book s entries
+unfolding whyNot
+ticket-alone book s t entries = ticket-alike book s t (λ a. refused a entries) (λ b p. roomed b p entries)
