@@ -19,6 +19,8 @@ pub mod WholeTable
 pub mod AcceptedInputs
 pub mod TableEntries
 pub mod Searching
+pub mod LargestPiece
+pub mod LookedThrough
 pub mod Cutting
 pub mod Fitting
 pub mod Choosing

@@ -15,7 +15,7 @@ use Rattle.pieces.specs.Pieces.{Inside}
 use Rattle.pieces.specs.Area.{treeSize}
 use Rattle.pieces.specs.Parts.{extent, firstPart, restPart}
 use Rattle.pieces.specs.inner.Fitted.{Fitted}
-use Rattle.pieces.specs.inner.Room.{most}
+use Rattle.pieces.specs.Most.{most}
 use Rattle.pieces.specs.inner.Seen.{On, Ready, seen}
 use Rattle.pieces.specs.Choice.{choose}
 use Rattle.pieces.specs.Tree.{nodeTree, treeOf}

@@ -5,7 +5,7 @@ use native.Mathlib.Nat.{suc-mul, zero-mul, mul-add, le-trans, mul-le-mul}
 use native.Mathlib.Numerals.{add-one}
 use native.Mathlib.Omega.{arith}
 use Rattle.pieces.specs.Pieces.{stretches, total}
-use Rattle.pieces.specs.inner.Room.{most}
+use Rattle.pieces.specs.Most.{most}
 use Rattle.pieces.proofs.Sums.{sum, sum-mono}
 
 pub stretches-next : (n k : ℕ) → stretches n (k + 1) ≡ stretches n k + (n - k)

@@ -9,7 +9,7 @@ use Rattle.pieces.specs.declared.piece.Piece.{Piece}
 use Rattle.pieces.specs.Pieces.{piece, pieces, total, slotOf}
 use Rattle.pieces.specs.Area.{area}
 use Rattle.names.specs.Bits.{isSet}
-use Rattle.pieces.specs.inner.Room.{most}
+use Rattle.pieces.specs.Most.{most}
 
 -- no piece has no rows
 abbrev pub noPiece : Piece

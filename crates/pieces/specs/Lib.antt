@@ -1,3 +1,4 @@
+pub mod Most
 pub mod Pieces
 pub mod Parts
 pub mod Table

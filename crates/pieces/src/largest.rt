@@ -1,29 +1,31 @@
 // The largest piece of a sheet at which a motif has its bit: of greatest area, and of the same area the earliest in the table.
 use crate::cut::has_bit;
 use crate::piece;
+use crate::piece::MOST;
 use crate::piece::Piece;
 ghost use mathlib.Core.Path.{_≡_};
 ghost use Prim.Native.Nat.{_≤_};
 ghost use lib.ListN.{length};
+ghost use Rattle.names.specs.Bits.{isSet};
 ghost use Rattle.pieces.specs.Pieces.{total};
 ghost use Rattle.pieces.specs.Largest.{within, fitsTable, marked, largestOf, largestIn};
-ghost use Rattle.pieces.specs.inner.Room.{most, Room};
-ghost use Rattle.pieces.specs.inner.Larger.{largerBy};
+ghost use Rattle.pieces.specs.Most.{most};
+ghost use Rattle.pieces.specs.inner.Room.{Room};
+ghost use Rattle.pieces.specs.inner.Larger.{areaIf};
 
-// Of the largest piece so far and another with its entry: the other one only where it is larger and has the bit.
-fn larger(entry: u32, motif: u8, best: Piece, p: Piece) -> Piece
-    requires { ⌜ (best .height ≤ most) × (best .width ≤ most) × (p .height ≤ most) × (p .width ≤ most) ⌝ }
-    ensures { λ r. ⌜ r ≡ largerBy entry motif best p ⌝ }
+// The area of a piece whose entry has a motif's bit, and 0 of any other.
+fn area_with(entry: u32, motif: u8, p: Piece) -> usize
+    requires { ⌜ (p .height ≤ most) × (p .width ≤ most) ⌝ }
+    ensures { λ r. ⌜ r ≡ areaIf (isSet entry motif) p ⌝ }
 {
-    if piece::times(best.height, best.width) < piece::times(p.height, p.width) {
-        if has_bit(entry, motif) {
-            return p;
-        }
+    if has_bit(entry, motif) {
+        return piece::times(p.height, p.width);
     }
-    best
+    0
 }
 
-// The pieces are passed in the order of the table.
+// The pieces are passed in the order of the table, and one is kept where it is larger than the one before. That one's area is kept with it, so that it is
+// not multiplied out again for each piece.
 fn search(work: &[u32], motif: u8, m: usize, n: usize) -> Piece
     requires { ⌜ Room m n × (total m n ≤ length (now work)) ⌝ }
     ensures { λ r. ⌜ r ≡ largestOf (marked m n (now (work .entry)) motif) m n ⌝ }
@@ -35,6 +37,7 @@ fn search(work: &[u32], motif: u8, m: usize, n: usize) -> Piece
         top: 0,
         left: 0,
     };
+    let mut area = 0;
     let mut p = Piece {
         height: 1,
         width: 1,
@@ -43,18 +46,22 @@ fn search(work: &[u32], motif: u8, m: usize, n: usize) -> Piece
     };
     let mut k = 0;
     while k < end {
-        best = larger(work[k], motif, best, p);
+        let other = area_with(work[k], motif, p);
+        if area < other {
+            area = other;
+            best = p;
+        }
         p = piece::next(m, n, p);
         k += 1;
     }
     best
 }
 
-// Whether a sheet that is looked through can have so many rows, or columns.
+// Whether a sheet of so many rows, or columns, can be looked through: it has some, and no more than the code's numbers have room for.
 fn within(n: usize) -> bool
     ensures { λ r. ⌜ r ≡ within n ⌝ }
 {
-    if 0 < n { n <= 24 } else { false }
+    if 0 < n { n <= MOST } else { false }
 }
 
 // Whether a slice of so many entries has room for the table of a sheet.

@@ -4,7 +4,7 @@ use books::rule::Dir;
 ghost use mathlib.Core.Path.{_≡_};
 ghost use Prim.Native.Nat.{_+_, _≤_};
 ghost use Rattle.pieces.specs.Parts.{extent};
-ghost use Rattle.pieces.specs.inner.Room.{most};
+ghost use Rattle.pieces.specs.Most.{most};
 ghost use Rattle.pieces.specs.inner.PartsOf.{partsOf};
 
 // A piece and its motif.

@@ -4,7 +4,11 @@ ghost use Prim.Native.Nat.{_*_, _≤_, _<_};
 ghost use Rattle.pieces.specs.Area.{whole, treeSize};
 ghost use Rattle.pieces.specs.Pieces.{Inside, stretches, total, slotOf};
 ghost use Rattle.pieces.specs.inner.NextTo.{NextTo};
-ghost use Rattle.pieces.specs.inner.Room.{most, Room};
+ghost use Rattle.pieces.specs.Most.{most};
+ghost use Rattle.pieces.specs.inner.Room.{Room};
+
+// The most rows, and the most columns, that the numbers have room for.
+pub(crate) const MOST: usize = 24;
 
 // So many rows and columns, from a top row and a left column on.
 pub struct Piece {
@@ -20,7 +24,7 @@ pub(crate) struct Size {
     pub(crate) cols: usize,
 }
 
-// A product of two small numbers.
+// A product that the numbers have room for.
 pub(crate) fn times(a: usize, b: usize) -> usize
     requires { ⌜ (a ≤ 600) × (b ≤ 600) ⌝ }
     ensures { λ r. ⌜ (r ≡ a * b) × (r ≤ 360000) ⌝ }

@@ -17,7 +17,7 @@ use Rattle.pieces.specs.Table.{cut}
 use Rattle.pieces.specs.declared.piece.Piece.{Piece}
 use Rattle.pieces.proofs.CellsFirst.{cell-before}
 use Rattle.names.proofs.Least.{Least, least-is}
-use Rattle.pieces.proofs.Searching.{Finds, nothing, something, largest-finds}
+use Rattle.pieces.proofs.LargestPiece.{Finds, nothing, something, largest-finds}
 use Rattle.sizes.specs.Card.{sized?}
 use Rattle.sizes.specs.Promise.{Sized}
 use Rattle.sizes.proofs.CardRight.{sized-decided}

@@ -31,7 +31,8 @@ use Rattle.pieces.proofs.Entries.{derives-entry, entry-set}
 use Rattle.pieces.proofs.ExactViews.{motif-below}
 use Rattle.pieces.proofs.Judging.{Holds, held-long, held-entry}
 use Rattle.names.proofs.Least.{least-same}
-use Rattle.pieces.proofs.Searching.{room-fits, in-table, largest-same}
+use Rattle.pieces.proofs.LargestPiece.{largest-same}
+use Rattle.pieces.proofs.LookedThrough.{room-fits, in-table}
 use Rattle.sizes.specs.Card.{sized?}
 use Rattle.reasons.specs.declared.reason.Reason.the-variants.{NoSuchSize}
 use Rattle.reasons.specs.Holds.{Named}

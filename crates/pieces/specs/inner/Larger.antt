@@ -1,8 +1,10 @@
--- One step of the search for the largest piece, by the entry at its slot.
+-- How the search for the largest piece compares.
 use Prim.Native.Nat.{ℕ}
+use mathlib.Core.Bool.{Bool}
+use Rattle.names.specs.Pick.{pick}
 use Rattle.pieces.specs.declared.piece.Piece.{Piece}
-use Rattle.names.specs.Bits.{isSet}
-use Rattle.pieces.specs.Largest.{larger}
+use Rattle.pieces.specs.Area.{area}
 
-abbrev pub largerBy : ℕ → ℕ → Piece → Piece → Piece
-largerBy entry a best q = larger (λ _. isSet entry a) best q
+-- the area of a piece that a test accepts, and 0 of any other, so that no other is larger than what was found
+unfoldable pub areaIf : Bool → Piece → ℕ
+areaIf accepted q = pick accepted (area q) 0

@@ -1,9 +1,6 @@
--- The sheets that the code's numbers have room for.
+-- A sheet that the code's numbers have room for.
 use Prim.Native.Nat.{ℕ, _≤_}
-
--- the most rows, and the most columns, that the code's numbers have room for
-abbrev pub most : ℕ
-most = 24
+use Rattle.pieces.specs.Most.{most}
 
 pub record Room (m n : ℕ) : Type 0 where
   pub rows-some : 1 ≤ m

@@ -4,7 +4,7 @@ use lib.Dec.{leb}
 use Prim.Native.Nat.{ℕ}
 use Rattle.pieces.specs.Largest.{fitsTable}
 use Rattle.names.proofs.Tests.{and-on, and-off}
-use Rattle.pieces.proofs.Searching.{within-room}
+use Rattle.pieces.proofs.LookedThrough.{within-room}
 use borrow.Author.Needs.{needs}
 use Rattle.pieces.proofs.largest.fits_table.Statement.{statement}
 use Rattle.pieces.proofs.largest.fits_table.Tie as tie

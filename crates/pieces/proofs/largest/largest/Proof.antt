@@ -1,6 +1,6 @@
 -- The pieces of a sheet that has a table there are searched; where it has none, there is no piece.
 use mathlib.Core.Path.{sym, _∙_}
-use Rattle.pieces.proofs.Searching.{fits-room, in-table, no-table}
+use Rattle.pieces.proofs.LookedThrough.{fits-room, in-table, no-table}
 use borrow.Author.Needs.{needs}
 use Rattle.pieces.proofs.largest.largest.Statement.{statement}
 use Rattle.pieces.proofs.largest.largest.Tie as tie

@@ -1,20 +1,23 @@
 -- The pieces are passed in the order of the table, each with the entry at its slot.
-use mathlib.Core.Path.{_∙_}
+use mathlib.Core.Path.{_≡_}
+use mathlib.Core.Logic.{⊎-elim}
 use Prim.Native.Nat.{_-_, _<_}
 use native.Mathlib.Nat.{lt-of-lt-of-le, le-of-eq}
 use native.Mathlib.Omega.{arith}
+use denote.Ref.{now}
 use Rattle.pieces.specs.Pieces.{total}
 use Rattle.pieces.specs.Largest.{marked}
-use Rattle.pieces.proofs.Searching.{Searching, search-start, search-step, search-end, larger-marked}
+use Rattle.pieces.specs.inner.Larger.{areaIf}
+use Rattle.pieces.proofs.Searching.{Searching, search-start, search-takes, search-leaves, search-end}
 use borrow.Author.Needs.{needs}
 use Rattle.pieces.proofs.largest.search.Statement.{statement}
 use Rattle.pieces.proofs.largest.search.Tie as tie
 
 abbrev Inv-loop : tie.InvT-loop
-Inv-loop work motif m n end best₀ p₀ k₀ best p k = Searching (marked m n work motif) m n best p k
+Inv-loop work motif m n end best₀ area₀ p₀ k₀ best area p k = Searching (marked m n work motif) m n best area p k
 
 abbrev μ-loop : tie.MeasureT-loop
-μ-loop work motif m n end best₀ p₀ k₀ best p k = end - k
+μ-loop work motif m n end best₀ area₀ p₀ k₀ best area p k = end - k
 
 -- At the loop: where the function began. In the loop: the slot that is due is one of the table.
 abbrev began : tie.At-loop Inv-loop μ-loop → tie.Start Inv-loop μ-loop
@@ -23,37 +26,47 @@ began t = t .before .before .before
 due : (c : tie.In-loop Inv-loop μ-loop) → let a = began (c .before) .args in c .before .loop .k < total (a .m) (a .n)
 due c = lt-of-lt-of-le (c .loop-test .taken) (le-of-eq (c .before .before .count .ensures .0))
 
+-- The area that was counted is that of the piece due, by the test of its entry.
+counted : (t : tie.After-area-with Inv-loop μ-loop) →
+    let l = t .before .before .before in
+    let a = began l .args in
+    t .area-with .result ≡ areaIf (marked (a .m) (a .n) (now (a .work)) (a .motif) (l .loop .p)) (l .loop .p)
+unfolding marked
+counted t = rw (t .before .before .before .loop .inv .here) (t .area-with .ensures)
+
 loop-holds : tie.Need-loop-holds Inv-loop μ-loop
 loop-holds c = let r = c .before .before .pre .0 in search-start _ _ _ (r .rows-some) (r .cols-some)
 
-mul-larger : tie.Need-mul-larger Inv-loop μ-loop
-mul-larger c = omega (arith, c .before .before .count .ensures, due c)
+mul-area-with : tie.Need-mul-area-with Inv-loop μ-loop
+mul-area-with c = omega (arith, c .before .before .count .ensures, due c)
 
-shared-slice-read-larger : tie.Need-shared-slice-read-larger Inv-loop μ-loop
-shared-slice-read-larger c = omega (arith, began (c .before .before) .pre .1, due (c .before))
+shared-slice-read-area-with : tie.Need-shared-slice-read-area-with Inv-loop μ-loop
+shared-slice-read-area-with c = omega (arith, began (c .before .before) .pre .1, due (c .before))
 
-larger-requires : tie.Need-larger-requires Inv-loop μ-loop
-larger-requires c κs =
+area-with-requires : tie.Need-area-with-requires Inv-loop μ-loop
+area-with-requires c κs =
     let t = c .before .before in
     let room = began t .pre .0 in
-    let s = t .loop .inv in
-    let i = s .inside (due (c .before)) in
-    (omega (arith, s .low, room), omega (arith, s .narrow, room), omega (arith, i, room), omega (arith, i, room))
+    let i = t .loop .inv .inside (due (c .before)) in
+    (omega (arith, i, room), omega (arith, i, room))
 
 next-requires : tie.Need-next-requires Inv-loop μ-loop
 next-requires c κs =
-    let l = c .before .before in
+    let l = c .before .before .before in
     (began (l .before) .pre .0, l .before .loop .inv .inside (due l))
 
 loop-again : tie.Need-loop-again Inv-loop μ-loop
 loop-again c =
-    let l = c .before .before .before in
+    let t = c .before .before in
+    let l = t .before .before in
     let s = l .before .loop .inv in
-    let taken = c .before .larger .ensures ∙ larger-marked _ _ _ _ _ _ _ (s .here) in
-    rw taken (search-step _ _ _ _ _ _ _ s (due l) (c .next .ensures))
+    ⊎-elim
+    (λ w. rw (w .1, w .2) (search-takes _ _ _ s (due l) (c .next .ensures) (counted t) (omega (arith, w .0 .taken))))
+    (λ w. rw (w .1, w .2) (search-leaves _ _ _ s (due l) (c .next .ensures) (counted t) (omega (arith, w .0 .left))))
+    (c .before .if1 .came)
 
 returns : tie.Need-returns Inv-loop μ-loop
-returns c = search-end _ _ _ _ _ _ (c .before .loop .inv) (omega (arith, c .loop-test .left, c .before .before .count .ensures .0))
+returns c = search-end _ _ _ _ _ _ _ (c .before .loop .inv) (omega (arith, c .loop-test .left, c .before .before .count .ensures .0))
 
 pub search-spec : {M : Type 1} → statement M
 search-spec =
@@ -63,9 +76,9 @@ search-spec =
     μ-loop
     (λ c κs. search needs)
     loop-holds
-    mul-larger
-    shared-slice-read-larger
-    larger-requires
+    mul-area-with
+    shared-slice-read-area-with
+    area-with-requires
     next-requires
     (λ c. search needs)
     (λ c. search needs)
