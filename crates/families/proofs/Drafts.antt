@@ -73,7 +73,7 @@ module _ (s t : List ℕ) (f : Family) (sized : Sized f) where
         within-counts (repeated d book) _ _ _ (names-count s (f .colours)) refl rules
 
     pub repeated-makes : f .count + headed (f .start) (book .rules) + 1 ≤ 200 → within? (repeated d book) ≡ true
-        → Makes s t (repeated d book) (draftedAs f noColours (f .motifs + 1) (f .motifs) (repeatedRules d f))
+        → Makes s t (repeated d book) (draftedAs f noColours (f .motifs + 1) (f .motifs) (repeatedRules d f (f .motifs)))
     unfolding repeated repeatedRules
     repeated-makes room small =
         let copied = copies-length (f .motifs) (f .start) (book .rules) in

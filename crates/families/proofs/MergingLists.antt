@@ -47,8 +47,8 @@ module _ (s : List ℕ) (f : Colours) (t : List ℕ) (g : Colours) (lf : Lists s
     named : getD (namesIn t g) i [] ≡ nameIn t g i
     named = name-at t g i h
 
-    found : findName s f (nameIn t g i) ≡ listed (namesIn s f) (getD (namesIn t g) i [])
-    found = find-listed s f (nameIn t g i) (lf .few) ∙ ap (listed (namesIn s f)) (sym named)
+    listed-there : findName s f (nameIn t g i) ≡ listed (namesIn s f) (getD (namesIn t g) i [])
+    listed-there = find-listed s f (nameIn t g i) (lf .few) ∙ ap (listed (namesIn s f)) (sym named)
 
     more-numbered : (n : ℕ) → n ≡ listed (merged (namesIn s f) (namesIn t g)) (getD (namesIn t g) i [])
         → (j : ℕ) → j < i + 1 → getD (set numbers i n) j 0 ≡ listed (merged (namesIn s f) (namesIn t g)) (nameIn t g j)
@@ -57,26 +57,27 @@ module _ (s : List ℕ) (f : Colours) (t : List ℕ) (g : Colours) (lf : Lists s
         (λ j hj. getD-set-other numbers i j n 0 (omega arith) ∙ so .numbered j hj)
         (getD-set-same numbers i n 0 (omega (arith, so .numbers-all, lg .few)) ∙ e ∙ ap (listed (merged (namesIn s f) (namesIn t g))) named)
 
-    pub so-far-held : findName s f (nameIn t g i) < f .count → SoFar s f t g (i + 1) more (set numbers i (findName s f (nameIn t g i)))
-    so-far-held lt =
+    pub so-far-held : (n : ℕ) → n ≡ findName s f (nameIn t g i) → n < f .count → SoFar s f t g (i + 1) more (set numbers i n)
+    so-far-held n found lt =
         let name : Name = getD (namesIn t g) i [] in
-        let held : holds (namesIn s f) name ≡ true = lt-ltb (listed (namesIn s f) name) (length (namesIn s f)) (omega (arith, found, names-count s f)) in
+        let here = found ∙ listed-there in
+        let held : holds (namesIn s f) name ≡ true = lt-ltb (listed (namesIn s f) name) (length (namesIn s f)) (omega (arith, here, names-count s f)) in
         record {
           within = omega arith;
           places = so .places;
           names = rw (add-one i) (so .names ∙ sym (merged-held (namesIn s f) (namesIn t g) i (omega (arith, names-count t g)) held));
-          numbered = more-numbered _ (found ∙ sym (number-held (namesIn s f) (namesIn t g) _ held));
+          numbered = more-numbered n (here ∙ sym (number-held (namesIn s f) (namesIn t g) _ held));
           few = omega (arith, so .few);
           numbers-all = length-set numbers _ _ ∙ so .numbers-all;
         }
 
-    pub so-far-new : f .count ≤ findName s f (nameIn t g i)
+    pub so-far-new : (n : ℕ) → n ≡ findName s f (nameIn t g i) → f .count ≤ n
         → SoFar s f t g (i + 1) (withColour more (getD (g .starts) i 0) (getD (g .lens) i 0)) (set numbers i (f .count + more .count))
-    so-far-new le =
+    so-far-new n found le =
         let room : more .count < mostColours = omega (arith, so .few, lg .few) in
         let less : i < length (namesIn t g) = omega (arith, names-count t g) in
         let name : Name = getD (namesIn t g) i [] in
-        let lacked : holds (namesIn s f) name ≡ false = le-ltb (listed (namesIn s f) name) (length (namesIn s f)) (omega (arith, found, names-count s f)) in
+        let lacked : holds (namesIn s f) name ≡ false = le-ltb (listed (namesIn s f) name) (length (namesIn s f)) (omega (arith, found ∙ listed-there, names-count s f)) in
         let before : length (merged (namesIn s f) (take i (namesIn t g))) ≡ f .count + more .count =
         sym (ap length (so .names)) ∙ length-append (namesIn s f) (namesIn t more) ∙ omega (arith, names-count s f, names-count t more) in
         record {

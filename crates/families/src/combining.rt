@@ -8,12 +8,12 @@ use books::rule::Dir;
 use books::rule::Rule;
 use names::colours::MOST_COLOURS;
 ghost use mathlib.Core.Path.{_≡_};
-ghost use Prim.Native.Nat.{_+_, _≤_, _<_};
+ghost use Prim.Native.Nat.{_<_};
 ghost use Rattle.books.specs.Picture.{joins};
 ghost use Rattle.families.specs.inner.Counts.{headed};
 ghost use Rattle.families.specs.inner.Gathered.{standing};
 ghost use Rattle.families.specs.inner.Lent.{rulesOf, Sized};
-ghost use Rattle.families.specs.inner.Combined.{addedBy, PairFits, pairRules, repeatedRules};
+ghost use Rattle.families.specs.inner.Combined.{addedBy, PairFits, pairRules, RepeatFits, repeatedRules};
 
 // A family's rules by themselves.
 pub(crate) fn rules_of(f: Family) -> Rules
@@ -73,10 +73,11 @@ pub(crate) fn pair_rules(
     ensures { λ r. ⌜ r ≡ pairRules pairing f g numbers ⌝ }
 {
     let own = rules_of(f);
-    let raised = gathering::raise_rules(rules_of(g), f.motifs, numbers);
+    let by = f.motifs;
+    let raised = gathering::raise_rules(rules_of(g), by, numbers);
     let both = gathering::add_rules(own, raised);
     let start = f.motifs + g.motifs;
-    let other = f.motifs + g.start;
+    let other = by + g.start;
     match pairing {
         Pairing::EitherOf => {
             let longer = gathering::add_copies(both, own, f.start, start);
@@ -86,13 +87,13 @@ pub(crate) fn pair_rules(
     }
 }
 
-// Run or stack: copies of the start's rules under the new start, which joins the old start with itself.
-pub(crate) fn repeated_rules(way: Dir, f: Family) -> Rules
-    requires { ⌜ Sized f × (f .count + headed (f .start) (standing (rulesOf f)) + 1 ≤ 200) ⌝ }
-    ensures { λ r. ⌜ r ≡ repeatedRules way f ⌝ }
+// Run or stack: copies of the start's rules under a new start, and the rule that joins the old start with the new one.
+pub(crate) fn repeated_rules(way: Dir, f: Family, new: usize) -> Rules
+    requires { ⌜ RepeatFits f new ⌝ }
+    ensures { λ r. ⌜ r ≡ repeatedRules way f new ⌝ }
 {
     let own = rules_of(f);
-    let longer = gathering::add_copies(own, own, f.start, f.motifs);
-    let rule = join_rule(way, f.motifs, f.start, f.motifs);
+    let longer = gathering::add_copies(own, own, f.start, new);
+    let rule = join_rule(way, new, f.start, new);
     gathering::add_rule(longer, rule)
 }

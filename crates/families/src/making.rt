@@ -86,16 +86,17 @@ pub(crate) fn make_pair(pairing: Pairing, first: &[u8], f: Family, second: &[u8]
     }
 }
 
-// Run or stack: one rule for each that is copied from the start, and the rule that joins.
+// Run or stack: a new start, one rule for each that is copied from the old one, and the rule that joins.
 fn make_repeated(way: Dir, f: Family) -> Made
     requires { ⌜ Sized f ⌝ }
     ensures { λ r. ⌜ MakesSingle (Single.Repeated way) f r ⌝ }
 {
     let own = combining::start_rules(f);
+    let start = f.motifs;
     if within(f.colours.count, f.motifs + 1, f.count + own + 1) {
-        let rules = combining::repeated_rules(way, f);
+        let rules = combining::repeated_rules(way, f, start);
         let more = colours::no_colours();
-        drafting(f, more, f.motifs + 1, f.motifs, rules)
+        drafting(f, more, f.motifs + 1, start, rules)
     } else {
         exceeding(f)
     }

@@ -37,7 +37,7 @@ pub same-bit : (x y a : ℕ) → (bit x a ≡ 1 → bit y a ≡ 1) → (bit y a 
 same-bit x y a f g =
     ⊎-elim (λ z. ⊎-elim (λ w. z ∙ sym w) (λ w. g w ∙ sym w) (bit-cases y a)) (λ z. z ∙ sym (f z)) (bit-cases x a)
 
--- ---- of x | y
+-- ── Of x | y ──
 
 bit-or : (x y a : ℕ) → bit (bitOr x y) a ≡ bitOr (bit x a) (bit y a)
 unfolding bit
@@ -57,7 +57,7 @@ or-right x y a h =
     bit-or x y a ∙ ap (λ (n : ℕ). bitOr (bit x a) n) h
     ∙ ⊎-elim (λ z. ap (λ (n : ℕ). bitOr n 1) z) (λ z. ap (λ (n : ℕ). bitOr n 1) z) (bit-cases x a)
 
--- ---- of a power of two
+-- ── Of a power of two ──
 
 pub bit-pow : (a : ℕ) → bit (2 ^ a) a ≡ 1
 unfolding bit
@@ -104,7 +104,7 @@ pub and-pow-some : (x a : ℕ) → (bitAnd x (2 ^ a) ≡ 0 → ⊥) → bit x a 
 and-pow-some x a n =
     ⊎-elim (λ z. absurd (n (and-pow x a ∙ ap (λ (m : ℕ). m * 2 ^ a) z ∙ zero-mul (2 ^ a)))) (λ o. o) (bit-cases x a)
 
--- ---- numbers by their bits
+-- ── Numbers by their bits ──
 
 bit-half : (x a : ℕ) → bit (x / 2) a ≡ bit x (suc a)
 unfolding bit

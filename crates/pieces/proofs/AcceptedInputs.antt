@@ -1,43 +1,60 @@
--- An accepted book and an accepted sheet give what the table asks: rules that fit their masks, and for each cell the number of its colour.
-use Prim.Native.Nat.{ℕ}
+-- Reading gives what the table asks: rules that fit their masks, and for each cell the number of its colour.
+use Prim.Native.Nat.{ℕ, _≤_, _<_}
 use mathlib.Core.Path.{_≡_}
 use mathlib.Core.List.{List}
 use native.Mathlib.Omega.{arith}
+use lib.ListN.{getD}
 use Rattle.names.proofs.SpellingNumbers.{Bytes}
 use Rattle.books.specs.Book.{bookOf}
+use Rattle.books.specs.Keeps.{BodyFits}
 use Rattle.books.specs.Order.{numbersOf}
+use Rattle.books.specs.Rules.{noRule}
 use Rattle.books.specs.Sheet.{sheetOf}
 use Rattle.books.specs.declared.family.Family.{Family}
 use Rattle.books.specs.declared.sheet.Sheet.{Sheet}
-use Rattle.books.proofs.Ordering.{number-at}
+use Rattle.books.specs.declared.rule.Body.{Body}
+use Rattle.books.specs.declared.rule.Body.the-variants.{Colour, Across, Down}
+use Rattle.books.proofs.Ordering.{number-at, numbers-all}
 use Rattle.books.proofs.ReadingBooks.{book-lies, book-accepted}
 use Rattle.books.proofs.ReadingSheets.{sheet-lies}
 use Rattle.books.proofs.SpellingSheets.{sheet-accepted}
-use Rattle.pieces.specs.inner.Painted.{SmallRules}
-use Rattle.pieces.proofs.WholeTable.{AsRead, Numbered, small-rules}
+use Rattle.pieces.specs.inner.Small.{SmallRules}
+use Rattle.pieces.proofs.WholeTable.{AsRead, Numbered}
 
-module _ (book : List ℕ) (bytes-book : Bytes book) (book-fine : bookOf book .fault .number ≡ 0) where
+-- a rule of a book with at most 32 motifs and 64 colours
+body-small : (m n : ℕ) (x : Body) → m ≤ 32 → n ≤ 64 → BodyFits m n x → BodyFits 32 64 x
+body-small m n (Colour c) h k f = omega arith
+body-small m n (Across l r) h k f = (omega arith, omega arith)
+body-small m n (Down u v) h k f = (omega arith, omega arith)
+
+module _ (book : List ℕ) (book-fine : bookOf book .fault .number ≡ 0) where
   abbrev f : Family
   f = bookOf book .family
 
   pub rules-read : SmallRules (f .rules) (f .count)
   rules-read =
-      let b = book-lies book book-fine in
-      small-rules book f (book-accepted book bytes-book book-fine .keeps) (b .rules-few) (b .rules-size)
+      let k = book-lies book book-fine in
+      record {
+        few = k .rules-few;
+        held = omega (arith, k .rules-few, k .rules-size);
+        small = λ i h. let fits = k .rules-fit i h in record {
+          head-fits = omega (arith, fits .head-fits, k .motifs-few);
+          body-fits = body-small _ _ (getD (f .rules) i noRule .body) (k .motifs-few) (k .places .few) (fits .body-fits);
+        };
+      }
 
-  module _ (sheet : List ℕ) (bytes-sheet : Bytes sheet) (sheet-fine : sheetOf sheet .fault .number ≡ 0) where
+  module _ (sheet : List ℕ) (sheet-fine : sheetOf sheet .fault .number ≡ 0) where
     abbrev g : Sheet
     g = sheetOf sheet .sheet
 
-    pub as-read : AsRead book f sheet g
-    as-read =
-        let b = book-lies book book-fine in
-        record {
-          book-keeps = book-accepted book bytes-book book-fine .keeps;
-          rules-few = b .rules-few;
-          rules-size = b .rules-size;
-          sheet-keeps = sheet-accepted sheet bytes-sheet sheet-fine .keeps;
-        }
+    pub as-read : Bytes book → Bytes sheet → AsRead book f sheet g
+    as-read bytes-book bytes-sheet =
+        record { book-keeps = book-accepted book bytes-book book-fine .keeps; sheet-keeps = sheet-accepted sheet bytes-sheet sheet-fine .keeps }
 
     pub cells-numbered : Numbered book f sheet g (numbersOf book (f .colours) sheet g)
-    cells-numbered i h = let s = sheet-lies sheet sheet-fine in number-at book (f .colours) sheet g i h (omega (arith, s .area-few, s .cells-all))
+    cells-numbered =
+        let s = sheet-lies sheet sheet-fine in
+        record {
+          all = omega (arith, s .area-few, numbers-all book (f .colours) sheet g (s .area-few) (s .cells-all));
+          each = λ i h. number-at book (f .colours) sheet g i h (omega (arith, s .area-few, s .cells-all));
+        }

@@ -8,6 +8,7 @@ use mathlib.Core.Logic.{_↔_, ⊎-elim}
 use native.Mathlib.Omega.{arith}
 use borrow.Author.Tests.{eq-eqb, ne-eqb, lt-ltb, le-ltb}
 use lib.ListN.{length, getD}
+use Rattle.names.proofs.Settled.{Settles, settles, SettlesBoth, settled}
 use Rattle.names.proofs.SpellingNumbers.{Bytes}
 use Rattle.names.proofs.Tests.{true-or-false}
 use Rattle.books.specs.Contents.{Contents}
@@ -18,15 +19,19 @@ use Rattle.books.specs.Book.{bookOf}
 use Rattle.books.specs.Sheet.{sheetOf}
 use Rattle.books.specs.Answer.{plain, blaming}
 use Rattle.books.specs.declared.answer.Answer.{Answer}
+use Rattle.books.specs.declared.rule.Dir.{Dir}
 use Rattle.books.proofs.Deciding.{decided, refused}
 use Rattle.books.proofs.ReadingBooks.{book-accepted}
 use Rattle.pieces.specs.declared.asking.Asked.{Asked}
+use Rattle.pieces.specs.declared.asking.Split.{Split}
+use Rattle.pieces.specs.declared.masks.Joins.{Joins}
 use Rattle.pieces.specs.declared.piece.Piece.{Piece}
 use Rattle.pieces.specs.Pieces.{Inside, slotOf}
 use Rattle.pieces.specs.Table.{cut}
 use Rattle.names.specs.Bits.{bit}
 use Rattle.pieces.specs.Derivation.{Derivation, entriesNeeded, numbersNeeded, filled, derivation}
-use Rattle.pieces.specs.Asking.{Asking, unwritten, tabled, asking, Asks}
+use Rattle.pieces.specs.Asking.{SplitBook, kept, splitBook, AskedSheet, asked, askSheet, Asking, unwritten, tabled, asking}
+use Rattle.pieces.specs.Firing.{fireOf, paintedOf}
 use Rattle.pieces.proofs.Entries.{entry-derives, derives-entry}
 use Rattle.pieces.proofs.ExactViews.{motif-below}
 use Rattle.pieces.proofs.Judging.{filled-holds, held-entry}
@@ -123,16 +128,17 @@ module _ (book sheet entries numbers : List ℕ) (fine : bookOf book .fault .num
         derived = λ f r x nodes given. says (derived-asked book sheet entries f (r .work-long) x);
       })
 
--- ── Two outcomes that the contract allows are equal ──
+-- ── Two outcomes that a contract allows are equal ──
 
-pub ask-sheet-settled : (book sheet entries : List ℕ) {r q : Asked} {w v : List ℕ} → Asks book sheet entries r w → Asks book sheet entries q v → (r ≡ q) × (w ≡ v)
-ask-sheet-settled book sheet entries x y = (
-  λ z. record {
-    answer = (x .answers ∙ sym (y .answers)) z;
-    ticket = (x .ticket ∙ sym (y .ticket)) z;
-    rows = (x .rows ∙ sym (y .rows)) z;
-    cols = (x .cols ∙ sym (y .cols)) z;
-    cells = (x .cells ∙ sym (y .cells)) z;
-  },
-  x .leaves-work ∙ sym (y .leaves-work),
-)
+pub split-book-settled : (book masks : List ℕ) → SettlesBoth (λ (r : Split) (left : List ℕ). kept r left ≡ splitBook book masks)
+split-book-settled book masks r q x y e f = let same = settled e f in (ap (λ (s : SplitBook). s .split) same, ap (λ (s : SplitBook). s .masks) same)
+
+pub ask-sheet-settled : (book : List ℕ) (split : Split) (masks sheet entries : List ℕ)
+    → SettlesBoth (λ (r : Asked) (left : List ℕ). asked r left ≡ askSheet book split masks sheet entries)
+ask-sheet-settled book split masks sheet entries r q x y e f = let same = settled e f in (ap (λ (s : AskedSheet). s .asked) same, ap (λ (s : AskedSheet). s .entries) same)
+
+pub fire-settled : (masks : List ℕ) (j : Joins) (d : Dir) (l r : ℕ) → Settles (fireOf masks j d l r)
+fire-settled masks j d l r = settles (fireOf masks j d l r)
+
+pub painted-settled : (masks : List ℕ) → Settles (paintedOf masks)
+painted-settled masks = settles (paintedOf masks)

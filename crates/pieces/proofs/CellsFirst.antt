@@ -1,5 +1,6 @@
 -- The table begins with the cells, row by row: they are the pieces of one row and one column, and all others come after the last of them.
 use mathlib.Core.Path.{_≡_, ap}
+use mathlib.Core.Logic.{_⊎_, inl, inr}
 use Prim.Native.Nat.{ℕ, suc, _+_, _-_, _*_, _≤_, _<_}
 use native.Mathlib.Nat.{zero-mul, mul-zero, add-mul, one-mul, mul-le-mul-right}
 use native.Mathlib.Omega.{arith}
@@ -32,6 +33,17 @@ cell-before m n t l ht hl =
   where
     one-more : (t : ℕ) → t + 1 ≡ suc t
     one-more t = omega arith
+
+-- A piece is a cell or larger, and the larger ones come after all cells.
+pub cell-or-larger : (m n : ℕ) (p : Piece) → Inside m n p → (2 < p .height + p .width) ⊎ (piece 1 1 (p .top) (p .left) ≡ p)
+cell-or-larger m n p i = go (decLt 2 (p .height + p .width))
+  where
+    one : {x y : ℕ} → x ≡ p .height → y ≡ p .width → piece x y (p .top) (p .left) ≡ p
+    one u v = rw (u, v)
+
+    go : Dec (2 < p .height + p .width) → (2 < p .height + p .width) ⊎ (piece 1 1 (p .top) (p .left) ≡ p)
+    go (yes l) = inl l
+    go (no l) = inr (one (omega arith) (omega arith))
 
 pub large-after : (m n : ℕ) (p : Piece) → Inside m n p → 2 < p .height + p .width → m * n ≤ slotOf m n p
 unfolding slotOf

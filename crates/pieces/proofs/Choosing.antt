@@ -19,7 +19,7 @@ use Rattle.books.specs.declared.rule.Dir.{Dir}
 use Rattle.books.specs.declared.rule.Dir.the-variants.{Across as across, Down as down}
 use Rattle.pieces.specs.declared.choice.Choice.{Choice}
 use Rattle.pieces.specs.declared.choice.Choice.the-variants.{Leaf, Join}
-use Rattle.pieces.specs.Parts.{extent}
+use Rattle.pieces.specs.Parts.{reach}
 use Rattle.books.specs.Rules.{noRule}
 use Rattle.pieces.specs.View.{View}
 use Rattle.pieces.specs.Choice.{works, cutOf, covers, fits, takes, taken, lowest, chosen, choose}
@@ -38,7 +38,7 @@ pub record Taken (v : View) (rules : List Rule) (a : ℕ) (q : Piece) (i : ℕ) 
 -- k is the smallest cut that works
 pub record Cut (has : ℕ → Piece → Bool) (d : Dir) (l r : ℕ) (q : Piece) (k : ℕ) : Type 0 where
   pub from-one : 1 ≤ k
-  pub inside : k < extent d q
+  pub inside : k < reach d q
   pub working : works has d l r q k ≡ true
   pub lower : (j : ℕ) → 1 ≤ j → j < k → works has d l r q j ≡ false
 
@@ -47,7 +47,7 @@ Right v rules a q (Leaf i) = (c : ℕ) × Taken v rules a q i (Colour c)
 Right v rules a q (Join i d k l r) = Taken v rules a q i (joins d l r) × Cut (v .has) d l r q k
 
 -- A cut works exactly where both parts have their bits.
-pub cut-set : (has : ℕ → Piece → Bool) (d : Dir) (l r : ℕ) (q : Piece) (k : ℕ) → 1 ≤ k → k < extent d q → works has d l r q k ≡ true → BothSet has d l r q k
+pub cut-set : (has : ℕ → Piece → Bool) (d : Dir) (l r : ℕ) (q : Piece) (k : ℕ) → 1 ≤ k → k < reach d q → works has d l r q k ≡ true → BothSet has d l r q k
 unfolding works
 cut-set has d l r q k h g e = let (x, y) = and-both _ _ e in record { from-one = h; inside = g; first-set = x; rest-set = y }
 
@@ -56,22 +56,22 @@ unfolding works
 set-works has d l r q k c = and-make _ _ (c .first-set) (c .rest-set)
 
 -- The smallest cut works where it lies in the piece.
-cut-is : (has : ℕ → Piece → Bool) (d : Dir) (l r : ℕ) (q : Piece) → cutOf has d l r q < extent d q → Cut has d l r q (cutOf has d l r q)
+cut-is : (has : ℕ → Piece → Bool) (d : Dir) (l r : ℕ) (q : Piece) → cutOf has d l r q < reach d q → Cut has d l r q (cutOf has d l r q)
 unfolding cutOf
 cut-is has d l r q h =
-    let w : Least (works has d l r q) 1 (extent d q - 1) (least (works has d l r q) 1 (extent d q - 1)) = least-is _ _ _ in
+    let w : Least (works has d l r q) 1 (reach d q - 1) (least (works has d l r q) 1 (reach d q - 1)) = least-is _ _ _ in
     record { from-one = w .from; inside = h; working = w .accepted (omega (arith, w .from)); lower = w .lower }
 
 -- It lies there exactly where some cut works.
-cut-within : (has : ℕ → Piece → Bool) (d : Dir) (l r : ℕ) (q : Piece) → (cutOf has d l r q < extent d q) ↔ ((k : ℕ) × BothSet has d l r q k)
+cut-within : (has : ℕ → Piece → Bool) (d : Dir) (l r : ℕ) (q : Piece) → (cutOf has d l r q < reach d q) ↔ ((k : ℕ) × BothSet has d l r q k)
 unfolding cutOf
 cut-within has d l r q =
-    let w : Least (works has d l r q) 1 (extent d q - 1) (least (works has d l r q) 1 (extent d q - 1)) = least-is _ _ _ in (
-      λ h. (least (works has d l r q) 1 (extent d q - 1), cut-set has d l r q _ (w .from) h (w .accepted (omega (arith, w .from)))),
+    let w : Least (works has d l r q) 1 (reach d q - 1) (least (works has d l r q) 1 (reach d q - 1)) = least-is _ _ _ in (
+      λ h. (least (works has d l r q) 1 (reach d q - 1), cut-set has d l r q _ (w .from) h (w .accepted (omega (arith, w .from)))),
       λ c. ⊎-elim
           (λ less. absurd (true≢false (sym (set-works has d l r q (c .0) (c .1)) ∙ w .lower (c .0) (c .1 .from-one) less)))
           (λ upto. omega (arith, c .1 .inside))
-          (lt-or-le (c .0) (least (works has d l r q) 1 (extent d q - 1))),
+          (lt-or-le (c .0) (least (works has d l r q) 1 (reach d q - 1))),
     )
 
 -- A colour fits a piece of one cell alone.

@@ -9,14 +9,19 @@ use Rattle.books.specs.declared.rule.Dir.{Dir}
 use Rattle.books.specs.declared.rule.Dir.the-variants.{Across as across, Down as down}
 use Rattle.pieces.specs.Pieces.{Inside}
 use Rattle.pieces.specs.Area.{whole, area}
-use Rattle.pieces.specs.Parts.{extent, firstPart, restPart}
+use Rattle.pieces.specs.Parts.{reach, firstPart, restPart}
 use Rattle.pieces.specs.Table.{cut}
+use Rattle.pieces.specs.inner.PartsOf.{CutIn}
+use Rattle.pieces.specs.inner.Room.{Room}
 use Rattle.pieces.proofs.CellsFirst.{cell-before}
 
 module _ (m n : ℕ) (q : Piece) (i : Inside m n q) where
-  pub extent-small : (d : Dir) (top : ℕ) → m ≤ top → n ≤ top → extent d q ≤ top
-  extent-small across top hm hn = omega arith
-  extent-small down top hm hn = omega arith
+  pub reach-small : (d : Dir) (top : ℕ) → m ≤ top → n ≤ top → reach d q ≤ top
+  reach-small across top hm hn = omega arith
+  reach-small down top hm hn = omega arith
+
+  pub cut-in : Room m n → (d : Dir) (k : ℕ) → k ≤ reach d q → CutIn d k q
+  cut-in room d k h = record { within = h; low = omega arith; right = omega arith }
 
   -- a piece has at least one cell, ...
   pub area-pos : 1 ≤ area q
@@ -29,14 +34,14 @@ module _ (m n : ℕ) (q : Piece) (i : Inside m n q) where
 pub whole-inside : (m n : ℕ) → 1 ≤ m → 1 ≤ n → Inside m n (whole m n)
 whole-inside m n hm hn = record { tall = hm; wide = hn; low = omega arith; right = omega arith }
 
-pub parts-area : (d : Dir) (k : ℕ) (q : Piece) → k ≤ extent d q → area (firstPart d k q) + area (restPart d k q) ≡ area q
+pub parts-area : (d : Dir) (k : ℕ) (q : Piece) → k ≤ reach d q → area (firstPart d k q) + area (restPart d k q) ≡ area q
 parts-area across k q h = sym (mul-add (q .height) k (q .width - k)) ∙ ap (λ (x : ℕ). q .height * x) (omega arith)
 parts-area down k q h = sym (add-mul k (q .height - k) (q .width)) ∙ ap (λ (x : ℕ). x * q .width) (omega arith)
 
 -- Each of the two parts of a picture's piece is a piece of the picture: the first by computation, the rest by counting on.
-pub cut-extent : (p : Picture) (q : Piece) (d : Dir) → size d (cut p q) ≡ extent d q
-cut-extent p q across = refl
-cut-extent p q down = refl
+pub cut-reach : (p : Picture) (q : Piece) (d : Dir) → size d (cut p q) ≡ reach d q
+cut-reach p q across = refl
+cut-reach p q down = refl
 
 pub cut-first : (p : Picture) (q : Piece) (d : Dir) (k : ℕ) → first d k (cut p q) ≡ cut p (firstPart d k q)
 cut-first p q across k = refl

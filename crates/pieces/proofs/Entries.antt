@@ -7,6 +7,7 @@ use native.Mathlib.Nat.{pow-suc, one-mul, lt-of-lt-of-le}
 use native.Mathlib.Decide.{ℕ-discrete}
 use native.Mathlib.Omega.{arith}
 use lib.Bits.{bitOr, or-shifted-r, or-zero-r}
+use lib.Dec.{eqb}
 use lib.Pow.{pow-mono}
 use borrow.Author.Tests.{eq-eqb, ne-eqb}
 use Rattle.names.specs.Pick.{pick}
@@ -15,12 +16,12 @@ use Rattle.books.specs.Contents.{Contents}
 use Rattle.books.specs.Picture.{Picture}
 use Rattle.books.specs.Derives.{Derives}
 use Rattle.books.specs.Decide.{derives?}
-use Rattle.books.proofs.Deciding.{decided}
+use Rattle.books.proofs.Deciding.{decided, refused}
 use Rattle.pieces.specs.Table.{entry}
 use Rattle.names.specs.Bits.{bit, bits, isSet}
 use Rattle.names.proofs.Bits.{bit-pow, pow-has, or-split, or-left, or-right, none-set}
 
--- ---- the number with chosen bits
+-- ── The number with chosen bits ──
 
 pub bits-lt : (k : ℕ) (test : ℕ → Bool) → bits k test < 2 ^ k
 unfolding bits
@@ -60,7 +61,7 @@ has-bits (suc k) test a l e =
         (ap (λ (t : Bool). bit (pick t (2 ^ k) 0) a) (ap test (sym q) ∙ e) ∙ subst (λ (x : ℕ). bit (2 ^ x) a ≡ 1) q (bit-pow a))
     go ih (no n) = or-left (bits k test) (pick (test k) (2 ^ k) 0) a (ih (omega arith))
 
--- ---- the entry of a picture
+-- ── The entry of a picture ──
 
 pub entry-bit : (b : Contents) (q : Picture) (a : ℕ) → (bit (entry b q) a ≡ 1) ↔ ((a < b .motifs) × (derives? b a q ≡ true))
 unfolding entry
@@ -81,9 +82,9 @@ pub derives-entry : (b : Contents) (q : Picture) (a : ℕ) → a < b .motifs →
 derives-entry b q a l d = entry-bit b q a .1 (l, decided b a q .1 d)
 
 -- So the test of a motif's bit is the test whether the motif derives the piece.
-pub entry-set : (b : Contents) (q : Picture) (a : ℕ) → a < b .motifs → isSet (entry b q) a ≡ derives? b a q
+pub entry-tests : (b : Contents) (q : Picture) (a : ℕ) → a < b .motifs → isSet (entry b q) a ≡ derives? b a q
 unfolding isSet
-entry-set b q a low =
+entry-tests b q a low =
     ⊎-elim
     (λ t. eq-eqb _ 1 (entry-bit b q a .1 (low, t)) ∙ sym t)
     (λ t. ne-eqb _ 1 (λ o. true≢false (sym (entry-bit b q a .0 o .1) ∙ t)) ∙ sym t)

@@ -15,13 +15,13 @@ use Rattle.books.specs.declared.rule.Dir.{Dir}
 use Rattle.books.specs.declared.rule.Dir.the-variants.{Across as across, Down as down}
 use Rattle.pieces.specs.declared.choice.Choice.the-variants.{Join}
 use Rattle.pieces.specs.Pieces.{Inside}
-use Rattle.pieces.specs.Parts.{extent, firstPart, restPart}
+use Rattle.pieces.specs.Parts.{reach, firstPart, restPart}
 use Rattle.pieces.specs.Table.{cut}
 use Rattle.pieces.specs.View.{View}
 use Rattle.pieces.specs.Given.{At, Works, Able}
 use Rattle.pieces.specs.Choice.{choose}
 use Rattle.pieces.specs.inner.Fitted.{BothSet, Suits, RuleFits, NodeOf, own, in-first, in-rest, Fitted}
-use Rattle.pieces.proofs.Cutting.{cut-extent, cut-first, cut-rest}
+use Rattle.pieces.proofs.Cutting.{cut-reach, cut-first, cut-rest}
 use Rattle.pieces.proofs.PartsOfPieces.{first-inside, rest-inside}
 use Rattle.pieces.proofs.Choosing.{Right, cut-set, choose-right}
 use Rattle.pieces.proofs.ExactViews.{Exact}
@@ -33,11 +33,11 @@ module _ (b : Contents) (p : Picture) (v : View) (exact : Exact b p v) (q : Piec
   set-exactly d l r k = (
     λ c. record {
       from-one = c .from-one;
-      inside = rw (cut-extent p q d) (c .inside);
+      inside = rw (cut-reach p q d) (c .inside);
       first-in = rw (cut-first p q d k) (exact .has-exact l (firstPart d k q) (first-inside d k inq (c .from-one) (le-of-lt (c .inside))) .0 (c .first-set));
       rest-in = rw (cut-rest p q d k) (exact .has-exact r (restPart d k q) (rest-inside d k inq (c .inside)) .0 (c .rest-set));
     },
-    λ w. let g : k < extent d q = rw (cut-extent p q d) at (w .inside) in
+    λ w. let g : k < reach d q = rw (cut-reach p q d) at (w .inside) in
         record {
           from-one = w .from-one;
           inside = g;

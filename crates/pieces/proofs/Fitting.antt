@@ -14,7 +14,7 @@ use Rattle.books.specs.declared.rule.Dir.the-variants.{Across as across, Down a
 use Rattle.pieces.specs.declared.choice.Choice.the-variants.{Leaf, Join}
 use Rattle.pieces.specs.declared.choice.Tried.{Tried}
 use Rattle.pieces.specs.declared.choice.Tried.the-variants.{Taken, Passed}
-use Rattle.pieces.specs.Parts.{extent}
+use Rattle.pieces.specs.Parts.{reach}
 use Rattle.pieces.specs.View.{View}
 use Rattle.books.specs.Picture.{joins}
 use Rattle.books.specs.RuleBytes.{kindDir, ruleIn, rulesIn}
@@ -39,7 +39,7 @@ module _ (paints : ℕ → Piece → Bool) (q : Piece) (c : ℕ) where
   covers-wide h w = and-on _ _ (eq-eqb _ _ h) ∙ and-off _ _ (ne-eqb _ _ w)
 
 -- A join fits exactly where its smallest cut lies in the piece, and is taken with that cut, whichever its direction.
-pub joins-fit : (v : View) (q : Piece) (d : Dir) (l r : ℕ) → fits v q (joins d l r) ≡ ltb (cutOf (v .has) d l r q) (extent d q)
+pub joins-fit : (v : View) (q : Piece) (d : Dir) (l r : ℕ) → fits v q (joins d l r) ≡ ltb (cutOf (v .has) d l r q) (reach d q)
 unfolding fits
 joins-fit v q across l r = refl
 joins-fit v q down l r = refl
@@ -81,13 +81,13 @@ module _ (v : View) (a : ℕ) (q : Piece) (i : ℕ) (row : List ℕ) where
     body : ruleIn row .body ≡ joins d (getD row 2 0) (getD row 3 0)
     body = rw (e, join-in row join)
 
-    by-cut : takes v a q (ruleIn row) ≡ ltb k (extent d q)
+    by-cut : takes v a q (ruleIn row) ≡ ltb k (reach d q)
     by-cut = by-body own body ∙ joins-fit v q d (getD row 2 0) (getD row 3 0) ∙ rw f
 
-    pub join-taken : k < extent d q → Taken (Join i d k (getD row 2 0) (getD row 3 0)) ≡ tried v a q i (ruleIn row)
+    pub join-taken : k < reach d q → Taken (Join i d k (getD row 2 0) (getD row 3 0)) ≡ tried v a q i (ruleIn row)
     join-taken h = rw (← taken-as body (by-cut ∙ lt-ltb _ _ h), joins-chosen, f)
 
-    pub join-passed : extent d q ≤ k → Passed ≡ tried v a q i (ruleIn row)
+    pub join-passed : reach d q ≤ k → Passed ≡ tried v a q i (ruleIn row)
     join-passed h = passed-as (by-cut ∙ le-ltb _ _ h)
 
 -- What came of trying a rule tells whether it is taken.

@@ -1,14 +1,13 @@
 -- A work slice that holds the table shows exactly which motifs derive each piece, so that the start's bit at the whole sheet decides; where it is set a rule fits
 -- at every node of the tree, and what the tree writer writes is the derivation given.
 use Prim.Native.Nat.{ℕ, _+_, _*_, _≤_, _<_}
-use mathlib.Core.Path.{_≡_, sym, ap, _∙_, subst}
+use mathlib.Core.Path.{_≡_, refl, sym, ap, _∙_, subst}
 use mathlib.Core.Bool.{true, false}
 use mathlib.Core.List.{List, _++_}
 use mathlib.Core.Logic.{⊎-elim}
 use native.Mathlib.Omega.{arith}
-use borrow.Author.Tests.{eqb-false, lt-ltb, le-ltb}
-use native.Mathlib.Decide.{decLt}
-use lib.ListN.{length, getD, take, drop, length-append, length-drop, length-map}
+use borrow.Author.Tests.{eqb-false}
+use lib.ListN.{length, getD, take, drop, replicate, length-append, length-drop, length-map}
 use lib.Seq.{take-at, take-all, getD-take}
 use Rattle.names.specs.Colours.{namesIn}
 use Rattle.names.specs.Name.{listed}
@@ -26,21 +25,23 @@ use Rattle.books.specs.declared.sheet.Sheet.{Sheet}
 use Rattle.books.proofs.Deciding.{decided, refused}
 use Rattle.pieces.specs.declared.piece.Piece.{Piece}
 use Rattle.pieces.specs.Pieces.{pieces, Inside, slotOf, total}
-use Rattle.pieces.specs.Area.{whole, treeSize}
+use Rattle.pieces.specs.Area.{whole}
 use Rattle.pieces.specs.Table.{cut, entry, table}
 use Rattle.names.specs.Bits.{bit, isSet}
 use Rattle.pieces.specs.Largest.{marked}
 use Rattle.pieces.specs.inner.Seen.{sized, hasBit, seen}
 use Rattle.pieces.proofs.ExactViews.{Exact}
 use Rattle.pieces.specs.Tree.{treeOf}
+use Rattle.pieces.specs.Masks.{allMasks}
 use Rattle.pieces.specs.inner.Fitted.{Fitted}
-use Rattle.pieces.specs.inner.Settled.{TableMade}
-use Rattle.pieces.specs.inner.Verdict.{Verdict, verdict, lacking}
-use Rattle.pieces.specs.Derivation.{leaving, entriesNeeded, numbersNeeded, filled, judged, roomed}
+use Rattle.pieces.specs.inner.Placed.{filledFor}
+use Rattle.pieces.specs.inner.Verdict.{Verdict, verdict}
+use Rattle.pieces.specs.Derivation.{leaving, entriesNeeded, filled, judged}
 use Rattle.pieces.proofs.Entries.{derives-entry}
 use Rattle.pieces.proofs.Slots.{length-pieces, slot-lt, getD-slot}
 use Rattle.pieces.proofs.CellsFirst.{cell-before}
 use Rattle.pieces.proofs.TableEntries.{getD-map}
+use Rattle.pieces.proofs.ServingMasks.{split-serves}
 use Rattle.pieces.proofs.Cutting.{whole-inside, cut-whole}
 use Rattle.pieces.proofs.ExactViews.{seen-exact}
 use Rattle.pieces.proofs.EveryNode.{exact-fitted}
@@ -97,7 +98,7 @@ module _ {book : List ℕ} {f : Family} {bytes : List ℕ} {g : Sheet} (given : 
     exact : Exact b p (seen (sized (g .rows) (g .cols)) work numbers)
     exact =
         seen-exact b p (given .book-keeps .sound) (given .book-keeps .colours-ok .distinct) work numbers (held-entry b p work holds)
-        (λ i j hi hj. numbered (i * g .cols + j) (cell-before (g .rows) (g .cols) i j hi hj)
+        (λ i j hi hj. numbered .each (i * g .cols + j) (cell-before (g .rows) (g .cols) i j hi hj)
         ∙ (find-listed book (f .colours) _ (book-colours given) ∙ ap (listed (namesIn book (f .colours))) (sym (cell-name given i j hi hj))))
 
     starts : hasBit (sized (g .rows) (g .cols)) work (f .start) (whole (g .rows) (g .cols)) ≡ true → Derives b (f .start) p
@@ -147,9 +148,9 @@ module _ {book : List ℕ} {f : Family} {bytes : List ℕ} {g : Sheet} (given : 
       (λ e. judged-by-tree numbers numbered entries tree-slice e)
       (λ e. judged-none entries tree-slice e)
 
--- A table that was made is judged as the definition has it.
+-- A table that was filled for the book's rules is judged as the definition has it.
 module _ {book : List ℕ} {f : Family} {bytes : List ℕ} {g : Sheet} (given : AsRead book f bytes g) (cells before after : List ℕ)
-    (numbered : Numbered book f bytes g cells) (made : TableMade (f .rules) (f .count) cells (g .rows) (g .cols) before after) (same : length before ≡ length after)
+    (numbered : Numbered book f bytes g cells) (made : after ≡ filledFor (contentsIn book f .rules) cells (g .rows) (g .cols) before)
     (enough : total (g .rows) (g .cols) ≤ length before) (tree-slice : List ℕ) where
   abbrev contents : Contents
   contents = contentsIn book f
@@ -158,7 +159,9 @@ module _ {book : List ℕ} {f : Family} {bytes : List ℕ} {g : Sheet} (given : 
   sheet-picture = picture (gridIn bytes g)
 
   is-filled : after ≡ filled contents sheet-picture before
-  is-filled = whole-table given cells numbered before after made same enough
+  is-filled =
+      let serves = split-serves (contents .rules) (replicate allMasks 0) (given .book-keeps .rules-few) refl in
+      made ∙ whole-table given cells numbered _ _ serves before enough
 
   after-holds : Holds contents sheet-picture after
   after-holds = subst (Holds contents sheet-picture) (sym is-filled) (filled-holds contents sheet-picture before)
@@ -176,35 +179,3 @@ module _ {book : List ℕ} {f : Family} {bytes : List ℕ} {g : Sheet} (given : 
   judged-made =
       ap (λ (w : List ℕ). judged contents sheet-picture w tree-slice) (sym is-filled)
       ∙ judged-told given after after-holds cells numbered after tree-slice
-
--- ── The room ──
-
--- slices that lack nothing are long enough
-pub nothing-lacks : (m n entries numbers : ℕ) → lacking m n entries numbers ≡ 0 → (total m n ≤ entries) × (treeSize (whole m n) ≤ numbers)
-unfolding lacking
-nothing-lacks m n entries numbers z = go (decLt entries (total m n)) (decLt numbers (treeSize (whole m n)))
-  where
-    go : Dec (entries < total m n) → Dec (numbers < treeSize (whole m n)) → (total m n ≤ entries) × (treeSize (whole m n) ≤ numbers)
-    go (yes e) d = let no : _≡_ {A = ℕ} 9 0 = simp (lt-ltb _ _ e) at z in absurd (omega arith)
-    go (no e) (yes d) = let no : _≡_ {A = ℕ} 10 0 = simp (le-ltb entries (total m n) (omega arith), lt-ltb _ _ d) at z in absurd (omega arith)
-    go (no e) (no d) = (omega arith, omega arith)
-
-module _ (b : Contents) (p : Picture) (entries numbers : List ℕ) where
-  abbrev lack : ℕ
-  lack = lacking (p .rows) (p .cols) (length entries) (length numbers)
-
-  -- a slice that is too short is what the answer says, and nothing is written
-  pub roomed-short : (lack ≡ 0 → ⊥) → roomed b p entries numbers ≡ leaving (plain lack) entries numbers
-  unfolding roomed lacking
-  roomed-short n = go (decLt (length entries) (entriesNeeded p)) (decLt (length numbers) (numbersNeeded p))
-    where
-      go : Dec (length entries < entriesNeeded p) → Dec (length numbers < numbersNeeded p) → roomed b p entries numbers ≡ leaving (plain lack) entries numbers
-      go (yes e) d = simp (lt-ltb _ _ e)
-      go (no e) (yes d) = simp (le-ltb (length entries) (entriesNeeded p) (omega arith), lt-ltb _ _ d)
-      go (no e) (no d) = absurd (n (simp (le-ltb (length entries) (entriesNeeded p) (omega arith), le-ltb (length numbers) (numbersNeeded p) (omega arith))))
-
-  pub roomed-enough : lack ≡ 0 → roomed b p entries numbers ≡ judged b p (filled b p entries) numbers
-  unfolding roomed
-  roomed-enough z =
-      let enough = nothing-lacks (p .rows) (p .cols) (length entries) (length numbers) z in
-      simp (le-ltb (length entries) (entriesNeeded p) (enough .0), le-ltb (length numbers) (numbersNeeded p) (enough .1))

@@ -5,7 +5,7 @@ use mathlib.Core.Path.{_≡_, refl, sym, subst}
 use mathlib.Core.List.{List}
 use borrow.Author.Tests.{eq-eqb}
 use lib.ListN.{getD}
-use Rattle.names.specs.Bits.{bit}
+use Rattle.names.specs.Bits.{bit, isSet}
 use Rattle.names.proofs.SpellingNumbers.{Bytes}
 use Rattle.books.specs.Book.{bookOf}
 use Rattle.books.specs.Contents.{Contents}
@@ -13,6 +13,7 @@ use Rattle.books.specs.Lent.{contentsOf, pictureOf}
 use Rattle.books.specs.Order.{numbersOf}
 use Rattle.books.specs.Picture.{Picture}
 use Rattle.books.specs.Sheet.{sheetOf}
+use Rattle.pieces.specs.Largest.{marked}
 use Rattle.pieces.specs.Area.{whole}
 use Rattle.pieces.specs.Derivation.{Derivation, derivation}
 use Rattle.pieces.specs.Pieces.{slotOf}
@@ -44,12 +45,12 @@ module _ (book sheet work tree : List ℕ) (book-bytes : Bytes book) (sheet-byte
   view = seen (sized (p .rows) (p .cols)) (left .entries) numbers
 
   pub nodes-fit : left .answer .number ≡ 0 → Fitted view (b .rules) (b .start) (whole (p .rows) (p .cols))
-  unfolding hasBit
+  unfolding hasBit marked isSet
   nodes-fit zero =
       let (fine, room, member) = derive-numbers book sheet work tree {r = left .answer} {w = left .entries} {t = left .numbers}
       (record { answers = refl; leaves-work = refl; leaves-tree = refl }) .zero .0 zero in
-      let given = as-read book book-bytes (fine .book-fine) sheet sheet-bytes (fine .sheet-fine) in
-      let numbered = cells-numbered book book-bytes (fine .book-fine) sheet sheet-bytes (fine .sheet-fine) in
+      let given = as-read book (fine .book-fine) sheet (fine .sheet-fine) book-bytes sheet-bytes in
+      let numbered = cells-numbered book (fine .book-fine) sheet (fine .sheet-fine) in
       let holds = subst (Holds b p) (sym (table-written book sheet work tree fine room)) (filled-holds b p work) in
       let k = given .sheet-keeps in
       let inside = whole-inside (p .rows) (p .cols) (k .rows-some) (k .cols-some) in

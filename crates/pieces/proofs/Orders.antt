@@ -1,12 +1,12 @@
 -- An order with no fault is what reading gives: the table and the tree go by its rules and its numbers, and what they tell is what the book
 -- and the sheet say.
-use Prim.Native.Nat.{ℕ, _*_, _≤_, _<_}
+use Prim.Native.Nat.{ℕ, _*_}
 use mathlib.Core.Path.{_≡_, sym, ap, _∙_}
 use mathlib.Core.Bool.{true}
 use mathlib.Core.List.{List}
 use mathlib.Core.Logic.{⊎-elim}
 use native.Mathlib.Omega.{arith}
-use lib.ListN.{length, getD, take}
+use lib.ListN.{length, take}
 use Rattle.names.proofs.SpellingNumbers.{Bytes}
 use Rattle.books.specs.Answer.{plain}
 use Rattle.books.specs.Book.{bookOf}
@@ -26,24 +26,27 @@ use Rattle.books.proofs.ReadingSheets.{sheet-lies}
 use Rattle.pieces.specs.Area.{whole}
 use Rattle.pieces.specs.Derivation.{leaving, derivation}
 use Rattle.pieces.specs.inner.Fitted.{Fitted}
-use Rattle.pieces.specs.inner.Layout.{colourMasks}
-use Rattle.pieces.specs.inner.Painted.{SmallRules}
+use Rattle.pieces.specs.inner.Small.{SmallRules}
+use Rattle.pieces.specs.inner.Placed.{Paintable, filledFor}
 use Rattle.pieces.specs.inner.Room.{Room}
-use Rattle.pieces.specs.inner.Settled.{TableMade}
 use Rattle.pieces.specs.inner.Verdict.{Verdict, verdict, lacking}
 use Rattle.pieces.specs.inner.Seen.{sized, hasBit, seen}
-use Rattle.pieces.proofs.AcceptedInputs.{as-read as inputs-read, cells-numbered}
+use Rattle.pieces.proofs.AcceptedInputs.{rules-read, as-read as inputs-read, cells-numbered}
 use Rattle.pieces.proofs.DerivationAnswers.{book-first, sheet-second, then-room}
-use Rattle.pieces.proofs.Judging.{made-fits, judged-made, nothing-lacks, roomed-short, roomed-enough}
-use Rattle.pieces.proofs.WholeTable.{AsRead, Numbered, room, read-rules, numbers-low}
+use Rattle.pieces.proofs.Judging.{made-fits, judged-made}
+use Rattle.pieces.proofs.Lacking.{nothing-lacks, roomed-short, roomed-enough}
+use Rattle.pieces.proofs.WholeTable.{AsRead, Numbered, room, paintable}
 
 -- what the table and the tree ask of an order
 pub record Ordered (o : Order) : Type 0 where
   pub rules-small : SmallRules (o .rules) (o .count)
   pub sizes : Room (o .rows) (o .cols)
   pub cells-room : length (o .cells) ≡ cells-most
-  pub cells-all : o .rows * o .cols ≤ length (o .cells)
-  pub cells-low : (i : ℕ) → i < o .rows * o .cols → getD (o .cells) i 0 < colourMasks
+  pub cells : Paintable (o .cells) (o .rows * o .cols)
+
+-- the table of an order
+abbrev pub ordered-table : Order → List ℕ → List ℕ
+ordered-table o entries = filledFor (take (o .count) (o .rules)) (o .cells) (o .rows) (o .cols) entries
 
 -- what a table tells of an order
 abbrev pub tells : Order → List ℕ → List ℕ → Verdict
@@ -74,25 +77,23 @@ module _ (book sheet : List ℕ) (bytes-book : Bytes book) (bytes-sheet : Bytes 
   accepted = order-fine book sheet fine
 
   as-read : AsRead book f sheet g
-  as-read = inputs-read book bytes-book (accepted .0) sheet bytes-sheet (accepted .1)
+  as-read = inputs-read book (accepted .0) sheet (accepted .1) bytes-book bytes-sheet
 
   abbrev numbers-of-cells : List ℕ
   numbers-of-cells = numbersOf book (f .colours) sheet g
 
   numbered : Numbered book f sheet g numbers-of-cells
-  numbered = cells-numbered book bytes-book (accepted .0) sheet bytes-sheet (accepted .1)
+  numbered = cells-numbered book (accepted .0) sheet (accepted .1)
 
   order-kept : Ordered (orderOf book sheet)
   unfolding orderOf
   order-kept =
       let s = sheet-lies sheet (accepted .1) in
-      let all = numbers-all book (f .colours) sheet g (s .area-few) (s .cells-all) in
       record {
-        rules-small = read-rules as-read;
+        rules-small = rules-read book (accepted .0);
         sizes = room as-read;
-        cells-room = all;
-        cells-all = omega (arith, s .area-few, all);
-        cells-low = numbers-low as-read numbers-of-cells numbered;
+        cells-room = numbers-all book (f .colours) sheet g (s .area-few) (s .cells-all);
+        cells = paintable as-read numbers-of-cells numbered;
       }
 
   module _ (entries numbers : List ℕ) where
@@ -101,18 +102,18 @@ module _ (book sheet : List ℕ) (bytes-book : Bytes book) (bytes-sheet : Bytes 
     answer-lacks n = then-room book sheet entries numbers (accepted .0) (accepted .1) ∙ roomed-short contents grid entries numbers n
 
     nodes-fit : lacking (g .rows) (g .cols) (length entries) (length numbers) ≡ 0 → (after : List ℕ)
-        → TableMade (f .rules) (f .count) numbers-of-cells (g .rows) (g .cols) entries after → length entries ≡ length after → NodesFit (orderOf book sheet) after
+        → after ≡ filledFor (contents .rules) numbers-of-cells (g .rows) (g .cols) entries → NodesFit (orderOf book sheet) after
     unfolding orderOf
-    nodes-fit z after made same = made-fits as-read numbers-of-cells entries after numbered made same (nothing-lacks _ _ _ _ z .0) numbers
+    nodes-fit z after made = made-fits as-read numbers-of-cells entries after numbered made (nothing-lacks _ _ _ _ z .0) numbers
 
     answer-told : lacking (g .rows) (g .cols) (length entries) (length numbers) ≡ 0 → (after : List ℕ)
-        → TableMade (f .rules) (f .count) numbers-of-cells (g .rows) (g .cols) entries after → length entries ≡ length after
+        → after ≡ filledFor (contents .rules) numbers-of-cells (g .rows) (g .cols) entries
         → derivation book sheet entries numbers
         ≡ record { answer = plain (tells (orderOf book sheet) after numbers .number); entries = after; numbers = tells (orderOf book sheet) after numbers .numbers }
     unfolding orderOf
-    answer-told z after made same =
+    answer-told z after made =
         then-room book sheet entries numbers (accepted .0) (accepted .1) ∙ roomed-enough contents grid entries numbers z
-        ∙ judged-made as-read numbers-of-cells entries after numbered made same (nothing-lacks _ _ _ _ z .0) numbers
+        ∙ judged-made as-read numbers-of-cells entries after numbered made (nothing-lacks _ _ _ _ z .0) numbers
 
 -- ── An order that was read ──
 
@@ -137,15 +138,12 @@ module _ (book sheet : List ℕ) {o : Order} (read : o ≡ orderOf book sheet) w
       unfolding orderOf
       lacks n = rw read (answer-lacks book sheet bytes-book bytes-sheet (rw read at fine) entries numbers (rw read at n))
 
-      pub fit : lack ≡ 0 → (after : List ℕ) → TableMade (o .rules) (o .count) (o .cells) (o .rows) (o .cols) entries after → length entries ≡ length after
-          → NodesFit o after
+      pub fit : lack ≡ 0 → (after : List ℕ) → after ≡ ordered-table o entries → NodesFit o after
       unfolding orderOf
-      fit z after made same =
-          rw read (nodes-fit book sheet bytes-book bytes-sheet (rw read at fine) entries numbers (rw read at z) after (rw read at made) same)
+      fit z after made = rw read (nodes-fit book sheet bytes-book bytes-sheet (rw read at fine) entries numbers (rw read at z) after (rw read at made))
 
-      pub told : lack ≡ 0 → (after : List ℕ) → TableMade (o .rules) (o .count) (o .cells) (o .rows) (o .cols) entries after → length entries ≡ length after
+      pub told : lack ≡ 0 → (after : List ℕ) → after ≡ ordered-table o entries
           → derivation book sheet entries numbers
           ≡ record { answer = plain (tells o after numbers .number); entries = after; numbers = tells o after numbers .numbers }
       unfolding orderOf
-      told z after made same =
-          rw read (answer-told book sheet bytes-book bytes-sheet (rw read at fine) entries numbers (rw read at z) after (rw read at made) same)
+      told z after made = rw read (answer-told book sheet bytes-book bytes-sheet (rw read at fine) entries numbers (rw read at z) after (rw read at made))

@@ -5,15 +5,15 @@ use native.Mathlib.Omega.{arith}
 use Rattle.books.specs.declared.rule.Dir.the-variants.{Across as across, Down as down}
 use Rattle.books.specs.declared.rule.Dir.{Dir}
 use Rattle.pieces.specs.Pieces.{piece, Inside, slotOf}
-use Rattle.pieces.specs.Parts.{extent, firstPart, restPart}
+use Rattle.pieces.specs.Parts.{reach, firstPart, restPart}
 use Rattle.pieces.specs.declared.piece.Piece.{Piece}
 use Rattle.pieces.proofs.Slots.{narrower, flatter}
 
-pub first-inside : (d : Dir) {m n : ℕ} {p : Piece} (k : ℕ) → Inside m n p → 1 ≤ k → k ≤ extent d p → Inside m n (firstPart d k p)
+pub first-inside : (d : Dir) {m n : ℕ} {p : Piece} (k : ℕ) → Inside m n p → 1 ≤ k → k ≤ reach d p → Inside m n (firstPart d k p)
 first-inside across k i h l = record { tall = i .tall; wide = h; low = i .low; right = omega arith }
 first-inside down k i h l = record { tall = h; wide = i .wide; low = omega arith; right = i .right }
 
-pub rest-inside : (d : Dir) {m n : ℕ} {p : Piece} (k : ℕ) → Inside m n p → k < extent d p → Inside m n (restPart d k p)
+pub rest-inside : (d : Dir) {m n : ℕ} {p : Piece} (k : ℕ) → Inside m n p → k < reach d p → Inside m n (restPart d k p)
 rest-inside across k i l = record { tall = i .tall; wide = omega arith; low = i .low; right = omega arith }
 rest-inside down k i l = record { tall = omega arith; wide = i .wide; low = omega arith; right = i .right }
 
@@ -28,7 +28,7 @@ rest-whole down p = same (omega arith) (omega arith)
     same : {h t : ℕ} → h ≡ p .height → t ≡ p .top → piece h (p .width) t (p .left) ≡ p
     same a b = rw (a, b)
 
-pub first-before : (d : Dir) {m n : ℕ} {p : Piece} (k : ℕ) → Inside m n p → 1 ≤ k → k < extent d p
+pub first-before : (d : Dir) {m n : ℕ} {p : Piece} (k : ℕ) → Inside m n p → 1 ≤ k → k < reach d p
     → slotOf m n (firstPart d k p) < slotOf m n p
 unfolding slotOf
 first-before across {m} {n} {p} k i h l =
@@ -37,7 +37,7 @@ first-before down {m} {n} {p} k i h l =
     flatter m n (k - 1) (p .width - 1) (p .top) (p .left) (omega arith) (omega arith) (omega arith)
     (p .height - 1) (p .width - 1) (p .top) (p .left) (omega arith)
 
-pub rest-before : (d : Dir) {m n : ℕ} {p : Piece} (k : ℕ) → Inside m n p → 1 ≤ k → k < extent d p
+pub rest-before : (d : Dir) {m n : ℕ} {p : Piece} (k : ℕ) → Inside m n p → 1 ≤ k → k < reach d p
     → slotOf m n (restPart d k p) < slotOf m n p
 unfolding slotOf
 rest-before across {m} {n} {p} k i h l =

@@ -14,7 +14,8 @@ use Rattle.books.specs.Search.{Cutting, Ruled, Gives, paint, join}
 use Rattle.books.specs.declared.rule.Rule.{Rule}
 use Rattle.books.specs.declared.rule.Body.{Body}
 use Rattle.names.specs.Bits.{bit, bits}
-use Rattle.pieces.specs.inner.Rights.{Right, Fires, Painted, cutsOf}
+use Rattle.pieces.specs.Filling.{cutsOf}
+use Rattle.pieces.specs.Rights.{Right, Fires, Painted}
 use Rattle.names.proofs.Bits.{or-split, or-left, or-right, same-bit, all-bits}
 use Rattle.pieces.proofs.Entries.{bits-has, has-bits}
 use Rattle.pieces.proofs.Gathered.{gathered-has, has-gathered}
@@ -25,7 +26,7 @@ module _ {X : Type 0} (c : Cutting X) (rules : List Rule) (motifs : ℕ) (fit : 
   abbrev entry : X → ℕ
   entry x = bits motifs (test x)
 
-  -- ---- the entry computed by a right test is right, and no other is
+  -- ── The entry computed by a right test is right, and no other is ──
 
   headed : {a : ℕ} {x : X} → Gives c rules a x → (y : Body) × Ruled rules a y
   headed (paint k h e) = (_, h)
@@ -48,7 +49,7 @@ module _ {X : Type 0} (c : Cutting X) (rules : List Rule) (motifs : ℕ) (fit : 
       back a (paint k m e) = painted a .1 (k, m, e)
       back a (join d l r k m h s u v) = absurd (omega (arith, small d))
 
-  -- ---- what is no cell has what the joins give at its cuts, from the entries of the parts
+  -- ── What is no cell has what the joins give at its cuts, from the entries of the parts ──
 
   module _ (fire : Dir → ℕ → ℕ → ℕ) (fires : Fires rules fire) (l r : Dir → ℕ → ℕ) (x : X)
       (firsts : (d : Dir) (k : ℕ) → 1 ≤ k → k < c .reach d x → l d k ≡ entry (c .first d k x))

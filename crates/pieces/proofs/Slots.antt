@@ -12,7 +12,7 @@ use Rattle.pieces.specs.declared.piece.Piece.{Piece}
 use Rattle.pieces.proofs.Sums.{sum, sum-same, sum-below, sum-const, sum-scale, sum-find, length-each, getD-each, member-each}
 use Rattle.pieces.proofs.Stretches.{stretches-sum, total-stretches}
 
--- ---- the blocks, and how many pieces each has
+-- ── The blocks, and how many pieces each has ──
 
 abbrev lefts : ℕ → ℕ → ℕ → ℕ → List Piece
 lefts n u v t = each (n - v) (λ l. piece (suc u) (suc v) t l ∷ [])
@@ -52,7 +52,7 @@ unfolding pieces
 length-pieces m n =
     length-each (λ u. widths m n u) (λ u. inWidths m n u) (λ u. length-widths m n u) m ∙ sum-widths m n m ∙ sym (total-stretches m n)
 
--- ---- the place of a piece
+-- ── The place of a piece ──
 
 abbrev inRow : ℕ → ℕ → ℕ → ℕ → ℕ
 inRow n v t l = sum t (λ i. n - v) + l
@@ -97,7 +97,7 @@ module _ (m n u v t l : ℕ) (ht : t < m - u) (hl : l < n - v) where
           ∙ subst (λ (k : ℕ). getD (lefts n u v t) k d ≡ piece (suc u) (suc v) t l) (omega (arith, sum-const 1 l, mul-one l))
           (getD-each (λ l. piece (suc u) (suc v) t l ∷ []) (λ l. 1) (λ l. refl) (n - v) l 0 d hl (omega arith))
 
--- ---- pieces as the code has them
+-- ── Pieces as the code has them ──
 
 module _ (m n : ℕ) (p : Piece) (i : Inside m n p) where
   pub slot-lt : slotOf m n p < total m n

@@ -5,7 +5,6 @@ use native.Mathlib.Nat.{suc-mul, zero-mul, mul-add, le-trans, mul-le-mul}
 use native.Mathlib.Numerals.{add-one}
 use native.Mathlib.Omega.{arith}
 use Rattle.pieces.specs.Pieces.{stretches, total}
-use Rattle.pieces.specs.Most.{most}
 use Rattle.pieces.proofs.Sums.{sum, sum-mono}
 
 pub stretches-next : (n k : ℕ) → stretches n (k + 1) ≡ stretches n k + (n - k)
@@ -47,5 +46,16 @@ unfolding stretches
 stretches-le n zero = omega arith
 stretches-le n (suc k) = omega (arith, stretches-le n k, suc-mul k n)
 
-pub stretches-few : (n k : ℕ) → n ≤ most → k ≤ most → stretches n k ≤ 576
-stretches-few n k h g = le-trans (stretches-le n k) (mul-le-mul g h)
+-- ── Bounds, for any greatest number of rows and columns ──
+
+pub stretches-few : (top n k : ℕ) → n ≤ top → k ≤ top → stretches n k ≤ top * top
+stretches-few top n k h g = le-trans (stretches-le n k) (mul-le-mul g h)
+
+half-few : (top n : ℕ) → n ≤ top → n * (n + 1) / 2 ≤ top * (top + 1) / 2
+half-few top n h =
+    let more : n + 1 ≤ top + 1 = omega arith in
+    let double : n * (n + 1) ≤ top * (top + 1) = mul-le-mul h more in
+    omega arith
+
+pub total-few : (top m n : ℕ) → m ≤ top → n ≤ top → total m n ≤ total top top
+total-few top m n h g = mul-le-mul (half-few top m h) (half-few top n g)

@@ -12,12 +12,12 @@ use Rattle.pieces.specs.declared.choice.Choice.{Choice}
 use Rattle.pieces.specs.declared.choice.Choice.the-variants.{Leaf, Join}
 use Rattle.pieces.specs.Pieces.{Inside}
 use Rattle.pieces.specs.Area.{area, treeSize}
-use Rattle.pieces.specs.Parts.{extent, firstPart, restPart}
+use Rattle.pieces.specs.Parts.{reach, firstPart, restPart}
 use Rattle.pieces.specs.View.{View}
 use Rattle.pieces.specs.Choice.{choose}
 use Rattle.pieces.specs.Tree.{nodeTree, treeWithin, treeOf}
 use Rattle.pieces.specs.inner.Fitted.{own, in-first, in-rest, Fitted}
-use Rattle.pieces.proofs.Cutting.{extent-small, area-pos, parts-area}
+use Rattle.pieces.proofs.Cutting.{reach-small, area-pos, parts-area}
 use Rattle.pieces.proofs.PartsOfPieces.{first-inside, rest-inside}
 use Rattle.pieces.proofs.Choosing.{Right, cell-fits, choose-right}
 
@@ -29,7 +29,7 @@ pub record Parts (m n : ℕ) (d : Dir) (k : ℕ) (q : Piece) : Type 0 where
   pub rest-some : 1 ≤ area (restPart d k q)
   pub areas : area (firstPart d k q) + area (restPart d k q) ≡ area q
 
-pub parts : (m n : ℕ) (q : Piece) → Inside m n q → (d : Dir) (k : ℕ) → 1 ≤ k → k < extent d q → Parts m n d k q
+pub parts : (m n : ℕ) (q : Piece) → Inside m n q → (d : Dir) (k : ℕ) → 1 ≤ k → k < reach d q → Parts m n d k q
 parts m n q i d k h g =
     let f : Inside m n (firstPart d k q) = first-inside d k i h (omega arith) in
     let b : Inside m n (restPart d k q) = rest-inside d k i g in
@@ -90,7 +90,7 @@ module _ (v : View) (rules : List Rule) (m n : ℕ) where
 
 module _ (v : View) (rules : List Rule) (m n : ℕ) (P : Piece → List ℕ → Type 0)
     (leaf : (q : Piece) (i : ℕ) → q .height ≡ 1 → q .width ≡ 1 → i < length rules → P q (i ∷ 0 ∷ []))
-    (node : (q : Piece) (d : Dir) (i k : ℕ) (xs ys : List ℕ) → Inside m n q → 1 ≤ k → k < extent d q → i < length rules
+    (node : (q : Piece) (d : Dir) (i k : ℕ) (xs ys : List ℕ) → Inside m n q → 1 ≤ k → k < reach d q → i < length rules
     → P (firstPart d k q) xs → P (restPart d k q) ys → P q (i ∷ k ∷ (xs ++ ys))) where
   within-each : (f : ℕ) (a : ℕ) (q : Piece) → Inside m n q → area q ≤ f → Fitted v rules a q → P q (treeWithin f v rules a q)
   unfolding treeWithin
@@ -136,4 +136,4 @@ pub tree-small : (v : View) (rules : List Rule) (m n top : ℕ) → length rules
 tree-small v rules m n top hr hm hn ht =
     tree-each v rules m n (λ q. Small top)
     (λ q i h w less. (omega arith, (ht, tt)))
-    (λ q d i k xs ys inq h g less x y. (omega arith, (omega (arith, extent-small m n q inq d top hm hn), small-append top xs ys x y)))
+    (λ q d i k xs ys inq h g less x y. (omega arith, (omega (arith, reach-small m n q inq d top hm hn), small-append top xs ys x y)))

@@ -1,8 +1,9 @@
--- One book asked for one sheet after another: the book is read and split into masks once, and each sheet gets its table and an answer, with no tree.
+-- One book asked for one sheet after another: the book is read and split into masks once, and each sheet gets its table and an answer, with no tree. By any masks, and
+-- by a book.
 use Prim.Native.Nat.{ℕ}
 use mathlib.Core.Path.{_≡_}
 use mathlib.Core.List.{List}
-use lib.Dec.{ltb}
+use lib.Dec.{eqb, ltb}
 use lib.ListN.{length}
 use Rattle.names.specs.Pick.{pick}
 use Rattle.books.specs.Contents.{Contents}
@@ -11,38 +12,39 @@ use Rattle.books.specs.Lent.{contentsOf, lentSheet}
 use Rattle.books.specs.Decide.{derives?}
 use Rattle.books.specs.Book.{bookOf}
 use Rattle.books.specs.Sheet.{sheetOf}
-use Rattle.books.specs.Order.{numbersOf}
-use Rattle.books.specs.Answer.{plain}
+use Rattle.books.specs.Order.{numbersOf, numberedSheet}
+use Rattle.books.specs.Answer.{plain, blaming}
 use Rattle.books.specs.declared.answer.Answer.{Answer}
+use Rattle.books.specs.declared.book.BookRead.{BookRead}
+use Rattle.books.specs.declared.order.NumberedSheet.{NumberedSheet}
+use Rattle.pieces.specs.Pieces.{total}
+use Rattle.pieces.specs.Area.{whole}
 use Rattle.pieces.specs.Derivation.{entriesNeeded, filled}
-use Rattle.pieces.specs.inner.Layout.{allMasks}
-use Rattle.pieces.specs.inner.Painted.{SplitInto}
+use Rattle.pieces.specs.Masks.{allMasks, Masked, laid}
+use Rattle.pieces.specs.Firing.{fitting}
+use Rattle.pieces.specs.Filling.{filledBy}
+use Rattle.pieces.specs.Largest.{marked}
 use Rattle.pieces.specs.declared.asking.Asked.{Asked}
 use Rattle.pieces.specs.declared.asking.Split.{Split}
+use Rattle.pieces.specs.declared.masks.Joins.{Joins}
 
 -- ── The book ──
 
--- what is kept of an accepted book, and a slice that holds the masks of its rules
-pub record SplitFrom (book : List ℕ) (s : Split) (masks : List ℕ) : Type 0 where
-  pub accepted : bookOf book .fault .number ≡ 0
-  pub colours : s .colours ≡ bookOf book .family .colours
-  pub start : s .start ≡ bookOf book .family .start
-  pub sized : length masks ≡ allMasks
-  pub rules : SplitInto (bookOf book .family .rules) (bookOf book .family .count) masks (s .joins)
+-- what is kept of a book, and what stands in the slice of masks
+pub record SplitBook : Type 0 where
+  pub split : Split
+  pub masks : List ℕ
 
--- the book is accepted, and the slice has the length that the masks need
-abbrev pub Splittable : List ℕ → List ℕ → Type 0
-Splittable book masks = (bookOf book .fault .number ≡ 0) × (length masks ≡ allMasks)
+abbrev pub kept : Split → List ℕ → SplitBook
+kept split masks = record { split = split; masks = masks }
 
--- what reading a book finds, and the masks of its rules; where they cannot be written, the slice is as it was, and no join is told of
-pub record Splits (book before : List ℕ) (s : Split) (after : List ℕ) : Type 0 where
-  pub fault : s .fault ≡ bookOf book .fault
-  pub colours : s .colours ≡ bookOf book .family .colours
-  pub start : s .start ≡ bookOf book .family .start
-  pub split : Splittable book before → SplitFrom book s after
-  pub unsplit : (Splittable book before → ⊥) → (after ≡ before) × (s .joins ≡ record { across = 0; down = 0 })
+abbrev pub keeping : BookRead → Masked → SplitBook
+keeping b s = kept (record { fault = b .fault; colours = b .family .colours; start = b .family .start; joins = s .joins }) (s .masks)
 
--- ── A sheet ──
+unfoldable pub splitBook : List ℕ → List ℕ → SplitBook
+splitBook book masks = keeping (bookOf book) (laid (bookOf book .fault .number) (contentsOf book .rules) masks)
+
+-- ── A sheet by masks ──
 
 -- the answer, and what stands in the work slice
 pub record Asking : Type 0 where
@@ -51,6 +53,40 @@ pub record Asking : Type 0 where
 
 abbrev pub unwritten : Answer → List ℕ → Asking
 unwritten a entries = record { answer = a; entries = entries }
+
+-- 0 where a motif has its bit at the whole sheet, and else 11
+unfoldable pub startAnswer : ℕ → ℕ → List ℕ → ℕ → ℕ
+startAnswer m n entries start = pick (marked m n entries start (whole m n)) 0 11
+
+abbrev pub judgedBy : ℕ → ℕ → ℕ → List ℕ → Asking
+judgedBy m n start entries = record { answer = plain (startAnswer m n entries start); entries = entries }
+
+-- the sheet's fault, then 9 where the work slice is too short, then 11 where the masks do not fit; on these nothing is written
+unfoldable pub toldBy : NumberedSheet → ℕ → Joins → List ℕ → List ℕ → Asking
+toldBy s start j masks entries =
+    pick (eqb (s .fault .number) 0)
+    (pick (ltb (length entries) (total (s .rows) (s .cols))) (unwritten (plain 9) entries)
+    (pick (fitting (length masks) j) (judgedBy (s .rows) (s .cols) start (filledBy masks j (s .cells) (s .rows) (s .cols) entries))
+    (unwritten (plain 11) entries)))
+    (unwritten (blaming 2 (s .fault)) entries)
+
+-- what is told of a sheet, and what stands in the work slice
+pub record AskedSheet : Type 0 where
+  pub asked : Asked
+  pub entries : List ℕ
+
+abbrev pub asked : Asked → List ℕ → AskedSheet
+asked r entries = record { asked = r; entries = entries }
+
+abbrev pub showing : NumberedSheet → Asking → AskedSheet
+showing s a = asked (record { answer = a .answer; ticket = s .ticket; rows = s .rows; cols = s .cols; cells = s .cells }) (a .entries)
+
+-- a sheet numbered by the colours kept; of what is told the masks change the answer 0 or 11 alone
+unfoldable pub askSheet : List ℕ → Split → List ℕ → List ℕ → List ℕ → AskedSheet
+askSheet book split masks sheet entries =
+    let s = numberedSheet book (split .colours) sheet in showing s (toldBy s (split .start) (split .joins) masks entries)
+
+-- ── A sheet by a book ──
 
 -- with the table written: 0 where the start motif derives the picture, and else 11
 unfoldable pub tabled : Contents → Picture → List ℕ → Asking
@@ -62,7 +98,14 @@ asking book sheet entries =
     lentSheet 2 sheet (λ a. unwritten a entries) (λ p.
     pick (ltb (length entries) (entriesNeeded p)) (unwritten (plain 9) entries) (tabled (contentsOf book) p entries))
 
--- what is answered, and the work slice as the call leaves it, are those of asking; the cells have the numbers of their colours in the book
+-- what is kept of an accepted book, and the masks of its rules over whatever stood in a slice that has room for them alone
+pub record SplitFrom (book : List ℕ) (split : Split) (masks : List ℕ) : Type 0 where
+  pub accepted : bookOf book .fault .number ≡ 0
+  pub before : List ℕ
+  pub sized : length before ≡ allMasks
+  pub is : kept split masks ≡ splitBook book before
+
+-- by these a sheet is told what asking the book says; its cells have the numbers of their colours in the book
 pub record Asks (book sheet entries : List ℕ) (r : Asked) (left : List ℕ) : Type 0 where
   pub answers : r .answer ≡ asking book sheet entries .answer
   pub ticket : r .ticket ≡ sheetOf sheet .sheet .ticket

@@ -14,7 +14,7 @@ use Rattle.books.specs.declared.rule.Dir.{Dir}
 use Rattle.books.specs.declared.rule.Dir.the-variants.{Across as across, Down as down}
 use Rattle.pieces.specs.declared.choice.Choice.{Choice}
 use Rattle.pieces.specs.declared.choice.Choice.the-variants.{Leaf, Join}
-use Rattle.pieces.specs.Parts.{extent, firstPart, restPart}
+use Rattle.pieces.specs.Parts.{reach, firstPart, restPart}
 use Rattle.books.specs.Rules.{noRule}
 use Rattle.pieces.specs.View.{View}
 
@@ -24,7 +24,7 @@ works has d l r q k = andThen (has l (firstPart d k q)) (λ _. has r (restPart d
 
 -- the smallest cut that works, or the piece's reach where none does
 unfoldable pub cutOf : (ℕ → Piece → Bool) → Dir → ℕ → ℕ → Piece → ℕ
-cutOf has d l r q = least (works has d l r q) 1 (extent d q - 1)
+cutOf has d l r q = least (works has d l r q) 1 (reach d q - 1)
 
 -- whether a piece is one cell of a colour
 unfoldable pub covers : (ℕ → Piece → Bool) → Piece → ℕ → Bool

@@ -8,6 +8,10 @@ pub mod Given
 pub mod Choice
 pub mod Tree
 pub mod Derivation
-pub mod Asking
+pub mod Masks
+pub mod Firing
+pub mod Filling
+pub mod Rights
 pub mod Largest
+pub mod Asking
 pub mod inner

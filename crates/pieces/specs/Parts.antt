@@ -6,9 +6,9 @@ use Rattle.pieces.specs.Pieces.{piece}
 use Rattle.pieces.specs.declared.piece.Piece.{Piece}
 
 -- how far a piece reaches in a direction: its columns, or its rows
-abbrev pub extent : Dir → Piece → ℕ
-extent across p = p .width
-extent down p = p .height
+abbrev pub reach : Dir → Piece → ℕ
+reach across p = p .width
+reach down p = p .height
 
 -- its first k columns, or rows, ...
 abbrev pub firstPart : Dir → ℕ → Piece → Piece

@@ -1,6 +1,6 @@
--- The derivation given, computed, so that a contract can say which numbers a call writes. What it means is `Given` of Given.antt, which a person reads:
--- the tree of a derived picture is the derivation given (`tree-given` in proofs/TheTree.antt), there is one exactly where the picture is derived (`given-exists`, there too),
--- and no other (`given-unique` in proofs/Giving.antt).
+-- The derivation given, computed, so that a contract can say which numbers a call writes. What it means is `Given` of Given.antt, which a person reads: the
+-- tree of a derived picture is the derivation given (`tree-given` in proofs/TheTree.antt), there is one exactly where the picture is derived
+-- (`given-exists`, there too), and no other (`given-unique` in proofs/Giving.antt).
 use Prim.Native.Nat.{ℕ, zero, suc}
 use mathlib.Core.List.{List, [], _∷_, _++_}
 use Rattle.books.specs.Contents.{Contents}

@@ -1,4 +1,3 @@
-pub mod Layout
 pub mod Room
 pub mod NextTo
 pub mod Seen
@@ -6,12 +5,10 @@ pub mod PartsOf
 pub mod Fitted
 pub mod Tried
 pub mod Course
-pub mod Firing
-pub mod Masks
-pub mod Painted
-pub mod Settled
+pub mod Along
+pub mod Small
+pub mod Placed
 pub mod Verdict
-pub mod Told
 pub mod TreeWrote
+pub mod Due
 pub mod Larger
-pub mod Rights

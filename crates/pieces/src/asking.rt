@@ -19,11 +19,12 @@ use books::size::ROOM;
 use names::colours::Colours;
 use names::number::Fault;
 ghost use mathlib.Core.Path.{_≡_};
-ghost use Rattle.pieces.specs.Asking.{SplitFrom, Splits, Asks};
-ghost use Rattle.names.specs.Pick.{pick};
-ghost use Rattle.pieces.specs.inner.Painted.{SmallRules};
-ghost use Rattle.pieces.specs.inner.Seen.{Tabled, hasBit, wholeOf};
-ghost use Rattle.pieces.specs.inner.Told.{Lays, Shows, fitting, Told};
+ghost use lib.ListN.{take};
+ghost use Rattle.pieces.specs.Masks.{masked, laid};
+ghost use Rattle.pieces.specs.Asking.{kept, splitBook, startAnswer, unwritten, toldBy, asked, askSheet};
+ghost use Rattle.pieces.specs.inner.Seen.{Tabled};
+ghost use Rattle.pieces.specs.inner.Small.{SmallRules};
+ghost use Rattle.pieces.specs.inner.Placed.{Shows};
 
 // What is kept of a book from sheet to sheet, beside the lent book and the masks of its rules.
 pub struct Split {
@@ -45,7 +46,7 @@ pub struct Asked {
 // The masks of the rules of a book with no fault, where the slice has their length.
 fn lay(fault: u8, rules: [Rule; MOST_RULES], count: usize, masks: &mut [u32]) -> Joins
     requires { ⌜ (fault ≡ 0 → SmallRules rules count) ⌝ }
-    ensures { λ r. ⌜ Lays fault rules count (now (masks .entry)) r (now (masks .exit)) ⌝ }
+    ensures { λ r. ⌜ masked (now (masks .exit)) r ≡ laid fault (take count rules) (now (masks .entry)) ⌝ }
 {
     if fault != 0 {
         return Joins { across: 0, down: 0 };
@@ -53,13 +54,12 @@ fn lay(fault: u8, rules: [Rule; MOST_RULES], count: usize, masks: &mut [u32]) ->
     if masks.len() != ALL_MASKS {
         return Joins { across: 0, down: 0 };
     }
-    masks::blank(masks);
     masks::split(rules, count, masks)
 }
 
 // Reads a book, and writes the masks of its rules where it is accepted and they fill the slice.
 pub fn split_book(book: &[u8], masks: &mut [u32]) -> Split
-    ensures { λ r. ⌜ Splits (now (book .entry)) (now (masks .entry)) r (now (masks .exit)) ⌝ }
+    ensures { λ r. ⌜ kept r (now (masks .exit)) ≡ splitBook (now (book .entry)) (now (masks .entry)) ⌝ }
 {
     let b = book::read_book(book);
     let fault = b.fault;
@@ -74,23 +74,10 @@ pub fn split_book(book: &[u8], masks: &mut [u32]) -> Split
     }
 }
 
-// Whether masks of this number, with so many joins, can be a book's.
-fn fits(masks: usize, joins: Joins) -> bool
-    ensures { λ r. ⌜ r ≡ fitting masks joins ⌝ }
-{
-    if masks != ALL_MASKS {
-        return false;
-    }
-    if joins.across > MOST_RULES {
-        return false;
-    }
-    joins.down <= MOST_RULES
-}
-
 // 0 where a motif has its bit at the whole sheet, and else 11.
 fn whole_sheet(work: &[u32], size: Size, motif: u8) -> u8
     requires { ⌜ Tabled size (now work) ⌝ }
-    ensures { λ r. ⌜ r ≡ pick (hasBit size (now (work .entry)) motif (wholeOf size)) 0 11 ⌝ }
+    ensures { λ r. ⌜ r ≡ startAnswer (size .rows) (size .cols) (now (work .entry)) motif ⌝ }
 {
     let sheet = Part {
         piece: Piece {
@@ -107,7 +94,7 @@ fn whole_sheet(work: &[u32], size: Size, motif: u8) -> u8
 // The answer of a numbered sheet, with its table written. Masks that can be no book's have no sheet.
 fn tell(s: NumberedSheet, start: u8, joins: Joins, masks: &[u32], work: &mut [u32]) -> Answer
     requires { ⌜ (s .fault .number ≡ 0 → Shows s) ⌝ }
-    ensures { λ r. ⌜ Told s start joins (now (masks .entry)) (now (work .entry)) r (now (work .exit)) ⌝ }
+    ensures { λ r. ⌜ unwritten r (now (work .exit)) ≡ toldBy s start joins (now (masks .entry)) (now (work .entry)) ⌝ }
 {
     if s.fault.number != 0 {
         return answer::blame(2, s.fault);
@@ -115,7 +102,7 @@ fn tell(s: NumberedSheet, start: u8, joins: Joins, masks: &[u32], work: &mut [u3
     if work.len() < piece::count(s.rows, s.cols) {
         return answer::unblamed(9);
     }
-    if fits(masks.len(), joins) {
+    if masks::fits(masks.len(), joins) {
         let cells = s.cells;
         table::fill_from(masks, joins, &cells, s.rows, s.cols, work);
         return answer::unblamed(whole_sheet(
@@ -130,9 +117,9 @@ fn tell(s: NumberedSheet, start: u8, joins: Joins, masks: &[u32], work: &mut [u3
     answer::unblamed(11)
 }
 
-// Asks whether the family of a book has a sheet, by what was kept of the book and the masks of its rules. The work slice gets the table of pieces.
+// Asks for one sheet by what was kept of a book and the masks of its rules. The work slice gets the table of pieces.
 pub fn ask_sheet(book: &[u8], split: Split, masks: &[u32], sheet: &[u8], work: &mut [u32]) -> Asked
-    ensures { λ r. ⌜ (SplitFrom (now (book .entry)) split (now (masks .entry)) → Asks (now (book .entry)) (now (sheet .entry)) (now (work .entry)) r (now (work .exit))) ⌝ }
+    ensures { λ r. ⌜ asked r (now (work .exit)) ≡ askSheet (now (book .entry)) split (now (masks .entry)) (now (sheet .entry)) (now (work .entry)) ⌝ }
 {
     let s = order::number_sheet(book, split.colours, sheet);
     let answer = tell(s, split.start, split.joins, masks, work);

@@ -10,14 +10,11 @@ use crate::piece::times;
 use books::lent::direction;
 use books::rule::Dir;
 ghost use mathlib.Core.Path.{_≡_};
-ghost use Prim.Native.Nat.{_*_, _≤_};
-ghost use lib.ListN.{length};
 ghost use Rattle.pieces.specs.Choice.{covers, cutOf, choose};
-ghost use Rattle.pieces.specs.inner.Room.{Room};
 ghost use Rattle.pieces.specs.inner.Fitted.{RuleFits};
 ghost use Rattle.books.specs.RuleBytes.{ruleIn, rulesIn};
 ghost use Rattle.pieces.specs.inner.Tried.{tried};
-ghost use Rattle.pieces.specs.inner.Seen.{On, Tabled, Ready, hasBit, hasColour, seen};
+ghost use Rattle.pieces.specs.inner.Seen.{Coloured, TabledAt, ReadyAt, hasBit, hasColour, seen};
 
 // A colour rule, by its number; or a join, by its number, direction, cut and the motifs of its two parts.
 pub(crate) enum Choice {
@@ -39,7 +36,7 @@ enum Tried {
 
 // Whether a piece is one cell of a colour.
 fn covers(colours: &[u8], size: Size, p: Piece, colour: u8) -> bool
-    requires { ⌜ Room (size .rows) (size .cols) × On size p × (size .rows * size .cols ≤ length (now colours)) ⌝ }
+    requires { ⌜ Coloured size (now colours) p ⌝ }
     ensures { λ r. ⌜ r ≡ covers (hasColour size (now (colours .entry))) p colour ⌝ }
 {
     if p.height == 1 {
@@ -53,7 +50,7 @@ fn covers(colours: &[u8], size: Size, p: Piece, colour: u8) -> bool
 
 // The smallest cut of a piece that works for a join's motifs, or its reach where none does.
 fn smallest_cut(work: &[u32], size: Size, p: Piece, d: Dir, l: u8, r: u8) -> usize
-    requires { ⌜ Tabled size (now work) × On size p ⌝ }
+    requires { ⌜ TabledAt size (now work) p ⌝ }
     ensures { λ k. ⌜ k ≡ cutOf (hasBit size (now (work .entry))) d l r p ⌝ }
 {
     let end = reach(p, d);
@@ -70,7 +67,7 @@ fn smallest_cut(work: &[u32], size: Size, p: Piece, d: Dir, l: u8, r: u8) -> usi
 // A rule is tried at a piece and its motif, by its number and its row: one with another head is passed over; a colour fits where the piece is one cell
 // of it, and a join where a cut works, and is taken with the smallest.
 fn try_rule(work: &[u32], colours: &[u8], size: Size, x: Part, i: usize, rule: [u8; 4]) -> Tried
-    requires { ⌜ Ready size (now work) (now colours) × On size (x .piece) ⌝ }
+    requires { ⌜ ReadyAt size (now work) (now colours) (x .piece) ⌝ }
     ensures { λ o. ⌜ o ≡ tried (seen size (now (work .entry)) (now (colours .entry))) (x .motif) (x .piece) i (ruleIn rule) ⌝ }
 {
     if rule[0] != x.motif {
@@ -98,7 +95,7 @@ fn try_rule(work: &[u32], colours: &[u8], size: Size, x: Part, i: usize, rule: [
 
 // What is taken at a piece where a rule fits: of the rules that have the motif for their head the first that fits. There is one, so that the search ends.
 pub(crate) fn choose(rules: &[[u8; 4]], work: &[u32], colours: &[u8], size: Size, x: Part) -> Choice
-    requires { ⌜ Ready size (now work) (now colours) × On size (x .piece) ⌝ }
+    requires { ⌜ ReadyAt size (now work) (now colours) (x .piece) ⌝ }
     requires { ⌜ RuleFits (seen size (now work) (now colours)) (rulesIn (now rules)) (x .motif) (x .piece) ⌝ }
     ensures { λ o. ⌜ o ≡ choose (seen size (now (work .entry)) (now (colours .entry))) (rulesIn (now (rules .entry))) (x .motif) (x .piece) ⌝ }
 {

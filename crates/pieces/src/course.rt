@@ -3,8 +3,7 @@ use crate::piece;
 use crate::piece::Piece;
 ghost use mathlib.Core.Path.{_≡_};
 ghost use Rattle.books.specs.declared.rule.Dir.the-variants.{Across as across, Down as down};
-ghost use Rattle.pieces.specs.Pieces.{Inside, slotOf};
-ghost use Rattle.pieces.specs.inner.Room.{Room};
+ghost use Rattle.pieces.specs.inner.Room.{Slotted};
 ghost use Rattle.pieces.specs.inner.Course.{step, Steps, courseOf};
 
 // The first part's slot rises, each time by less, and the second part's falls, each time by more; both steps change by one number.
@@ -35,7 +34,7 @@ pub(crate) fn next_cut(c: Course) -> Course
 
 // The course of the across cuts of a piece in a slot.
 pub(crate) fn across_course(m: usize, n: usize, p: Piece, slot: usize) -> Course
-    requires { ⌜ Room m n × Inside m n p × (slot ≡ slotOf m n p) ⌝ }
+    requires { ⌜ Slotted m n p slot ⌝ }
     ensures { λ r. ⌜ r ≡ courseOf across m n p ⌝ }
 {
     let places = m - (p.height - 1);
@@ -61,7 +60,7 @@ pub(crate) fn across_course(m: usize, n: usize, p: Piece, slot: usize) -> Course
 
 // The course of the down cuts of a piece in a slot.
 pub(crate) fn down_course(m: usize, n: usize, p: Piece, slot: usize) -> Course
-    requires { ⌜ Room m n × Inside m n p × (slot ≡ slotOf m n p) ⌝ }
+    requires { ⌜ Slotted m n p slot ⌝ }
     ensures { λ r. ⌜ r ≡ courseOf down m n p ⌝ }
 {
     let all = piece::stretches_of(n, n);

@@ -6,7 +6,7 @@ use crate::piece::Size;
 use crate::piece::slot;
 ghost use mathlib.Core.Path.{_≡_};
 ghost use Rattle.names.specs.Bits.{isSet};
-ghost use Rattle.pieces.specs.inner.Seen.{On, Tabled, hasBit, bothHave};
+ghost use Rattle.pieces.specs.inner.Seen.{TabledAt, hasBit, bothHave};
 
 // Whether an entry has a motif's bit set. It has 32 bits.
 pub(crate) fn has_bit(entry: u32, motif: u8) -> bool
@@ -21,7 +21,7 @@ pub(crate) fn has_bit(entry: u32, motif: u8) -> bool
 
 // Whether a motif has its bit set at a piece.
 pub(crate) fn has(work: &[u32], size: Size, x: Part) -> bool
-    requires { ⌜ Tabled size (now work) × On size (x .piece) ⌝ }
+    requires { ⌜ TabledAt size (now work) (x .piece) ⌝ }
     ensures { λ r. ⌜ r ≡ hasBit size (now (work .entry)) (x .motif) (x .piece) ⌝ }
 {
     let at = slot(size.rows, size.cols, x.piece);
@@ -30,7 +30,7 @@ pub(crate) fn has(work: &[u32], size: Size, x: Part) -> bool
 
 // Whether both parts of a cut have their bits.
 pub(crate) fn both_have(work: &[u32], size: Size, parts: Parts) -> bool
-    requires { ⌜ Tabled size (now work) × On size (parts .first .piece) × On size (parts .rest .piece) ⌝ }
+    requires { ⌜ TabledAt size (now work) (parts .first .piece) × TabledAt size (now work) (parts .rest .piece) ⌝ }
     ensures { λ x. ⌜ x ≡ bothHave (hasBit size (now (work .entry))) parts ⌝ }
 {
     if has(work, size, parts.first) {

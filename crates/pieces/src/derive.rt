@@ -27,7 +27,8 @@ fn lack(rows: usize, cols: usize, entries: usize, numbers: usize) -> u8
 
 // Asks whether the family of a book has a sheet. The work slice gets the table of pieces, and on 0 the tree slice the derivation given.
 pub fn derive(book: &[u8], sheet: &[u8], work: &mut [u32], tree: &mut [u16]) -> Answer
-    ensures { λ r. ⌜ Leaves (derivation (now (book .entry)) (now (sheet .entry)) (now (work .entry)) (now (tree .entry))) r (now (work .exit)) (now (tree .exit)) ⌝ }
+    ensures { λ r. ⌜ Leaves (derivation (now (book .entry)) (now (sheet .entry)) (now (work .entry)) (now (tree .entry)))
+        r (now (work .exit)) (now (tree .exit)) ⌝ }
 {
     let o = order::read_order(book, sheet);
     if o.answer.number != 0 {
@@ -57,7 +58,8 @@ pub fn derive(book: &[u8], sheet: &[u8], work: &mut [u32], tree: &mut [u16]) -> 
 // The same for the C host.
 #[no_mangle]
 pub extern "C" fn dv_derive(book: &[u8], sheet: &[u8], work: &mut [u32], tree: &mut [u16]) -> u64
-    ensures { λ r. ⌜ LeavesPacked (derivation (now (book .entry)) (now (sheet .entry)) (now (work .entry)) (now (tree .entry))) r (now (work .exit)) (now (tree .exit)) ⌝ }
+    ensures { λ r. ⌜ LeavesPacked (derivation (now (book .entry)) (now (sheet .entry)) (now (work .entry)) (now (tree .entry)))
+        r (now (work .exit)) (now (tree .exit)) ⌝ }
 {
     answer::pack(derive(book, sheet, work, tree), 0)
 }

@@ -5,12 +5,10 @@ use crate::piece::MOST;
 use crate::piece::Piece;
 ghost use mathlib.Core.Path.{_≡_};
 ghost use Prim.Native.Nat.{_≤_};
-ghost use lib.ListN.{length};
 ghost use Rattle.names.specs.Bits.{isSet};
-ghost use Rattle.pieces.specs.Pieces.{total};
 ghost use Rattle.pieces.specs.Largest.{within, fitsTable, marked, largestOf, largestIn};
 ghost use Rattle.pieces.specs.Most.{most};
-ghost use Rattle.pieces.specs.inner.Room.{Room};
+ghost use Rattle.pieces.specs.inner.Seen.{sized, Tabled};
 ghost use Rattle.pieces.specs.inner.Larger.{areaIf};
 
 // The area of a piece whose entry has a motif's bit, and 0 of any other.
@@ -27,7 +25,7 @@ fn area_with(entry: u32, motif: u8, p: Piece) -> usize
 // The pieces are passed in the order of the table, and one is kept where it is larger than the one before. That one's area is kept with it, so that it is
 // not multiplied out again for each piece.
 fn search(work: &[u32], motif: u8, m: usize, n: usize) -> Piece
-    requires { ⌜ Room m n × (total m n ≤ length (now work)) ⌝ }
+    requires { ⌜ Tabled (sized m n) (now work) ⌝ }
     ensures { λ r. ⌜ r ≡ largestOf (marked m n (now (work .entry)) motif) m n ⌝ }
 {
     let end = piece::count(m, n);

@@ -1,26 +1,26 @@
 // A family's rules as masks: a motif is worth 2 to the power of its number.
 use books::rule::Body;
+use books::rule::Dir;
 use books::rule::Rule;
 ghost use mathlib.Core.Path.{_≡_};
-ghost use Prim.Native.Nat.{_+_, _^_, _<_};
-ghost use lib.ListN.{length, replicate};
-ghost use Rattle.pieces.specs.inner.Layout.{mostRules, headsFrom, allMasks};
-ghost use Rattle.pieces.specs.inner.Masks.{join, putJoin, putRule, countRule, Small};
-ghost use Rattle.pieces.specs.inner.Painted.{SmallRules, SplitInto};
+ghost use Prim.Native.Nat.{_+_, _^_, _≤_, _<_};
+ghost use lib.ListN.{length, take};
+ghost use Rattle.pieces.specs.Masks.{mostRules, headsFrom, allMasks, masked, putAt, putBody, cleared, splitOf};
+ghost use Rattle.pieces.specs.Firing.{firing, fitting, fireOf, paintedOf};
+ghost use Rattle.pieces.specs.inner.Along.{allFired};
+ghost use Rattle.pieces.specs.inner.Small.{Small, SmallRules};
 
-// The masks stand in one row of numbers: three rows for the across joins, their first parts, second parts and heads; three for the down joins; and one mask for
-// each of at most 64 colours, with one more for all that the book lacks.
+// The masks stand in one row of numbers: three rows for the joins, their first parts, second parts and heads, in each of which the across joins stand from the
+// front on and the down joins from the back; and one mask for each of at most 64 colours, with one more for all that the book lacks.
 pub(crate) const MOST_RULES: usize = 200;
 
-pub(crate) const SECONDS_FROM: usize = MOST_RULES;
+const SECONDS_FROM: usize = MOST_RULES;
 
-pub(crate) const HEADS_FROM: usize = 2 * MOST_RULES;
+const HEADS_FROM: usize = 2 * MOST_RULES;
 
-pub(crate) const JOIN_MASKS: usize = 3 * MOST_RULES;
+pub(crate) const PAINTERS_FROM: usize = 3 * MOST_RULES;
 
-pub(crate) const PAINTERS_FROM: usize = 2 * JOIN_MASKS;
-
-pub(crate) const COLOUR_MASKS: usize = 65;
+const COLOUR_MASKS: usize = 65;
 
 pub const ALL_MASKS: usize = PAINTERS_FROM + COLOUR_MASKS;
 
@@ -38,37 +38,37 @@ fn mask(a: u8) -> u32
     1u32 << (a as u32)
 }
 
-// Writes the masks of one join at a place of its three rows.
-fn put(rules: &mut [u32], at: usize, head: u8, first: u8, second: u8)
-    requires { ⌜ (headsFrom + at < length (now rules)) × (head < 32) × (first < 32) × (second < 32) ⌝ }
-    ensures { λ _. ⌜ now (rules .exit) ≡ putJoin (now (rules .entry)) at (join head first second) ⌝ }
+// Writes the masks of one join at a place of the three rows.
+fn put(masks: &mut [u32], at: usize, head: u8, first: u8, second: u8)
+    requires { ⌜ (headsFrom + at < length (now masks)) × (head < 32) × (first < 32) × (second < 32) ⌝ }
+    ensures { λ _. ⌜ now (masks .exit) ≡ putAt (now (masks .entry)) at head first second ⌝ }
 {
-    rules[at] = mask(first);
-    rules[SECONDS_FROM + at] = mask(second);
-    rules[HEADS_FROM + at] = mask(head);
+    masks[at] = mask(first);
+    masks[SECONDS_FROM + at] = mask(second);
+    masks[HEADS_FROM + at] = mask(head);
 }
 
-// The masks of a rule: a join stands behind those of its direction, and each colour gathers the heads that paint it.
-fn put_rule(r: Rule, rules: &mut [u32], joins: Joins) -> Joins
-    requires { ⌜ (length (now rules) ≡ allMasks) × (joins .across < mostRules) × (joins .down < mostRules) × Small r ⌝ }
-    ensures { λ k. ⌜ k ≡ countRule joins (r .body) ⌝ ∗ ⌜ now (rules .exit) ≡ putRule (now (rules .entry)) joins (r .head) (r .body) ⌝ }
+// The masks of a rule: a join stands next to those of its direction, and each colour gathers the heads that paint it.
+fn put_rule(r: Rule, masks: &mut [u32], joins: Joins) -> Joins
+    requires { ⌜ (length (now masks) ≡ allMasks) × (joins .across < mostRules) × (joins .down < mostRules) × Small r ⌝ }
+    ensures { λ k. ⌜ masked (now (masks .exit)) k ≡ putBody (masked (now (masks .entry)) joins) (r .head) (r .body) ⌝ }
 {
     let b = r.body;
     match b {
         Body::Colour(c) => {
             let at = PAINTERS_FROM + c as usize;
-            rules[at] = rules[at] | mask(r.head);
+            masks[at] = masks[at] | mask(r.head);
             joins
         }
         Body::Across(x, y) => {
-            put(rules, joins.across, r.head, x, y);
+            put(masks, joins.across, r.head, x, y);
             Joins {
                 across: joins.across + 1,
                 down: joins.down,
             }
         }
         Body::Down(x, y) => {
-            put(rules, JOIN_MASKS + joins.down, r.head, x, y);
+            put(masks, MOST_RULES - 1 - joins.down, r.head, x, y);
             Joins {
                 across: joins.across,
                 down: joins.down + 1,
@@ -77,29 +77,110 @@ fn put_rule(r: Rule, rules: &mut [u32], joins: Joins) -> Joins
     }
 }
 
-// Zeros all along the masks.
-pub(crate) fn blank(masks: &mut [u32])
+// No painters. Of the three rows only what is counted is read, so that they need no clearing.
+fn clear(masks: &mut [u32])
     requires { ⌜ length (now masks) ≡ allMasks ⌝ }
-    ensures { λ _. ⌜ now (masks .exit) ≡ replicate allMasks 0 ⌝ }
+    ensures { λ _. ⌜ now (masks .exit) ≡ cleared (now (masks .entry)) ⌝ }
 {
-    let mut i = 0;
-    while i < ALL_MASKS {
-        masks[i] = 0;
-        i += 1;
+    let mut c = 0;
+    while c < COLOUR_MASKS {
+        masks[PAINTERS_FROM + c] = 0;
+        c += 1;
     }
 }
 
 // The masks of the first rules of a family, in order.
-pub(crate) fn split(family: [Rule; MOST_RULES], count: usize, rules: &mut [u32]) -> Joins
-    requires { ⌜ SmallRules family count × (now rules ≡ replicate allMasks 0) ⌝ }
-    ensures { λ r. ⌜ SplitInto family count (now (rules .exit)) r ⌝ }
+pub(crate) fn split(family: [Rule; MOST_RULES], count: usize, masks: &mut [u32]) -> Joins
+    requires { ⌜ SmallRules family count × (length (now masks) ≡ allMasks) ⌝ }
+    ensures { λ r. ⌜ masked (now (masks .exit)) r ≡ splitOf (take count family) (now (masks .entry)) ⌝ }
 {
+    clear(masks);
     let mut joins = Joins { across: 0, down: 0 };
     let mut i = 0;
     while i < count {
         let r = family[i];
-        joins = put_rule(r, rules, joins);
+        joins = put_rule(r, masks, joins);
         i += 1;
     }
     joins
+}
+
+// One join at one cut.
+fn fired(l: u32, r: u32, first: u32, second: u32, head: u32) -> u32
+    ensures { λ x. ⌜ x ≡ firing l r first second head ⌝ }
+{
+    if l & first == 0 {
+        return 0;
+    }
+    if r & second == 0 {
+        return 0;
+    }
+    head
+}
+
+// Every join of one direction at one cut: no branch on the kind of a rule, so that the loop can run on several joins at a time.
+pub(crate) fn join(masks: &[u32], count: usize, l: u32, r: u32) -> u32
+    requires { ⌜ headsFrom + count ≤ length (now masks) ⌝ }
+    ensures { λ x. ⌜ x ≡ allFired (now (masks .entry)) count l r ⌝ }
+{
+    let mut found = 0u32;
+    let mut i = 0;
+    while i < count {
+        found |= fired(
+            l,
+            r,
+            masks[i],
+            masks[SECONDS_FROM + i],
+            masks[HEADS_FROM + i],
+        );
+        i += 1;
+    }
+    found
+}
+
+// Whether masks of this number, with so many joins, can be a book's.
+pub(crate) fn fits(masks: usize, joins: Joins) -> bool
+    ensures { λ r. ⌜ r ≡ fitting masks joins ⌝ }
+{
+    if masks != ALL_MASKS {
+        return false;
+    }
+    if joins.across > MOST_RULES {
+        return false;
+    }
+    joins.down <= MOST_RULES
+}
+
+// The heads of the joins of one direction whose two motifs are among those of l and of r. Masks that can be no book's have none.
+pub fn fire(masks: &[u32], joins: Joins, d: Dir, l: u32, r: u32) -> u32
+    ensures { λ x. ⌜ x ≡ fireOf (now (masks .entry)) joins d l r ⌝ }
+{
+    if fits(masks.len(), joins) {
+        match d {
+            Dir::Across => {
+                return join(masks, joins.across, l, r);
+            }
+            Dir::Down => {
+                let from = MOST_RULES - joins.down;
+                return join(&masks[from..], joins.down, l, r);
+            }
+        }
+    }
+    0
+}
+
+// The heads of all colour rules. Masks that can be no book's have none.
+pub fn painted(masks: &[u32]) -> u32
+    ensures { λ x. ⌜ x ≡ paintedOf (now (masks .entry)) ⌝ }
+{
+    if masks.len() != ALL_MASKS {
+        return 0;
+    }
+    let mut heads = 0u32;
+    let mut c = 0;
+    while c < COLOUR_MASKS {
+        heads |= masks[PAINTERS_FROM + c];
+        c += 1;
+    }
+    heads
 }

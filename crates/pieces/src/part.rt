@@ -2,10 +2,8 @@
 use crate::piece::Piece;
 use books::rule::Dir;
 ghost use mathlib.Core.Path.{_≡_};
-ghost use Prim.Native.Nat.{_+_, _≤_};
-ghost use Rattle.pieces.specs.Parts.{extent};
-ghost use Rattle.pieces.specs.Most.{most};
-ghost use Rattle.pieces.specs.inner.PartsOf.{partsOf};
+ghost use Rattle.pieces.specs.Parts.{reach};
+ghost use Rattle.pieces.specs.inner.PartsOf.{CutIn, partsOf};
 
 // A piece and its motif.
 pub(crate) struct Part {
@@ -21,7 +19,7 @@ pub(crate) struct Parts {
 
 // How far a piece reaches in a direction: its columns, or its rows.
 pub(crate) fn reach(p: Piece, d: Dir) -> usize
-    ensures { λ r. ⌜ r ≡ extent d p ⌝ }
+    ensures { λ r. ⌜ r ≡ reach d p ⌝ }
 {
     match d {
         Dir::Across => p.width,
@@ -31,7 +29,7 @@ pub(crate) fn reach(p: Piece, d: Dir) -> usize
 
 // The two parts of a piece at a cut, for their motifs. The piece lies on a sheet that there is room for and the cut in the piece, so that nothing wraps.
 pub(crate) fn parts_of(p: Piece, d: Dir, k: usize, l: u8, r: u8) -> Parts
-    requires { ⌜ (k ≤ extent d p) × (p .top + p .height ≤ most) × (p .left + p .width ≤ most) ⌝ }
+    requires { ⌜ CutIn d k p ⌝ }
     ensures { λ x. ⌜ x ≡ partsOf d k l r p ⌝ }
 {
     let mut first = p;

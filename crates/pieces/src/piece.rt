@@ -5,7 +5,7 @@ ghost use Rattle.pieces.specs.Area.{whole, treeSize};
 ghost use Rattle.pieces.specs.Pieces.{Inside, stretches, total, slotOf};
 ghost use Rattle.pieces.specs.inner.NextTo.{NextTo};
 ghost use Rattle.pieces.specs.Most.{most};
-ghost use Rattle.pieces.specs.inner.Room.{Room};
+ghost use Rattle.pieces.specs.inner.Room.{Room, mostCells};
 
 // The most rows, and the most columns, that the numbers have room for.
 pub(crate) const MOST: usize = 24;
@@ -26,8 +26,8 @@ pub(crate) struct Size {
 
 // A product that the numbers have room for.
 pub(crate) fn times(a: usize, b: usize) -> usize
-    requires { ⌜ (a ≤ 600) × (b ≤ 600) ⌝ }
-    ensures { λ r. ⌜ (r ≡ a * b) × (r ≤ 360000) ⌝ }
+    requires { ⌜ (a ≤ mostCells) × (b ≤ mostCells) ⌝ }
+    ensures { λ r. ⌜ (r ≡ a * b) × (r ≤ mostCells * mostCells) ⌝ }
 {
     a * b
 }
@@ -35,7 +35,7 @@ pub(crate) fn times(a: usize, b: usize) -> usize
 // The stretches of at most k cells in a row of n cells.
 pub(crate) fn stretches_of(n: usize, k: usize) -> usize
     requires { ⌜ (n ≤ most) × (k ≤ n) ⌝ }
-    ensures { λ r. ⌜ (r ≡ stretches n k) × (r ≤ 576) ⌝ }
+    ensures { λ r. ⌜ (r ≡ stretches n k) × (r ≤ mostCells) ⌝ }
 {
     times(k, 2 * n + 1 - k) / 2
 }
@@ -43,7 +43,7 @@ pub(crate) fn stretches_of(n: usize, k: usize) -> usize
 // The number of pieces of a sheet.
 pub(crate) fn count(m: usize, n: usize) -> usize
     requires { ⌜ Room m n ⌝ }
-    ensures { λ r. ⌜ (r ≡ total m n) × (r ≤ 360000) ⌝ }
+    ensures { λ r. ⌜ (r ≡ total m n) × (r ≤ mostCells * mostCells) ⌝ }
 {
     times(stretches_of(m, m), stretches_of(n, n))
 }

@@ -4,74 +4,38 @@ use crate::course;
 use crate::course::Course;
 use crate::masks;
 use crate::masks::ALL_MASKS;
-use crate::masks::HEADS_FROM;
-use crate::masks::JOIN_MASKS;
 use crate::masks::Joins;
 use crate::masks::MOST_RULES;
-use crate::masks::PAINTERS_FROM;
-use crate::masks::SECONDS_FROM;
 use crate::piece;
 use crate::piece::Piece;
 use books::rule::Rule;
 ghost use mathlib.Core.Path.{_≡_};
-ghost use Prim.Native.Nat.{ℕ, _≤_, _<_, _*_};
-ghost use lib.ListN.{length, getD};
-ghost use Rattle.pieces.specs.Pieces.{Inside, slotOf, total};
-ghost use Rattle.pieces.specs.inner.Room.{Room};
+ghost use Prim.Native.Nat.{_+_, _*_, _≤_};
+ghost use lib.ListN.{length, take};
+ghost use Rattle.pieces.specs.Pieces.{Inside, slotOf};
+ghost use Rattle.pieces.specs.Masks.{headsFrom};
+ghost use Rattle.pieces.specs.Firing.{joinsFired};
+ghost use Rattle.pieces.specs.Filling.{entryOf, joinedBy, filledBy};
 ghost use Rattle.pieces.specs.inner.Course.{Runs};
-ghost use Rattle.pieces.specs.inner.Firing.{firing, allFired, along};
-ghost use Rattle.pieces.specs.inner.Layout.{mostRules, joinMasks, colourMasks, allMasks};
-ghost use Rattle.pieces.specs.inner.Painted.{SmallRules};
-ghost use Rattle.pieces.specs.inner.Settled.{plan, entryOf, Filled, TableMade, FilledFrom};
-
-// One join at one cut.
-fn fired(l: u32, r: u32, first: u32, second: u32, head: u32) -> u32
-    ensures { λ x. ⌜ x ≡ firing l r first second head ⌝ }
-{
-    if l & first == 0 {
-        return 0;
-    }
-    if r & second == 0 {
-        return 0;
-    }
-    head
-}
-
-// Every join of one direction at one cut: no branch on the kind of a rule, so that the loop can run on several joins at a time.
-fn join(masks: &[u32], count: usize, l: u32, r: u32) -> u32
-    requires { ⌜ (length (now masks) ≡ joinMasks) × (count ≤ mostRules) ⌝ }
-    ensures { λ x. ⌜ x ≡ allFired (now (masks .entry)) count l r ⌝ }
-{
-    let mut found = 0u32;
-    let mut i = 0;
-    while i < count {
-        found |= fired(
-            l,
-            r,
-            masks[i],
-            masks[SECONDS_FROM + i],
-            masks[HEADS_FROM + i],
-        );
-        i += 1;
-    }
-    found
-}
+ghost use Rattle.pieces.specs.inner.Along.{along};
+ghost use Rattle.pieces.specs.inner.Seen.{sized, Tabled};
+ghost use Rattle.pieces.specs.inner.Small.{SmallRules};
+ghost use Rattle.pieces.specs.inner.Placed.{Placed, Paintable, filledFor};
 
 // Every join of one direction at every cut of a piece.
 fn join_along(work: &[u32], masks: &[u32], count: usize, course: Course) -> u32
-    requires { ⌜ Runs (length (now work)) course × (length (now masks) ≡ joinMasks) × (count ≤ mostRules) ⌝ }
+    requires { ⌜ Runs (length (now work)) course × (headsFrom + count ≤ length (now masks)) ⌝ }
     ensures { λ x. ⌜ x ≡ along (now (work .entry)) (now (masks .entry)) count course ⌝ }
 {
     let mut found = 0u32;
     let mut c = course;
-    let mut k = 0;
-    let cuts = course.cuts;
-    while k < cuts {
+    let mut ahead = course.cuts;
+    while ahead > 0 {
         let a = c.first;
         c = course::next_cut(c);
         let b = c.second;
-        found |= join(masks, count, work[a], work[b]);
-        k += 1;
+        found |= masks::join(masks, count, work[a], work[b]);
+        ahead -= 1;
     }
     found
 }
@@ -79,26 +43,26 @@ fn join_along(work: &[u32], masks: &[u32], count: usize, course: Course) -> u32
 // The entry of a piece of more than one cell, from the entries of its parts.
 fn entry_of(
     work: &[u32],
-    rules: &[u32],
+    masks: &[u32],
     joins: Joins,
     m: usize,
     n: usize,
     p: Piece,
     slot: usize,
 ) -> u32
-    requires { ⌜ Room m n × Inside m n p × (slot ≡ slotOf m n p) × (total m n ≤ length (now work)) ⌝ }
-    requires { ⌜ (length (now rules) ≡ allMasks) × (joins .across ≤ mostRules) × (joins .down ≤ mostRules) ⌝ }
-    ensures { λ x. ⌜ x ≡ entryOf (plan m n (now (rules .entry)) joins) (now (work .entry)) p ⌝ }
+    requires { ⌜ Tabled (sized m n) (now work) × Placed (length (now masks)) joins × Inside m n p × (slot ≡ slotOf m n p) ⌝ }
+    ensures { λ x. ⌜ x ≡ entryOf (joinsFired (now (masks .entry)) joins) m n (now (work .entry)) p ⌝ }
 {
+    let from = MOST_RULES - joins.down;
     let a = join_along(
         work,
-        &rules[..JOIN_MASKS],
+        masks,
         joins.across,
         course::across_course(m, n, p, slot),
     );
     let d = join_along(
         work,
-        &rules[JOIN_MASKS..PAINTERS_FROM],
+        &masks[from..],
         joins.down,
         course::down_course(m, n, p, slot),
     );
@@ -106,10 +70,9 @@ fn entry_of(
 }
 
 // Every entry of a table that begins with those of the cells.
-fn fill(work: &mut [u32], rules: &[u32], joins: Joins, m: usize, n: usize)
-    requires { ⌜ Room m n × (total m n ≤ length (now work)) ⌝ }
-    requires { ⌜ (length (now rules) ≡ allMasks) × (joins .across ≤ mostRules) × (joins .down ≤ mostRules) ⌝ }
-    ensures { λ _. ⌜ Filled (plan m n (now (rules .entry)) joins) (now (work .entry)) (now (work .exit)) ⌝ }
+fn fill(work: &mut [u32], masks: &[u32], joins: Joins, m: usize, n: usize)
+    requires { ⌜ Tabled (sized m n) (now work) × Placed (length (now masks)) joins ⌝ }
+    ensures { λ _. ⌜ now (work .exit) ≡ joinedBy (joinsFired (now (masks .entry)) joins) m n (now (work .entry)) ⌝ }
 {
     let end = piece::count(m, n);
     let mut p = piece::next(
@@ -124,29 +87,27 @@ fn fill(work: &mut [u32], rules: &[u32], joins: Joins, m: usize, n: usize)
     );
     let mut k = piece::times(m, n);
     while k < end {
-        let e = entry_of(work, rules, joins, m, n, p, k);
+        let e = entry_of(work, masks, joins, m, n, p, k);
         work[k] = e;
         p = piece::next(m, n, p);
         k += 1;
     }
 }
 
-// The table of a sheet by the masks of rules, and by the numbers that the colours of its cells have there.
+// The table of a sheet by masks, and by the numbers that the colours of its cells have among them.
 pub(crate) fn fill_from(
-    rules: &[u32],
+    masks: &[u32],
     joins: Joins,
     colours: &[u8],
     m: usize,
     n: usize,
     work: &mut [u32],
 )
-    requires { ⌜ Room m n × (total m n ≤ length (now work)) ⌝ }
-    requires { ⌜ (length (now rules) ≡ allMasks) × (joins .across ≤ mostRules) × (joins .down ≤ mostRules) ⌝ }
-    requires { ⌜ (m * n ≤ length (now colours)) × ((i : ℕ) → i < m * n → getD (now colours) i 0 < colourMasks) ⌝ }
-    ensures { λ _. ⌜ FilledFrom (now (rules .entry)) joins (now (colours .entry)) m n (now (work .entry)) (now (work .exit)) ⌝ }
+    requires { ⌜ Tabled (sized m n) (now work) × Placed (length (now masks)) joins × Paintable (now colours) (m * n) ⌝ }
+    ensures { λ _. ⌜ now (work .exit) ≡ filledBy (now (masks .entry)) joins (now (colours .entry)) m n (now (work .entry)) ⌝ }
 {
-    cells::paint_cells(rules, colours, piece::times(m, n), work);
-    fill(work, rules, joins, m, n);
+    cells::paint_cells(masks, colours, piece::times(m, n), work);
+    fill(work, masks, joins, m, n);
 }
 
 // The table of a sheet for the first rules of a family.
@@ -158,11 +119,10 @@ pub(crate) fn fill_table(
     n: usize,
     work: &mut [u32],
 )
-    requires { ⌜ SmallRules family count × Room m n × (total m n ≤ length (now work)) ⌝ }
-    requires { ⌜ (m * n ≤ length (now colours)) × ((i : ℕ) → i < m * n → getD (now colours) i 0 < colourMasks) ⌝ }
-    ensures { λ _. ⌜ TableMade family count (now (colours .entry)) m n (now (work .entry)) (now (work .exit)) ⌝ }
+    requires { ⌜ SmallRules family count × Tabled (sized m n) (now work) × Paintable (now colours) (m * n) ⌝ }
+    ensures { λ _. ⌜ now (work .exit) ≡ filledFor (take count family) (now (colours .entry)) m n (now (work .entry)) ⌝ }
 {
-    let mut rules = [0u32; ALL_MASKS];
-    let joins = masks::split(family, count, &mut rules);
-    fill_from(&rules, joins, colours, m, n, work);
+    let mut masks = [0u32; ALL_MASKS];
+    let joins = masks::split(family, count, &mut masks);
+    fill_from(&masks, joins, colours, m, n, work);
 }

@@ -12,17 +12,13 @@ use crate::piece::Piece;
 use crate::piece::Size;
 use books::lent::lend;
 use books::rule::Rule;
-ghost use mathlib.Core.Path.{_≡_};
-ghost use mathlib.Core.Bool.{true};
 ghost use mathlib.Core.List.{[], _∷_};
 ghost use Prim.Native.Nat.{_+_, _≤_, _<_};
 ghost use lib.ListN.{length, take};
-ghost use Rattle.pieces.specs.Area.{treeSize};
-ghost use Rattle.pieces.specs.inner.Fitted.{Fitted, PartFitted};
-ghost use Rattle.pieces.specs.inner.Layout.{mostRules};
+ghost use Rattle.pieces.specs.inner.Due.{TreeDue, PartsDue, SheetDue};
 ghost use Rattle.books.specs.RuleBytes.{rulesIn};
-ghost use Rattle.pieces.specs.inner.Seen.{On, wholeOf, Ready, hasBit, seen};
-ghost use Rattle.pieces.specs.inner.TreeWrote.{TreeWrote, partRoom, partsRoom, PartWrote, PartsWrote};
+ghost use Rattle.pieces.specs.inner.Seen.{wholeOf, seen};
+ghost use Rattle.pieces.specs.inner.TreeWrote.{TreeWrote, PartWrote, PartsWrote};
 ghost use Rattle.pieces.specs.inner.Verdict.{verdict, Judges};
 
 // A node, at its place: the rule and the cut. The place after it is answered.
@@ -46,10 +42,9 @@ fn pick_node(
     tree: &mut [u16],
     at: usize,
 ) -> usize
-    requires { ⌜ Ready size (now work) (now colours) × (length (now rules) ≤ mostRules) ⌝ }
-    requires { ⌜ On size (x .piece) × (at + partRoom x ≤ length (now tree)) ⌝ }
-    requires { ⌜ PartFitted (seen size (now work) (now colours)) (rulesIn (now rules)) x ⌝ }
-    ensures { λ r. ⌜ PartWrote (seen size (now (work .entry)) (now (colours .entry))) (rulesIn (now (rules .entry))) x at (now (tree .entry)) (now (tree .exit)) r ⌝ }
+    requires { ⌜ TreeDue size (now work) (now colours) (rulesIn (now rules)) x at (now tree) ⌝ }
+    ensures { λ r. ⌜ PartWrote (seen size (now (work .entry)) (now (colours .entry))) (rulesIn (now (rules .entry))) x at
+        (now (tree .entry)) (now (tree .exit)) r ⌝ }
 {
     let choice = choose(rules, work, colours, size, x);
     match choice {
@@ -85,11 +80,9 @@ fn write_parts(
     tree: &mut [u16],
     at: usize,
 ) -> usize
-    requires { ⌜ Ready size (now work) (now colours) × (length (now rules) ≤ mostRules) ⌝ }
-    requires { ⌜ On size (parts .first .piece) × On size (parts .rest .piece) × (at + partsRoom parts ≤ length (now tree)) ⌝ }
-    requires { ⌜ PartFitted (seen size (now work) (now colours)) (rulesIn (now rules)) (parts .first) ⌝ }
-    requires { ⌜ PartFitted (seen size (now work) (now colours)) (rulesIn (now rules)) (parts .rest) ⌝ }
-    ensures { λ r. ⌜ PartsWrote (seen size (now (work .entry)) (now (colours .entry))) (rulesIn (now (rules .entry))) parts at (now (tree .entry)) (now (tree .exit)) r ⌝ }
+    requires { ⌜ PartsDue size (now work) (now colours) (rulesIn (now rules)) parts at (now tree) ⌝ }
+    ensures { λ r. ⌜ PartsWrote (seen size (now (work .entry)) (now (colours .entry))) (rulesIn (now (rules .entry))) parts at
+        (now (tree .entry)) (now (tree .exit)) r ⌝ }
 {
     let next = pick_node(rules, work, colours, size, parts.first, tree, at);
     pick_node(rules, work, colours, size, parts.rest, tree, next)
@@ -106,9 +99,10 @@ pub(crate) fn judge(
     size: Size,
     tree: &mut [u16],
 ) -> u8
-    requires { ⌜ (count ≤ mostRules) × Ready size (now work) (now colours) × (treeSize (wholeOf size) ≤ length (now tree)) ⌝ }
-    requires { ⌜ (hasBit size (now work) start (wholeOf size) ≡ true → Fitted (seen size (now work) (now colours)) (take count rules) start (wholeOf size)) ⌝ }
-    ensures { λ r. ⌜ Judges (verdict (seen size (now (work .entry)) (now (colours .entry))) (take count rules) start (wholeOf size) (now (tree .entry))) r (now (tree .exit)) ⌝ }
+    requires { ⌜ SheetDue size (now work) (now colours) rules count start (now tree) ⌝ }
+    ensures { λ r. ⌜ Judges
+        (verdict (seen size (now (work .entry)) (now (colours .entry))) (take count rules) start (wholeOf size) (now (tree .entry)))
+        r (now (tree .exit)) ⌝ }
 {
     let sheet = Part {
         piece: Piece {

@@ -27,7 +27,7 @@ use Rattle.pieces.specs.inner.Room.{Room}
 use Rattle.pieces.specs.declared.piece.Piece.{Piece}
 use Rattle.names.proofs.Bits.{none-set}
 use Rattle.pieces.proofs.CellsFirst.{slot-cell}
-use Rattle.pieces.proofs.Entries.{derives-entry, entry-set}
+use Rattle.pieces.proofs.Entries.{derives-entry, entry-tests}
 use Rattle.pieces.proofs.ExactViews.{motif-below}
 use Rattle.pieces.proofs.Judging.{Holds, held-long, held-entry}
 use Rattle.names.proofs.Least.{least-same}
@@ -118,7 +118,7 @@ module _ (b : Contents) (p : Picture) (sound : Sound b) (sizes : Room (p .rows) 
 
   marked-derived : (q : Piece) → Inside (p .rows) (p .cols) q → marked (p .rows) (p .cols) work (b .start) q ≡ derives? b (b .start) (cut p q)
   unfolding marked
-  marked-derived q i = rw (held-entry b p work held q i) (entry-set b (cut p q) (b .start) (sound .start-fits))
+  marked-derived q i = rw (held-entry b p work held q i) (entry-tests b (cut p q) (b .start) (sound .start-fits))
 
   first-shown : least (bare work) 0 (p .rows * p .cols) ≡ firstUnnamed b p
   unfolding firstUnnamed

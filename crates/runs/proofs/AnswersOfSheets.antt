@@ -1,9 +1,8 @@
 -- With room enough for the greatest sheet a derivation answers 0 to 8 or 11: neither slice can be too short.
-use Prim.Native.Nat.{ℕ, _+_, _*_, _/_, _≤_}
+use Prim.Native.Nat.{ℕ, _≤_}
 use mathlib.Core.Path.{_≡_, refl, ap, _∙_}
 use mathlib.Core.List.{List, []}
 use mathlib.Core.Logic.{_↔_, _⊎_, inl, inr}
-use native.Mathlib.Nat.{mul-le-mul}
 use native.Mathlib.Omega.{arith}
 use lib.ListN.{replicate, length-replicate}
 use Rattle.names.specs.Colours.{coloursOf}
@@ -19,19 +18,14 @@ use Rattle.pieces.specs.Derivation.{Derivation, entriesNeeded, numbersNeeded, d
 use Rattle.pieces.proofs.DerivationAnswers.{sheet-second}
 use Rattle.pieces.proofs.Demand2Numbers.{derive-numbers}
 use Rattle.books.specs.Lent.{contentsOf, pictureOf, Accepted}
+use Rattle.pieces.proofs.Stretches.{total-few}
 use Rattle.pieces.proofs.Endings.{derivation-ends}
 use Rattle.runs.specs.Figures.{workRoom, treeRoom, answerOf}
 
 -- ── Room enough ──
 
-half-few : (n : ℕ) → n ≤ 12 → n * (n + 1) / 2 ≤ 78
-half-few n h =
-    let more : n + 1 ≤ 13 = omega arith in
-    let double : n * (n + 1) ≤ 12 * 13 = mul-le-mul h more in
-    omega arith
-
 pub table-fits : (sheet : List ℕ) → sheetOf sheet .fault .number ≡ 0 → entriesNeeded (pictureOf sheet) ≤ workRoom
-table-fits sheet z = let l = sheet-lies sheet z in mul-le-mul (half-few _ (l .rows-few)) (half-few _ (l .cols-few))
+table-fits sheet z = let l = sheet-lies sheet z in total-few _ _ _ (l .rows-few) (l .cols-few)
 
 pub tree-fits : (sheet : List ℕ) → sheetOf sheet .fault .number ≡ 0 → numbersNeeded (pictureOf sheet) ≤ treeRoom
 tree-fits sheet z = let l = sheet-lies sheet z in omega (arith, l .area-few)

@@ -32,7 +32,7 @@ use Rattle.sizes.specs.Outcome.{Outcome, refused, carded, roomed, sizeCa
 use Rattle.sizes.specs.inner.Masks.{Small}
 use Rattle.sizes.specs.inner.Rows.{CardMade}
 
--- ---- the ways down
+-- ── The ways down ──
 
 module _ (book slice : List ℕ) where
   pub book-first : (bookOf book .fault .number ≡ 0 → ⊥) → sizeCard book slice ≡ refused (blaming 1 (bookOf book .fault)) slice
@@ -52,7 +52,7 @@ module _ (book slice : List ℕ) where
     unfolding roomed
     with-room h = then-room ∙ simp (le-ltb (length slice) greatest h)
 
--- ---- as the call goes them, with what it read
+-- ── As the call goes them, with what it read ──
 
 body-small : (m n : ℕ) (x : Body) → m ≤ 32 → n ≤ 64 → BodyFits m n x → BodyFits 32 64 x
 body-small m n (Colour c) h k f = omega arith
@@ -105,7 +105,7 @@ module _ (book : List ℕ) (r : BookRead) (read : r ≡ bookOf book) where
         → Answers (sizeCard book slice) (record { answer = a; sizes = n }) after
     read-writes = rw read (writes book slice a)
 
--- ---- every answer packs
+-- ── Every answer packs ──
 
 each-few : {A : Type 0} (n m : ℕ) (f : ℕ → List A) → ((i : ℕ) → length (f i) ≤ m) → length (each n f) ≤ n * m
 unfolding each

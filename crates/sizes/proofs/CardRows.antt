@@ -31,7 +31,7 @@ use Rattle.sizes.proofs.CardRight.{card-length}
 use Rattle.sizes.proofs.Counting.{sizes-counted, set-bits-append}
 use Rattle.sizes.proofs.Listing.{each-length}
 
--- ---- one row, bit by bit
+-- ── One row, bit by bit ──
 
 bit-worth : (x j : ℕ) → x < 2 → x * 2 ^ j ≡ pick (eqb x 1) (2 ^ j) 0
 bit-worth zero j h = zero-mul (2 ^ j)
@@ -54,7 +54,7 @@ pub row-ones : (t : List ℕ) (n a at : ℕ) → ones (rowOf t n a at) ≤ n
 unfolding rowOf
 row-ones t n a at = ones-le n _ (bits-lt n (λ j. eqb (bit (getD t (at + j) 0) a) 1))
 
--- ---- all rows, one after the other
+-- ── All rows, one after the other ──
 
 module _ (t : List ℕ) (n a : ℕ) where
   pub rows-length : (i : ℕ) → length (rowsOf t n a i) ≡ i
@@ -86,7 +86,7 @@ module _ (t : List ℕ) (n a : ℕ) where
         written = q ∙ ap₂ (λ (k m : ℕ). rowsOf t n a k ++ drop m before) e (e ∙ sym (rows-length n));
       }
 
--- ---- the rows of a table that is right
+-- ── The rows of a table that is right ──
 
 bits-same : (n : ℕ) (f g : ℕ → Bool) → ((j : ℕ) → j < n → f j ≡ g j) → bits n f ≡ bits n g
 unfolding bits

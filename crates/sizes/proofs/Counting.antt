@@ -15,7 +15,7 @@ use Rattle.pieces.proofs.Entries.{bits-lt}
 use Rattle.sizes.specs.Size.{by}
 use Rattle.sizes.specs.Card.{sized?, cardRow, card, sizesOf, setBits}
 
--- ---- one row
+-- ── One row ──
 
 one-more : (k x : ℕ) (t : Bool) → x < 2 ^ k → ones (x + pick t (2 ^ k) 0) ≡ ones x + pick t 1 0
 one-more k x true h =
@@ -35,7 +35,7 @@ row-counted (suc n) test f =
     ∙ ap₂ _+_ (row-counted n test f) (sym (one-listed (test n) (f n)))
     ∙ sym (length-append (each n (λ j. pick (test j) (f j ∷ []) [])) (pick (test n) (f n ∷ []) []))
 
--- ---- all rows
+-- ── All rows ──
 
 pub set-bits-append : (xs ys : List ℕ) → setBits (xs ++ ys) ≡ setBits xs + setBits ys
 unfolding setBits

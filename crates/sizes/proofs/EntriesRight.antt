@@ -9,8 +9,8 @@ use Rattle.books.specs.Contents.{Contents}
 use Rattle.books.specs.Keeps.{Sound}
 use Rattle.books.specs.declared.rule.Dir.the-variants.{Across as across, Down as down}
 use Rattle.books.specs.declared.rule.Dir.{Dir}
-use Rattle.pieces.specs.inner.Firing.{allFired}
-use Rattle.pieces.specs.inner.Rights.{cutsOf}
+use Rattle.pieces.specs.inner.Along.{allFired}
+use Rattle.pieces.specs.Filling.{cutsOf}
 use Rattle.pieces.proofs.Gathered.{gathered-same}
 use Rattle.pieces.proofs.PartsRight.{parts-right}
 use Rattle.sizes.specs.Size.{Size, reach, firstPart, restPart}

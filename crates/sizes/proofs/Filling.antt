@@ -57,7 +57,7 @@ module _ (j : Joins) (n k : ℕ) (before t : List ℕ) (e : ℕ) (old : Filled j
   pub filling-step : Filled j n (k + 1) before (set t k e)
   filling-step = record { right = step }
 
--- ---- from the rules to the table
+-- ── From the rules to the table ──
 
 module _ (rules : List Rule) (count : ℕ) (few : count ≤ length rules) (b : Contents) (same : b .rules ≡ take count rules) where
   fires-taken : (d : Dir) (l r : ℕ) → firesOf d rules count l r ≡ firesOf d (b .rules) (length (b .rules)) l r

@@ -12,11 +12,12 @@ use Rattle.books.specs.declared.rule.Rule.{Rule}
 use Rattle.books.specs.declared.rule.Body.{Body}
 use Rattle.books.specs.declared.rule.Body.the-variants.{Colour, Across, Down}
 use Rattle.names.specs.Bits.{bit}
-use Rattle.pieces.specs.inner.Firing.{firing, allFired}
-use Rattle.pieces.specs.inner.Rights.{Fires}
+use Rattle.pieces.specs.Firing.{firing}
+use Rattle.pieces.specs.inner.Along.{allFired}
+use Rattle.pieces.specs.Rights.{Fires}
 use Rattle.names.proofs.Bits.{none-set}
-use Rattle.pieces.proofs.Gathered.{firing-has, has-firing}
-use Rattle.pieces.proofs.LaidJoins.{all-has, has-all, fires-by}
+use Rattle.pieces.proofs.Gathered.{firing-has, has-firing, all-has, has-all}
+use Rattle.pieces.proofs.ServingMasks.{fires-by}
 use Rattle.sizes.specs.inner.Entries.{Joins, Serves}
 use Rattle.sizes.specs.inner.Masks.{ruleMasks, fires, firesOf}
 use Rattle.sizes.proofs.Laying.{none-fires}
@@ -29,7 +30,7 @@ module _ (l r : ℕ) where
   abbrev pub Fired : Dir → ℕ → Rule → Type 0
   Fired d a q = (x : ℕ) × (y : ℕ) × (q ≡ rule a (joins d x y)) × (bit l x ≡ 1) × (bit r y ≡ 1)
 
-  -- ---- one rule
+  -- ── One rule ──
 
   abbrev gives : Dir → ℕ → Body → ℕ
   gives d h x = firing l r (ruleMasks d h x .first) (ruleMasks d h x .second) (ruleMasks d h x .head)
@@ -48,7 +49,7 @@ module _ (l r : ℕ) where
   has-body across a x y p q = has-firing l r x y a p q
   has-body down a x y p q = has-firing l r x y a p q
 
--- ---- all rules
+-- ── All rules ──
 
 abbrev fired : Dir → ℕ → ℕ → Rule → ℕ
 fired d l r q = gives l r d (q .head) (q .body)

@@ -15,13 +15,14 @@ use Rattle.books.specs.Rules.{noRule}
 use Rattle.books.specs.declared.rule.Rule.{Rule}
 use Rattle.books.specs.declared.rule.Body.{Body}
 use Rattle.books.specs.declared.rule.Body.the-variants.{Colour, Across, Down}
-use Rattle.pieces.specs.inner.Firing.{firing, gathered, allFired}
-use Rattle.pieces.specs.inner.Layout.{mostRules, secondsFrom, headsFrom, joinMasks}
+use Rattle.pieces.specs.Firing.{firing, gathered}
+use Rattle.pieces.specs.inner.Along.{allFired}
+use Rattle.pieces.specs.Masks.{mostRules, secondsFrom, headsFrom, joinMasks}
 use Rattle.pieces.proofs.Gathered.{gathered-next, gathered-same}
 use Rattle.sizes.specs.declared.masks.Masks.{Masks}
 use Rattle.sizes.specs.inner.Masks.{ruleMasks, fires, firesOf, Laid, putMasks}
 
--- ---- one rule
+-- ── One rule ──
 
 counted : (d : Dir) (a : ℕ) (x : Body) → (ruleMasks d a x .joins ≡ 1) ⊎ ((ruleMasks d a x .joins ≡ 0) × (ruleMasks d a x .first ≡ 0))
 counted d a (Colour c) = inr (refl, refl)
@@ -35,7 +36,7 @@ pub none-fires : (l r x y : ℕ) → firing l r 0 x y ≡ 0
 unfolding firing
 none-fires l r x y = rw (eq-eqb _ 0 (and-zero-r l))
 
--- ---- three masks at a place
+-- ── Three masks at a place ──
 
 module _ (masks : List ℕ) (n : ℕ) (m : Masks) (long : length masks ≡ joinMasks) (low : n < mostRules) where
   abbrev one : List ℕ
@@ -82,7 +83,7 @@ module _ (masks : List ℕ) (n : ℕ) (m : Masks) (long : length masks ≡ joinM
   put-long : length (putMasks masks n m) ≡ joinMasks
   put-long = length-set two (headsFrom + n) (m .head) ∙ length-set one (secondsFrom + n) (m .second) ∙ length-set masks n (m .first) ∙ long
 
--- ---- one rule more
+-- ── One rule more ──
 
 pub laying-start : (d : Dir) (rules : List Rule) (masks : List ℕ) → length masks ≡ joinMasks → Laid d rules 0 masks 0
 unfolding allFired firesOf gathered

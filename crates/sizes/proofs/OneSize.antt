@@ -39,7 +39,7 @@ slot-told rules few start k t made =
           ∙ entry-tells b s (b .start) (sound .start-fits);
     }
 
--- ---- the places of a card
+-- ── The places of a card ──
 
 -- rows and columns that a card has
 pub record Placed (m n : ℕ) : Type 0 where
@@ -70,7 +70,7 @@ placed m n e =
 pub slot-low : (m n : ℕ) → Placed m n → slot greatest (by m n) < room
 slot-low m n p = omega (arith, p)
 
--- ---- what a card has
+-- ── What a card has ──
 
 module _ (book : List ℕ) (m n : ℕ) where
   pub refused-none : (bookOf book .fault .number ≡ 0 → ⊥) → cardHas book m n ≡ false
@@ -114,7 +114,7 @@ module _ (book : List ℕ) (m n : ℕ) (r : BookRead) (read : r ≡ bookOf book)
       → SlotTold (r .family .rules) (r .family .count) (r .family .start) (slot greatest (by m n)) has → has ≡ cardHas book m n
   read-placed = rw read (told-placed book m n)
 
--- ---- exactly the sizes of the family, and the bits of its card
+-- ── Exactly the sizes of the family, and the bits of its card ──
 
 module _ (book : List ℕ) (fine : bookOf book .fault .number ≡ 0) (m n : ℕ) (p : Placed m n) where
   pub size-exactly : (cardHas book m n ≡ true) ↔ Sized (contentsOf book) m n

@@ -14,11 +14,10 @@ use Rattle.books.specs.declared.rule.Rule.{Rule}
 use Rattle.books.specs.declared.rule.Body.{Body}
 use Rattle.books.specs.declared.rule.Body.the-variants.{Colour, Across, Down}
 use Rattle.names.specs.Bits.{bit}
-use Rattle.pieces.specs.inner.Firing.{gathered}
-use Rattle.pieces.specs.inner.Rights.{Painted}
+use Rattle.pieces.specs.Firing.{gathered}
+use Rattle.pieces.specs.Rights.{Painted}
 use Rattle.names.proofs.Bits.{none-set, bit-pow, pow-has}
-use Rattle.pieces.proofs.Gathered.{gathered-same}
-use Rattle.pieces.proofs.LaidJoins.{all-has, has-all}
+use Rattle.pieces.proofs.Gathered.{gathered-same, all-has, has-all}
 use Rattle.pieces.proofs.PartsRight.{cell-right}
 use Rattle.sizes.specs.Size.{reach, by}
 use Rattle.sizes.specs.HasSize.{sizes}

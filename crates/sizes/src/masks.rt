@@ -5,7 +5,7 @@ ghost use mathlib.Core.Path.{_≡_};
 ghost use Prim.Native.Nat.{_^_, _<_};
 ghost use lib.ListN.{length};
 ghost use Rattle.books.specs.Keeps.{RuleFits};
-ghost use Rattle.pieces.specs.inner.Layout.{joinMasks};
+ghost use Rattle.pieces.specs.Masks.{joinMasks};
 ghost use Rattle.sizes.specs.inner.Masks.{dirOf, noJoin, oneJoin, ruleMasks, painterOf, paintersOf, Small, Laid};
 
 // A family has at most so many rules. The masks of the joins of one way stand in three rows: their first parts, their second parts and their heads.

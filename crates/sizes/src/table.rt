@@ -10,8 +10,9 @@ ghost use mathlib.Core.Path.{_≡_};
 ghost use Prim.Native.Nat.{_+_, _*_, _≤_, _<_};
 ghost use lib.ListN.{length};
 ghost use Rattle.books.specs.Size.{greatest, room};
-ghost use Rattle.pieces.specs.inner.Firing.{firing, allFired};
-ghost use Rattle.pieces.specs.inner.Layout.{mostRules, joinMasks};
+ghost use Rattle.pieces.specs.Firing.{firing};
+ghost use Rattle.pieces.specs.inner.Along.{allFired};
+ghost use Rattle.pieces.specs.Masks.{mostRules, joinMasks};
 ghost use Rattle.sizes.specs.inner.Masks.{Small};
 ghost use Rattle.sizes.specs.inner.Entries.{along, joins, LaidOut, entryAt, Filled, SizesMade};
 

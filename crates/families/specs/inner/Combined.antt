@@ -39,7 +39,13 @@ pairRules EitherOf f g numbers =
 pairRules (Joined way) f g numbers =
     followed (bothRules f g numbers) (record { head = f .motifs + g .motifs; body = joins way (f .start) (f .motifs + g .start) } ∷ [])
 
-unfoldable pub repeatedRules : Dir → Family → Rules
-repeatedRules d f =
-    followed (followed (rulesOf f) (copies (f .motifs) (f .start) (standing (rulesOf f))))
-    (record { head = f .motifs; body = joins d (f .start) (f .motifs) } ∷ [])
+-- one family as it is read, with room for the copies under a new start and the rule that joins
+pub record RepeatFits (f : Family) (new : ℕ) : Type 0 where
+  pub own : Sized f
+  pub new-fits : new ≤ 32
+  pub room : f .count + headed (f .start) (standing (rulesOf f)) + 1 ≤ 200
+
+unfoldable pub repeatedRules : Dir → Family → ℕ → Rules
+repeatedRules d f new =
+    followed (followed (rulesOf f) (copies new (f .start) (standing (rulesOf f))))
+    (record { head = new; body = joins d (f .start) new } ∷ [])

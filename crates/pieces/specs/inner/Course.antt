@@ -3,7 +3,7 @@ use Prim.Native.Nat.{ℕ, zero, suc, _+_, _-_, _*_, _≤_, _<_, _^_}
 use Rattle.books.specs.declared.rule.Dir.the-variants.{Across as across, Down as down}
 use Rattle.books.specs.declared.rule.Dir.{Dir}
 use Rattle.pieces.specs.Pieces.{stretches, slotOf}
-use Rattle.pieces.specs.Parts.{extent, firstPart}
+use Rattle.pieces.specs.Parts.{reach, firstPart}
 use Rattle.pieces.specs.declared.piece.Piece.{Piece}
 use Rattle.pieces.specs.declared.course.Course.{Course}
 
@@ -58,10 +58,10 @@ shorter down n p = stretches n (p .width)
 unfoldable pub courseOf : Dir → ℕ → ℕ → Piece → Course
 courseOf d m n p =
     record {
-      cuts = extent d p - 1;
+      cuts = reach d p - 1;
       first = slotOf m n (firstPart d 1 p);
       rise = cells d m n * change d m n p - short d n p;
       second = slotOf m n p;
-      fall = (cells d m n + 2 - extent d p) * change d m n p - shorter d n p;
+      fall = (cells d m n + 2 - reach d p) * change d m n p - shorter d n p;
       change = change d m n p;
     }

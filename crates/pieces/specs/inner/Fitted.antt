@@ -13,14 +13,14 @@ use Rattle.pieces.specs.declared.part.Part.{Part}
 use Rattle.books.specs.declared.rule.Dir.{Dir}
 use Rattle.books.specs.declared.rule.Dir.the-variants.{Across as across, Down as down}
 use Rattle.pieces.specs.declared.choice.Choice.the-variants.{Join}
-use Rattle.pieces.specs.Parts.{extent, firstPart, restPart}
+use Rattle.pieces.specs.Parts.{reach, firstPart, restPart}
 use Rattle.pieces.specs.View.{View}
 use Rattle.pieces.specs.Choice.{choose}
 
 -- a cut of a piece whose two parts have their bits set
 pub record BothSet (has : ℕ → Piece → Bool) (d : Dir) (l r : ℕ) (q : Piece) (k : ℕ) : Type 0 where
   pub from-one : 1 ≤ k
-  pub inside : k < extent d q
+  pub inside : k < reach d q
   pub first-set : has l (firstPart d k q) ≡ true
   pub rest-set : has r (restPart d k q) ≡ true
 

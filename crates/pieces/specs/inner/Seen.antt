@@ -48,3 +48,17 @@ pub record Tabled (s : Size) (work : List ℕ) : Type 0 where
 pub record Ready (s : Size) (work colours : List ℕ) : Type 0 where
   pub tabled : Tabled s work
   pub cells : s .rows * s .cols ≤ length colours
+
+-- the same at a piece of the sheet
+pub record TabledAt (s : Size) (work : List ℕ) (q : Piece) : Type 0 where
+  pub tabled : Tabled s work
+  pub on : On s q
+
+pub record Coloured (s : Size) (colours : List ℕ) (q : Piece) : Type 0 where
+  pub sizes : Room (s .rows) (s .cols)
+  pub cells : s .rows * s .cols ≤ length colours
+  pub on : On s q
+
+pub record ReadyAt (s : Size) (work colours : List ℕ) (q : Piece) : Type 0 where
+  pub ready : Ready s work colours
+  pub on : On s q

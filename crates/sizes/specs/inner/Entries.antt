@@ -11,8 +11,9 @@ use Rattle.books.specs.declared.rule.Dir.{Dir}
 use Rattle.books.specs.Size.{greatest}
 use Rattle.books.specs.declared.rule.Rule.{Rule}
 use Rattle.names.specs.Bits.{bits}
-use Rattle.pieces.specs.inner.Firing.{gathered, allFired}
-use Rattle.pieces.specs.inner.Layout.{mostRules, joinMasks}
+use Rattle.pieces.specs.Firing.{gathered}
+use Rattle.pieces.specs.inner.Along.{allFired}
+use Rattle.pieces.specs.Masks.{mostRules, joinMasks}
 use Rattle.sizes.specs.Size.{Size, by}
 use Rattle.sizes.specs.Test.{hasSize?}
 use Rattle.sizes.specs.inner.Masks.{firesOf}

@@ -10,8 +10,9 @@ use Rattle.books.specs.Rules.{noRule}
 use Rattle.books.specs.declared.rule.Rule.{Rule}
 use Rattle.books.specs.declared.rule.Body.{Body}
 use Rattle.books.specs.declared.rule.Body.the-variants.{Colour, Across, Down}
-use Rattle.pieces.specs.inner.Firing.{firing, gathered, allFired}
-use Rattle.pieces.specs.inner.Layout.{mostRules, secondsFrom, headsFrom, joinMasks}
+use Rattle.pieces.specs.Firing.{firing, gathered}
+use Rattle.pieces.specs.inner.Along.{allFired}
+use Rattle.pieces.specs.Masks.{mostRules, secondsFrom, headsFrom, joinMasks}
 use Rattle.sizes.specs.declared.masks.Masks.{Masks}
 use Rattle.sizes.specs.declared.masks.Way.{Way}
 use Rattle.sizes.specs.declared.masks.Way.the-variants.{Across as AcrossWay, Down as DownWay}

@@ -17,10 +17,10 @@ abbrev began : tie.After-raise-rules → tie.Start
 began c = c .before .before .before
 
 -- where both families' rules were gathered, from where the numbers of the new start and of the second start are known
-abbrev gathered : tie.After-struct-known4 → tie.After-add-rules
-gathered c = c .before .before .before .before
+abbrev gathered : tie.After-struct-known3 → tie.After-add-rules
+gathered c = c .before .before .before
 
-abbrev rose : tie.After-struct-known4 → tie.After-raise-rules
+abbrev rose : tie.After-struct-known3 → tie.After-raise-rules
 rose c = gathered c .before
 
 raise-rules-requires : tie.Need-raise-rules-requires

@@ -11,18 +11,18 @@ use Rattle.families.proofs.combining.repeated_rules.Statement.{statemen
 use Rattle.families.proofs.combining.repeated_rules.Tie as tie
 
 add-copies-requires : tie.Need-add-copies-requires
-add-copies-requires c κs = let p = c .before .pre in simp (c .rules-of .ensures) (omega (arith, p .1), p .0 .rows, omega (arith, p .0 .motifs-few))
+add-copies-requires c κs = let p = c .before .pre in simp (c .rules-of .ensures) (omega (arith, p .room), p .own .rows, omega (arith, p .new-fits))
 
 -- the family's rules with the copies
-gathered : (c : tie.After-add-copies) → let f = c .before .before .args .f in
-    c .add-copies .result ≡ followed (rulesOf f) (copies (f .motifs) (f .start) (standing (rulesOf f)))
+gathered : (c : tie.After-add-copies) → let a = c .before .before .args in
+    c .add-copies .result ≡ followed (rulesOf (a .f)) (copies (a .new) (a .f .start) (standing (rulesOf (a .f))))
 gathered c = simp (c .before .rules-of .ensures) at (c .add-copies .ensures)
 
 add-rule-requires : tie.Need-add-rule-requires
 add-rule-requires c κs =
-    let f = c .before .before .before .args .f in
-    let count = copies-length (f .motifs) (f .start) (standing (rulesOf f)) in
-    simp (gathered (c .before)) (omega (arith, c .before .before .before .pre .1))
+    let a = c .before .before .before .args in
+    let count = copies-length (a .new) (a .f .start) (standing (rulesOf (a .f))) in
+    simp (gathered (c .before)) (omega (arith, c .before .before .before .pre .room))
 
 returns : tie.Need-returns
 unfolding repeatedRules

@@ -47,7 +47,9 @@ room : (c : tie.Then1) → let f = began (c .before .before) .args .f in f .coun
 room c = few-true _ _ _ (sym (counts (c .before)) ∙ c .if1 .taken) .2
 
 repeated-rules-requires : tie.Need-repeated-rules-requires
-repeated-rules-requires c κs = (began (c .before .before) .pre, room c)
+repeated-rules-requires c κs =
+    let p = began (c .before .before) .pre in
+    record { own = p; new-fits = omega (arith, p .motifs-few, p .start-fits); room = room c }
 
 returns : tie.Need-returns
 returns c s t =

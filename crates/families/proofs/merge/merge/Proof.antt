@@ -40,8 +40,8 @@ loop-again c =
     let less = t .loop-test .taken in
     let is = found (c .before) in
     ⊎-elim
-    (λ w. rw (w .1, w .2, is) (so-far-held _ (a .t2) _ (a .t4) (p .0) (p .1) (l .i) _ _ less (l .inv) (rw is at (w .0 .taken))))
-    (λ w. rw (w .1, w .2) (so-far-new _ (a .t2) _ (a .t4) (p .0) (p .1) (l .i) _ _ less (l .inv) (rw is at (w .0 .left))))
+    (λ w. rw (w .1, w .2) (so-far-held _ (a .t2) _ (a .t4) (p .0) (p .1) (l .i) _ _ less (l .inv) _ is (w .0 .taken)))
+    (λ w. rw (w .1, w .2) (so-far-new _ (a .t2) _ (a .t4) (p .0) (p .1) (l .i) _ _ less (l .inv) _ is (w .0 .left)))
     (c .if1 .came)
 
 returns : tie.Need-returns Inv-loop μ-loop

@@ -1,13 +1,15 @@
--- Each test ends in one of the four ways to answer; where none does, the bit is read in the table that was filled.
+-- Each test is one of the definition's; where none ends it, the bit is read in the table that was filled.
 use mathlib.Core.Path.{sym, ap, _∙_}
-use Prim.Native.Nat.{_≤_}
+use mathlib.Core.List.{List}
+use Prim.Native.Nat.{ℕ, _≤_}
 use native.Mathlib.Nat.{le-trans, lt-of-lt-of-le, le-of-eq}
-use lib.ListN.{length}
+use borrow.Author.Tests.{eq-eqb, ne-eqb, lt-ltb, le-ltb}
 use denote.Ref.{now}
-use Rattle.books.specs.Answer.{plain}
+use lib.ListN.{length}
 use Rattle.pieces.specs.Pieces.{total}
-use Rattle.pieces.specs.inner.Told.{Shows, faulty, short, unfitting, answered}
-use Rattle.pieces.proofs.AskingSheets.{fitting-placed}
+use Rattle.pieces.specs.Asking.{judgedBy, toldBy}
+use Rattle.pieces.specs.inner.Placed.{Shows}
+use Rattle.pieces.proofs.ServingMasks.{fitting-placed}
 use borrow.Author.Needs.{needs}
 use Rattle.pieces.proofs.asking.tell.Statement.{statement}
 use Rattle.pieces.proofs.asking.tell.Tie as tie
@@ -27,22 +29,28 @@ abbrev tested : tie.After-fill-from → tie.After-fits2
 tested w = w .before .before .before .before .before
 
 returns : tie.Need-returns
-returns c = rw (c .blame .ensures) (faulty (c .before .if1 .taken))
+unfolding toldBy
+returns c =
+    let i = c .before in
+    rw (c .blame .ensures, ne-eqb (i .before .before .before .before .args .s .fault .number) 0 (i .if1 .taken))
 
 count-requires : tie.Need-count-requires
 count-requires c κs = c .before .before .before .before .pre (c .if1 .left) .sizes
 
 returns-2 : tie.Need-returns-2
+unfolding toldBy
 returns-2 c =
     let k = c .before .before in
-    rw (c .unblamed .ensures) (short (k .before .if1 .left) (lt-of-lt-of-le (c .before .if2 .taken) (le-of-eq (k .count .ensures .0))))
+    let a = k .before .before .before .before .before .args in
+    let short = lt-of-lt-of-le (c .before .if2 .taken) (le-of-eq (k .count .ensures .0)) in
+    rw (c .unblamed .ensures, eq-eqb (a .s .fault .number) 0 (k .before .if1 .left), lt-ltb (length (now (a .work))) (total (a .s .rows) (a .s .cols)) short)
 
 fill-from-requires : tie.Need-fill-from-requires
 fill-from-requires c κs =
     let y = c .before .before .before in
     let t = y .before in
     let s = shows t in
-    ((s .sizes, enough t), (fitting-placed _ _ (sym (t .fits2 .ensures) ∙ y .if3 .taken), (s .cells-all, s .cells-low)))
+    (record { sizes = s .sizes; entries = enough t }, fitting-placed _ _ (sym (t .fits2 .ensures) ∙ y .if3 .taken), s .cells)
 
 whole-sheet-requires : tie.Need-whole-sheet-requires
 whole-sheet-requires c κs =
@@ -50,14 +58,31 @@ whole-sheet-requires c κs =
     record { sizes = shows (tested w) .sizes; entries = le-trans (enough (tested w)) (le-of-eq (sym (w .fill-from .kept .1 .1 .1 .1 .1 .0))) }
 
 returns-3 : tie.Need-returns-3
+unfolding toldBy
 returns-3 c =
     let w = c .before .before .before .before .before in
     let t = tested w in
-    rw (c .unblamed2 .ensures ∙ ap plain (c .before .whole-sheet .ensures))
-    (answered _ (t .before .before .before .if1 .left) (enough t) (w .fill-from .ensures) (sym (w .fill-from .kept .1 .1 .1 .1 .1 .0)))
+    let a = began t .args in
+    rw (
+      c .unblamed2 .ensures,
+      c .before .whole-sheet .ensures,
+      eq-eqb (a .s .fault .number) 0 (t .before .before .before .if1 .left),
+      le-ltb (length (now (a .work))) (total (a .s .rows) (a .s .cols)) (enough t),
+      sym (t .fits2 .ensures) ∙ w .before .before .before .before .if3 .taken,
+    )
+    (ap (judgedBy (a .s .rows) (a .s .cols) (a .start)) (w .fill-from .ensures))
 
 returns-4 : tie.Need-returns-4
-returns-4 c = rw (c .unblamed3 .ensures) (unfitting (sym (c .before .before .fits2 .ensures) ∙ c .before .if3 .left))
+unfolding toldBy
+returns-4 c =
+    let t = c .before .before in
+    let a = began t .args in
+    rw (
+      c .unblamed3 .ensures,
+      eq-eqb (a .s .fault .number) 0 (t .before .before .before .if1 .left),
+      le-ltb (length (now (a .work))) (total (a .s .rows) (a .s .cols)) (enough t),
+      sym (t .fits2 .ensures) ∙ c .before .if3 .left,
+    )
 
 pub tell-spec : {M : Type 1} → statement M
 tell-spec =

@@ -16,7 +16,7 @@ shared-slice-read-result : tie.Need-shared-slice-read-result
 shared-slice-read-result c =
     let t = c .before .before in
     let s = began t in
-    omega (arith, s .pre .2, t .times .ensures .0, cell-inside _ _ _ (s .pre .1))
+    omega (arith, s .pre .cells, t .times .ensures .0, cell-inside _ _ _ (s .pre .on))
 
 returns : tie.Need-returns
 unfolding hasColour

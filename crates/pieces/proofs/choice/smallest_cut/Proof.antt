@@ -8,6 +8,7 @@ use borrow.Author.Needs.{needs}
 use Rattle.pieces.specs.inner.Seen.{hasBit}
 use Rattle.pieces.specs.Choice.{works, cutOf}
 use Rattle.names.specs.Counted.{least}
+use Rattle.pieces.proofs.Cutting.{cut-in}
 use Rattle.pieces.proofs.PartsOfPieces.{first-inside, rest-inside}
 use Rattle.names.proofs.Least.{least-found, least-passed, least-none}
 use Rattle.pieces.proofs.choice.smallest_cut.Statement.{statement}
@@ -31,15 +32,19 @@ loop-holds c = (search needs, rw (c .reach .ensures))
 parts-of-requires : tie.Need-parts-of-requires Inv-loop μ-loop
 parts-of-requires c κs =
     let s = began (c .before) in
-    (omega (arith, c .loop-test .taken, c .before .before .reach .ensures), omega (arith, s .pre .0 .sizes, s .pre .1), omega (arith, s .pre .0 .sizes, s .pre .1))
+    cut-in _ _ _ (s .pre .on) (s .pre .tabled .sizes) _ _ (omega (arith, c .loop-test .taken, c .before .before .reach .ensures))
 
 both-have-requires : tie.Need-both-have-requires Inv-loop μ-loop
 both-have-requires c κs =
     let t = c .before .before in
     let s = began t in
     let inside = rw (t .before .reach .ensures) at (c .before .loop-test .taken) in
-    rw (c .parts-of .ensures)
-    (s .pre .0, first-inside (s .args .d) _ (s .pre .1) (t .loop .inv .0) (le-of-lt inside), rest-inside (s .args .d) _ (s .pre .1) inside)
+    let on = s .pre .on in
+    let d = s .args .d in
+    rw (c .parts-of .ensures) (
+      record { tabled = s .pre .tabled; on = first-inside d _ on (t .loop .inv .0) (le-of-lt inside) },
+      record { tabled = s .pre .tabled; on = rest-inside d _ on inside },
+    )
 
 -- What the test of a cut says.
 tried : (t : tie.After-both-have Inv-loop μ-loop) →

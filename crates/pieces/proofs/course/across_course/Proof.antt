@@ -22,12 +22,12 @@ sub-t10 : tie.Need-sub-t10
 sub-t10 c =
     let t = c .before in
     let s = began (slotted t) in
-    omega (arith, t .times .ensures .0, rise-begins across (s .pre .1) (s .pre .1 .wide))
+    omega (arith, t .times .ensures .0, rise-begins across (s .pre .inside) (s .pre .inside .wide))
 
 sub-t15 : tie.Need-sub-t15
 sub-t15 c =
     let t = c .before in
-    omega (arith, t .times2 .ensures .0, fall-begins across (began (slotted (stepped t)) .pre .1))
+    omega (arith, t .times2 .ensures .0, fall-begins across (began (slotted (stepped t)) .pre .inside))
 
 returns : tie.Need-returns
 returns c =
@@ -36,7 +36,7 @@ returns c =
     let first = slotted t in
     let s = began first in
     let top = s .args .p .top in
-    course-made across _ _ _ (first .slot .ensures .0) (ap (λ (x : ℕ). x - top) (t .times .ensures .0)) (s .pre .2)
+    course-made across _ _ _ (first .slot .ensures .0) (ap (λ (x : ℕ). x - top) (t .times .ensures .0)) (s .pre .slot-is)
     (ap (λ (x : ℕ). x - (top + 1)) (u .times2 .ensures .0)) refl
 
 pub across-course-spec : {M : Type 1} → statement M

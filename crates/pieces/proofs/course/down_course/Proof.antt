@@ -20,14 +20,14 @@ sub-t12 c =
     let all = measured c in
     let s = all .before in
     let rows = ap (λ (x : ℕ). s .args .m * x) (all .stretches-of .ensures .0) in
-    omega (arith, c .before .before .times .ensures .0, rows, c .stretches-of2 .ensures .0, rise-begins down (s .pre .1) (s .pre .1 .tall))
+    omega (arith, c .before .before .times .ensures .0, rows, c .stretches-of2 .ensures .0, rise-begins down (s .pre .inside) (s .pre .inside .tall))
 
 sub-t17 : tie.Need-sub-t17
 sub-t17 c =
     let all = measured (stepped c) in
     let s = all .before in
     let rows = ap (λ (x : ℕ). (s .args .m + 2 - s .args .p .height) * x) (all .stretches-of .ensures .0) in
-    omega (arith, c .before .times2 .ensures .0, rows, c .stretches-of3 .ensures .0, fall-begins down (s .pre .1))
+    omega (arith, c .before .times2 .ensures .0, rows, c .stretches-of3 .ensures .0, fall-begins down (s .pre .inside))
 
 returns : tie.Need-returns
 returns c =
@@ -37,7 +37,7 @@ returns c =
     let first = u .before .before .before .before .slot .ensures .0 in
     let rise = u .before .before .times .ensures .0 ∙ ap (λ (x : ℕ). s .args .m * x) all in
     let fall = c .before .times2 .ensures .0 ∙ ap (λ (x : ℕ). (s .args .m + 2 - s .args .p .height) * x) all in
-    course-made down _ _ _ first (ap₂ (λ (x y : ℕ). x - y) rise (u .stretches-of2 .ensures .0)) (s .pre .2)
+    course-made down _ _ _ first (ap₂ (λ (x y : ℕ). x - y) rise (u .stretches-of2 .ensures .0)) (s .pre .slot-is)
     (ap₂ (λ (x y : ℕ). x - y) fall (c .stretches-of3 .ensures .0)) all
 
 pub down-course-spec : {M : Type 1} → statement M

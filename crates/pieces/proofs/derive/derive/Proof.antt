@@ -8,7 +8,7 @@ use Rattle.names.proofs.SpellingNumbers.{Bytes}
 use Rattle.books.specs.Answer.{plain}
 use Rattle.pieces.specs.Area.{whole, treeSize}
 use Rattle.pieces.specs.Pieces.{total}
-use Rattle.pieces.proofs.Judging.{nothing-lacks}
+use Rattle.pieces.proofs.Lacking.{nothing-lacks}
 use Rattle.pieces.proofs.Orders.{Ordered, refused, ordered, lacks, fit, told}
 use borrow.Author.Needs.{needs}
 use Rattle.pieces.proofs.derive.derive.Statement.{statement}
@@ -72,7 +72,7 @@ fill-table-requires : tie.Need-fill-table-requires
 fill-table-requires c κs =
     let z = c .before .before .before .before in
     let o = kept (z .before) in
-    ((o .rules-small, o .sizes, enough (z .before) (z .if2 .left) .0), (o .cells-all, o .cells-low))
+    (o .rules-small, record { sizes = o .sizes; entries = enough (z .before) (z .if2 .left) .0 }, o .cells)
 
 slice-aggregate-judge : tie.Need-slice-aggregate-judge
 slice-aggregate-judge c = sym (kept (tested (c .before .before .before .before)) .cells-room)
@@ -86,11 +86,13 @@ judge-requires c κs =
     let long = le-trans (room .0) (le-of-eq (sym (t .fill-table .kept .1 .1 .1 .1 .1 .0))) in
     let k = order-read l in
     let a = began k .args in
-    let none = sym (l .lack .ensures) ∙ nothing t in (
-      (o .rules-small .few, record { tabled = record { sizes = o .sizes; entries = long }; cells = o .cells-all }, room .1),
-      fit _ _ (k .read-order .ensures) (book-bytes k) (sheet-bytes k) (l .before .if1 .left) (now (a .work)) (now (a .tree)) none _ (t .fill-table .ensures)
-          (sym (t .fill-table .kept .1 .1 .1 .1 .1 .0)),
-    )
+    let none = sym (l .lack .ensures) ∙ nothing t in
+    record {
+      ready = record { tabled = record { sizes = o .sizes; entries = long }; cells = o .cells .all };
+      few = o .rules-small .few;
+      room = room .1;
+      fitted = fit _ _ (k .read-order .ensures) (book-bytes k) (sheet-bytes k) (l .before .if1 .left) (now (a .work)) (now (a .tree)) none _ (t .fill-table .ensures);
+    }
 
 returns-3 : tie.Need-returns-3
 returns-3 c =
@@ -100,8 +102,7 @@ returns-3 c =
     let k = order-read l in
     let a = began k .args in
     let none = sym (l .lack .ensures) ∙ nothing t in
-    rw (told _ _ (k .read-order .ensures) (book-bytes k) (sheet-bytes k) (l .before .if1 .left) (now (a .work)) (now (a .tree)) none _ (t .fill-table .ensures)
-    (sym (t .fill-table .kept .1 .1 .1 .1 .1 .0)))
+    rw (told _ _ (k .read-order .ensures) (book-bytes k) (sheet-bytes k) (l .before .if1 .left) (now (a .work)) (now (a .tree)) none _ (t .fill-table .ensures))
     (record { answers = c .unblamed2 .ensures ∙ ap plain (j .judge .ensures .answers); leaves-work = refl; leaves-tree = j .judge .ensures .leaves })
 
 pub derive-spec : {M : Type 1} → statement M

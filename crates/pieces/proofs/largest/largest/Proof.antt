@@ -6,7 +6,9 @@ use Rattle.pieces.proofs.largest.largest.Statement.{statement}
 use Rattle.pieces.proofs.largest.largest.Tie as tie
 
 search-requires : tie.Need-search-requires
-search-requires c κs = fits-room _ _ _ (sym (c .before .fits-table .ensures) ∙ c .if1 .taken)
+search-requires c κs =
+    let (sizes, entries) = fits-room _ _ _ (sym (c .before .fits-table .ensures) ∙ c .if1 .taken) in
+    record { sizes = sizes; entries = entries }
 
 returns : tie.Need-returns
 returns c = let t = c .before in c .search .ensures ∙ sym (in-table _ _ _ _ (sym (t .before .fits-table .ensures) ∙ t .if1 .taken))

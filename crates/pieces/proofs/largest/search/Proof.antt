@@ -35,25 +35,25 @@ unfolding marked
 counted t = rw (t .before .before .before .loop .inv .here) (t .area-with .ensures)
 
 loop-holds : tie.Need-loop-holds Inv-loop μ-loop
-loop-holds c = let r = c .before .before .pre .0 in search-start _ _ _ (r .rows-some) (r .cols-some)
+loop-holds c = let r = c .before .before .pre .sizes in search-start _ _ _ (r .rows-some) (r .cols-some)
 
 mul-area-with : tie.Need-mul-area-with Inv-loop μ-loop
 mul-area-with c = omega (arith, c .before .before .count .ensures, due c)
 
 shared-slice-read-area-with : tie.Need-shared-slice-read-area-with Inv-loop μ-loop
-shared-slice-read-area-with c = omega (arith, began (c .before .before) .pre .1, due (c .before))
+shared-slice-read-area-with c = omega (arith, began (c .before .before) .pre .entries, due (c .before))
 
 area-with-requires : tie.Need-area-with-requires Inv-loop μ-loop
 area-with-requires c κs =
     let t = c .before .before in
-    let room = began t .pre .0 in
+    let room = began t .pre .sizes in
     let i = t .loop .inv .inside (due (c .before)) in
     (omega (arith, i, room), omega (arith, i, room))
 
 next-requires : tie.Need-next-requires Inv-loop μ-loop
 next-requires c κs =
     let l = c .before .before .before in
-    (began (l .before) .pre .0, l .before .loop .inv .inside (due l))
+    (began (l .before) .pre .sizes, l .before .loop .inv .inside (due l))
 
 loop-again : tie.Need-loop-again Inv-loop μ-loop
 loop-again c =

@@ -5,8 +5,8 @@ use borrow.Author.Needs.{needs}
 use Rattle.pieces.proofs.masks.put.Statement.{statement}
 use Rattle.pieces.proofs.masks.put.Tie as tie
 
-slice-write-rules-2 : tie.Need-slice-write-rules-2
-slice-write-rules-2 c = simp length-set (omega arith)
+slice-write-masks-2 : tie.Need-slice-write-masks-2
+slice-write-masks-2 c = simp length-set (omega arith)
 
 returns : tie.Need-returns
 returns c = rw (c .before .before .mask .ensures, c .before .mask2 .ensures, c .mask3 .ensures)
@@ -21,7 +21,7 @@ put-spec =
     (λ c κs. search needs)
     (λ c. search needs)
     (λ c. search needs)
-    slice-write-rules-2
+    slice-write-masks-2
     (λ c κs. search needs)
     (λ c. search needs)
     (λ c. search needs)

@@ -1,41 +1,65 @@
--- The masks are laid out rule by rule.
-use mathlib.Core.Path.{_≡_, ap, subst}
-use Prim.Native.Nat.{_-_, _≤_}
+-- The rules are put one after the other: what is left, split from here, is the whole.
+use mathlib.Core.Path.{_≡_, refl, sym, ap, _∙_}
+use mathlib.Core.List.{List}
+use Prim.Native.Nat.{ℕ, _+_, _-_, _≤_}
 use native.Mathlib.Omega.{arith}
-use lib.ListN.{length}
-use Rattle.pieces.proofs.Laying.{Laying, laying-start, laying-step, laying-end}
+use lib.ListN.{getD, take, drop}
+use Rattle.names.proofs.Count.{left-suc}
+use Rattle.books.specs.Rules.{noRule}
+use Rattle.pieces.specs.Masks.{masked, noJoins, splitFrom, splitOf}
+use Rattle.pieces.proofs.Splitting.{Roomy, more-roomy, one-split, all-split}
 use borrow.Author.Needs.{needs}
 use Rattle.pieces.proofs.masks.split.Statement.{statement}
 use Rattle.pieces.proofs.masks.split.Tie as tie
 
 abbrev Inv-loop : tie.InvT-loop
-Inv-loop count rules₀ family joins₀ i₀ rules joins i = (i ≤ count) × Laying family rules joins i
+Inv-loop count masks₀ family joins₀ i₀ masks joins i =
+    (i ≤ count) × Roomy (count - i) (masked masks joins)
+    × (splitFrom (drop i (take count family)) (masked masks joins) ≡ splitFrom (take count family) (masked masks₀ joins₀))
 
 abbrev μ-loop : tie.MeasureT-loop
-μ-loop count rules₀ family joins₀ i₀ rules joins i = count - i
+μ-loop count masks₀ family joins₀ i₀ masks joins i = count - i
 
 loop-holds : tie.Need-loop-holds Inv-loop μ-loop
-loop-holds c = (omega arith, laying-start _ _ (c .before .pre .1))
+loop-holds c =
+    let k = c .before .before in
+    let s = k .before .before .before in
+    (omega arith, record { long = omega (arith, k .clear .kept .0, s .pre .1); free = omega (arith, s .pre .0 .few) }, refl)
 
 put-rule-requires : tie.Need-put-rule-requires Inv-loop μ-loop
 put-rule-requires c κs =
     let t = c .before .before .before in
     let v = t .loop .inv .1 in
-    (v .long, omega arith, omega arith, t .before .before .pre .0 .small (t .loop .i) (c .before .before .loop-test .taken))
+    let s = t .before .before .before .before .before .before in
+    (v .long, omega (arith, v .free), omega (arith, v .free), s .pre .0 .small (t .loop .i) (c .before .before .loop-test .taken))
 
 loop-again : tie.Need-loop-again Inv-loop μ-loop
 loop-again c =
-    let t = c .before .before .before .before .before .before in
-    let a = c .before .before .put-rule in
-    (omega arith, laying-step _ _ _ _ _ _ (omega arith) (t .loop .inv .1) (a .ensures .0) (a .ensures .1))
+    let p = c .before .before in
+    let t = p .before .before .before .before in
+    let s = t .before .before .before .before .before .before in
+    let a = s .args in
+    let before = masked (t .loop .masks) (t .loop .joins) in
+    let q = getD (a .t1) (t .loop .i) noRule in
+    let low = p .before .before .before .loop-test .taken in
+    let roomy = rw (left-suc (a .count) (t .loop .i) low) at (t .loop .inv .1) in (
+      omega arith,
+      rw (p .put-rule .ensures) (more-roomy _ before roomy (q .head) (q .body)),
+      ap (splitFrom (drop (t .loop .i + 1) (take (a .count) (a .t1)))) (p .put-rule .ensures) ∙ sym (one-split (a .t1) (a .count) (s .pre .0 .held) before (t .loop .i) low) ∙ t .loop .inv .2,
+    )
 
 same-length : tie.Need-same-length Inv-loop μ-loop
-same-length c = omega (arith, c .before .loop .inv .1 .long, ap length (c .before .before .before .pre .1))
+same-length c = omega (arith, c .before .loop .inv .1 .long, c .before .before .before .before .before .before .before .pre .1)
 
 returns : tie.Need-returns Inv-loop μ-loop
+unfolding splitOf
 returns c =
-    let e : c .before .loop .i ≡ c .before .before .before .args .count = omega arith in
-    laying-end _ _ _ _ (subst (Laying _ _ _) e (c .before .loop .inv .1))
+    let t = c .before in
+    let k = t .before .before .before in
+    let s = k .before .before .before in
+    let a = s .args in
+    sym (all-split (a .t1) (a .count) (s .pre .0 .held) (masked (t .loop .masks) (t .loop .joins)) (t .loop .i) (omega arith))
+    ∙ t .loop .inv .2 ∙ ap (λ (l : List ℕ). splitFrom (take (a .count) (a .t1)) (masked l noJoins)) (k .clear .ensures)
 
 pub split-spec : {M : Type 1} → statement M
 split-spec =
@@ -43,6 +67,7 @@ split-spec =
     (tie.spec
     Inv-loop
     μ-loop
+    (λ c κs. search needs)
     loop-holds
     (λ c. search needs)
     (λ c. search needs)

@@ -7,10 +7,10 @@ use Rattle.pieces.proofs.part.parts_of.Tie as tie
 
 -- In the arm of a direction: the cut lies in the piece.
 across-in : (t : tie.After-enum-told) → let a = t .before .before .args in a .k ≤ a .p .width
-across-in t = rw (t .enum-told .given .1) at (t .before .before .pre .0)
+across-in t = rw (t .enum-told .given .1) at (t .before .before .pre .within)
 
 down-in : (t : tie.After-enum-told2) → let a = t .before .before .args in a .k ≤ a .p .height
-down-in t = rw (t .enum-told2 .given .1) at (t .before .before .pre .0)
+down-in t = rw (t .enum-told2 .given .1) at (t .before .before .pre .within)
 
 add-rest : tie.Need-add-rest
 add-rest c = omega (arith, across-in (c .before))

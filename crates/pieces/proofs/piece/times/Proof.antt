@@ -1,4 +1,4 @@
--- A product of numbers up to 600 is at most their product.
+-- A product of two numbers is at most that of the greatest.
 use mathlib.Core.Path.{refl}
 use native.Mathlib.Nat.{mul-le-mul}
 use native.Mathlib.Omega.{arith}

@@ -1,21 +1,34 @@
--- The table is settled slot by slot, from the last cell on.
-use mathlib.Core.Path.{sym}
-use Prim.Native.Nat.{_-_, _<_}
+-- The pieces are passed one after the other, from the first that is no cell on: what is left, done from here, is the whole.
+use mathlib.Core.Path.{_≡_, refl, sym, ap, _∙_}
+use mathlib.Core.List.{List}
+use Prim.Native.Nat.{ℕ, _+_, _-_, _*_, _≤_, _<_}
 use native.Mathlib.Nat.{lt-of-lt-of-le, le-of-eq}
 use native.Mathlib.Omega.{arith}
-use Rattle.pieces.specs.Pieces.{total}
-use Rattle.pieces.specs.inner.Settled.{plan}
-use Rattle.pieces.proofs.CellsFirst.{last-cell-inside}
-use Rattle.pieces.proofs.Settling.{Filling, filling-start, filling-step, filling-end}
+use lib.ListN.{length, drop, length-set}
+use Rattle.pieces.specs.Pieces.{Inside, pieces, total, slotOf}
+use Rattle.pieces.specs.Firing.{joinsFired}
+use Rattle.pieces.specs.Filling.{joinedFrom, joinedBy}
+use Rattle.pieces.specs.declared.masks.Joins.{Joins}
+use Rattle.pieces.specs.declared.piece.Piece.{Piece}
+use Rattle.pieces.proofs.CellsFirst.{slot-last-cell, last-cell-inside, cells-few}
+use Rattle.pieces.proofs.FilledTable.{one-joined, all-joined}
 use borrow.Author.Needs.{needs}
 use Rattle.pieces.proofs.table.fill.Statement.{statement}
 use Rattle.pieces.proofs.table.fill.Tie as tie
 
+-- p is the piece that is due, and k its slot
+record Filling (masks : List ℕ) (joins : Joins) (m n : ℕ) (before t : List ℕ) (p : Piece) (k : ℕ) : Type 0 where
+  here : slotOf m n p ≡ k
+  inside : k < total m n → Inside m n p
+  sized : length t ≡ length before
+  upto : k ≤ total m n
+  left : joinedFrom (joinsFired masks joins) m n (drop k (pieces m n)) t ≡ joinedBy (joinsFired masks joins) m n before
+
 abbrev Inv-loop : tie.InvT-loop
-Inv-loop work₀ rules joins m n end p₀ k₀ work p k = Filling (plan m n rules joins) work₀ work p k
+Inv-loop work₀ masks joins m n end p₀ k₀ work p k = Filling masks joins m n work₀ work p k
 
 abbrev μ-loop : tie.MeasureT-loop
-μ-loop work₀ rules joins m n end p₀ k₀ work p k = end - k
+μ-loop work₀ masks joins m n end p₀ k₀ work p k = end - k
 
 -- At the loop: where the function began. In the loop: the slot that is due is one of the table.
 abbrev began : tie.At-loop Inv-loop μ-loop → tie.Start Inv-loop μ-loop
@@ -25,19 +38,30 @@ due : (c : tie.In-loop Inv-loop μ-loop) → let a = began (c .before) .args in 
 due c = lt-of-lt-of-le (c .loop-test .taken) (le-of-eq (c .before .before .before .before .count .ensures .0))
 
 next-requires : tie.Need-next-requires Inv-loop μ-loop
-next-requires c κs = let s = c .before .before .before in (s .pre .0 .0, last-cell-inside _ _ (s .pre .0 .0 .rows-some) (s .pre .0 .0 .cols-some))
+next-requires c κs = let r = c .before .before .before .pre .0 .sizes in (r, last-cell-inside _ _ (r .rows-some) (r .cols-some))
 
 loop-holds : tie.Need-loop-holds Inv-loop μ-loop
+unfolding joinedBy
 loop-holds c =
-    let r = c .before .before .before .before .before .pre .0 .0 in
-    filling-start _ _ _ _ (r .rows-some) (r .cols-some) (c .times .ensures .0) (c .before .next .ensures)
+    let s = c .before .before .before .before .before in
+    let r = s .pre .0 .sizes in
+    let e = c .times .ensures .0 in
+    let nx = c .before .next .ensures in
+    let last = slot-last-cell (s .args .m) (s .args .n) (r .rows-some) (r .cols-some) in
+    record {
+      here = omega (arith, nx .one, last, e);
+      inside = λ h. nx .still (omega (arith, nx .one, last, e));
+      sized = refl;
+      upto = omega (arith, e, cells-few (s .args .m) (s .args .n) (r .rows-some) (r .cols-some));
+      left = rw e refl;
+    }
 
 entry-of-requires : tie.Need-entry-of-requires Inv-loop μ-loop
 entry-of-requires c κs =
     let t = c .before .before in
     let s = began t in
     let f = t .loop .inv in
-    ((s .pre .0 .0, f .inside (due (c .before)), sym (f .here), rw (f .sized) (s .pre .0 .1)), s .pre .1)
+    (record { sizes = s .pre .0 .sizes; entries = omega (arith, f .sized, s .pre .0 .entries) }, s .pre .1, f .inside (due (c .before)), sym (f .here))
 
 mul-work : tie.Need-mul-work Inv-loop μ-loop
 mul-work c =
@@ -47,24 +71,36 @@ mul-work c =
 slice-write-work : tie.Need-slice-write-work Inv-loop μ-loop
 slice-write-work c =
     let t = c .before .before .before in
-    omega (arith, t .loop .inv .sized, began t .pre .0, due (c .before .before))
+    omega (arith, t .loop .inv .sized, began t .pre .0 .entries, due (c .before .before))
 
 next-requires-2 : tie.Need-next-requires-2 Inv-loop μ-loop
 next-requires-2 c κs =
     let t = c .before .before .before in
-    (began t .pre .0 .0, t .loop .inv .inside (due (c .before .before)))
+    (began t .pre .0 .sizes, t .loop .inv .inside (due (c .before .before)))
 
 loop-again : tie.Need-loop-again Inv-loop μ-loop
 loop-again c =
     let l = c .before .before .before in
     let t = l .before in
-    filling-step _ _ _ _ _ _ _ (t .loop .inv) (due l) (began t .pre .0 .1) (c .before .entry-of .ensures) (c .next2 .ensures)
+    let a = began t .args in
+    let f = t .loop .inv in
+    let nx = c .next2 .ensures in
+    record {
+      here = nx .one ∙ ap (λ (x : ℕ). x + 1) (f .here);
+      inside = λ h. nx .still (omega (arith, nx .one, f .here));
+      sized = simp length-set (f .sized);
+      upto = omega (arith, due l);
+      left = rw (c .before .entry-of .ensures) (sym (one-joined (joinsFired (a .masks .now) (a .joins)) (a .m) (a .n) _ (t .loop .k) (t .loop .p) (f .inside (due l)) (f .here)) ∙ f .left);
+    }
 
 same-length : tie.Need-same-length Inv-loop μ-loop
 same-length c = c .before .loop .inv .sized
 
 returns : tie.Need-returns Inv-loop μ-loop
-returns c = filling-end _ _ _ _ _ (c .before .loop .inv) (omega (arith, c .loop-test .left, c .before .before .before .before .count .ensures .0))
+returns c =
+    let t = c .before in
+    let a = began t .args in
+    sym (all-joined (joinsFired (a .masks .now) (a .joins)) (a .m) (a .n) _ (t .loop .k) (omega (arith, c .loop-test .left, t .before .before .before .count .ensures .0))) ∙ t .loop .inv .left
 
 pub fill-spec : {M : Type 1} → statement M
 fill-spec =

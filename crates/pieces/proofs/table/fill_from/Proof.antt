@@ -1,31 +1,41 @@
--- The cells begin the table, and the rest is filled from there, whatever rules the masks are those of.
+-- The cells begin the table, and the other pieces are joined from there.
+use mathlib.Core.Path.{ap, ap₂, _∙_}
+use mathlib.Core.List.{List}
+use Prim.Native.Nat.{ℕ}
 use native.Mathlib.Omega.{arith}
+use denote.Ref.{now}
+use Rattle.pieces.specs.Firing.{joinsFired}
+use Rattle.pieces.specs.Filling.{joinedBy, paintedBy, filledBy}
 use Rattle.pieces.proofs.CellsFirst.{cells-few}
-use Rattle.pieces.proofs.Painting.{made}
 use borrow.Author.Needs.{needs}
 use Rattle.pieces.proofs.table.fill_from.Statement.{statement}
 use Rattle.pieces.proofs.table.fill_from.Tie as tie
 
 paint-cells-requires : tie.Need-paint-cells-requires
 paint-cells-requires c κs =
-    let g = c .before .before .before .before .before .pre in
+    let (tabled, placed, cells) = c .before .before .before .before .before .pre in
+    let few = cells-few _ _ (tabled .sizes .rows-some) (tabled .sizes .cols-some) in
     let e = c .before .times .ensures .0 in
-    let few = cells-few _ _ (g .0 .0 .rows-some) (g .0 .0 .cols-some) in
-    ((g .1 .0 .0, omega (arith, e, few, g .0 .1)), (rw e (g .1 .1 .0), rw e (g .1 .1 .1)))
+    (placed .all, omega (arith, e, few, tabled .entries), rw e cells)
+
+fill-requires : tie.Need-fill-requires
+fill-requires c κs =
+    let p = c .before .before .before in
+    let (tabled, placed, cells) = p .before .before .before .before .before .before .pre in
+    (record { sizes = tabled .sizes; entries = omega (arith, p .paint-cells .kept, tabled .entries) }, placed)
 
 returns : tie.Need-returns
+unfolding filledBy
 returns c =
     let f = c .before .before in
-    let t = f .before .before .before .before in
-    let cells = t .before .before in
-    let g = cells .before .before .before .before .pre in
-    let few = cells-few _ _ (g .0 .0 .rows-some) (g .0 .0 .cols-some) in
-    record {
-      made = λ rs count split.
-          made rs count _ _ _ _ _ _ _ _ _ split (t .paint-cells .ensures) (cells .times .ensures .0) (f .fill .ensures) few (g .1 .1 .1);
-    }
+    let p = f .before .before .before .before in
+    let t = p .before .before in
+    let a = t .before .before .before .before .args in
+    f .fill .ensures
+    ∙ ap (joinedBy (joinsFired (now (a .masks)) (a .joins)) (a .m) (a .n))
+    (p .paint-cells .ensures ∙ ap (λ (k : ℕ). paintedBy (now (a .masks)) (now (a .colours)) k (now (a .work))) (t .times .ensures .0))
 
 pub fill-from-spec : {M : Type 1} → statement M
 fill-from-spec =
     tie.close
-    (tie.spec (λ c κs. search needs) paint-cells-requires (λ c κs. search needs) (λ c. search needs) returns)
+    (tie.spec (λ c κs. search needs) paint-cells-requires fill-requires (λ c. search needs) returns)

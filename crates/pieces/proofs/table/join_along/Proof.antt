@@ -1,11 +1,12 @@
--- After k turns the course has gone k steps, and the cuts before are gathered.
+-- With so many cuts ahead the course has gone as many steps as there were cuts before, and these are gathered.
 use mathlib.Core.Path.{_≡_, refl, sym, ap, ap₂, _∙_}
-use Prim.Native.Nat.{ℕ, _-_, _≤_, _<_}
+use Prim.Native.Nat.{ℕ, _+_, _-_, _≤_, _<_}
 use native.Mathlib.Omega.{arith}
 use lib.Bits.{bitOr}
 use lib.ListN.{length, getD}
+use Rattle.pieces.specs.Firing.{gathered}
 use Rattle.pieces.specs.inner.Course.{step, after, Steps}
-use Rattle.pieces.specs.inner.Firing.{gathered, allFired, atCut, along}
+use Rattle.pieces.specs.inner.Along.{allFired, atCut, along}
 use Rattle.pieces.specs.declared.course.Course.{Course}
 use Rattle.pieces.proofs.Courses.{after-next}
 use Rattle.pieces.proofs.Gathered.{gathered-next}
@@ -14,19 +15,26 @@ use Rattle.pieces.proofs.table.join_along.Statement.{statement}
 use Rattle.pieces.proofs.table.join_along.Tie as tie
 
 abbrev Inv-loop : tie.InvT-loop
-Inv-loop work masks count found₀ c₀ k₀ cuts found c k = (k ≤ cuts) × (c ≡ after k c₀) × (found ≡ gathered k (atCut work masks count c₀))
+Inv-loop work masks count found₀ c₀ ahead₀ found c ahead =
+    (ahead ≤ c₀ .cuts) × (c ≡ after (c₀ .cuts - ahead) c₀) × (found ≡ gathered (c₀ .cuts - ahead) (atCut work masks count c₀))
 
 abbrev μ-loop : tie.MeasureT-loop
-μ-loop work masks count found₀ c₀ k₀ cuts found c k = cuts - k
+μ-loop work masks count found₀ c₀ ahead₀ found c ahead = ahead
 
 loop-holds : tie.Need-loop-holds Inv-loop μ-loop
 unfolding after gathered
-loop-holds c = (omega arith, refl, refl)
+loop-holds c =
+    let cuts = c .before .before .args .course .cuts in
+    let none : cuts - cuts ≡ 0 = omega arith in
+    rw none (omega arith, refl, refl)
 
--- what the course's contract says of the cut that is due
+-- the cut that is due, and what the course's contract says of it
+abbrev due : tie.At-loop Inv-loop μ-loop → ℕ
+due t = t .before .before .before .args .course .cuts - t .loop .ahead
+
 at-cut : (c : tie.In-loop Inv-loop μ-loop) → Steps (c .before .loop .c) × (c .before .loop .c .first < length (c .before .before .before .before .args .work .now))
     × (step (c .before .loop .c) .second < length (c .before .before .before .before .args .work .now))
-at-cut c = let t = c .before in rw (t .loop .inv .1) (t .before .before .before .pre .0 (t .loop .k) (c .loop-test .taken))
+at-cut c = let t = c .before in rw (t .loop .inv .1) (t .before .before .before .pre .0 (due t) (omega arith))
 
 next-cut-requires : tie.Need-next-cut-requires Inv-loop μ-loop
 next-cut-requires c κs = at-cut c .0
@@ -46,22 +54,27 @@ mul-join-2 c =
 shared-slice-read-join-2 : tie.Need-shared-slice-read-join-2 Inv-loop μ-loop
 shared-slice-read-join-2 c = let s = c .before .before in rw (s .next-cut .ensures) (at-cut (s .before) .2)
 
+join-requires : tie.Need-join-requires Inv-loop μ-loop
+join-requires c κs = c .before .before .before .before .before .before .before .pre .1
+
 loop-again : tie.Need-loop-again Inv-loop μ-loop
 loop-again c =
     let s = c .before .before .before in
     let t = s .before .before in
     let a = t .before .before .before .args in
     let w = a .work .now in
+    let k = due t in
     let e = s .next-cut .ensures ∙ ap step (t .loop .inv .1) in
     let here = ap₂ (λ (x y : Course). allFired (a .masks .now) (a .count) (getD w (x .first) 0) (getD w (y .second) 0)) (t .loop .inv .1) e in
-    (omega arith, e ∙ sym (after-next _ _), ap₂ bitOr (t .loop .inv .2) (c .join .ensures ∙ here) ∙ sym (gathered-next (t .loop .k) _))
+    let more : k + 1 ≡ a .course .cuts - (t .loop .ahead - 1) = omega arith in
+    rw (← more) (omega arith, e ∙ sym (after-next k (a .course)), ap₂ bitOr (t .loop .inv .2) (c .join .ensures ∙ here) ∙ sym (gathered-next k _))
 
 returns : tie.Need-returns Inv-loop μ-loop
 unfolding along
 returns c =
     let a = c .before .before .before .before .args in
-    let e : c .before .loop .k ≡ a .course .cuts = omega arith in
-    c .before .loop .inv .2 ∙ ap (λ (k : ℕ). gathered k (atCut (a .work .now) (a .masks .now) (a .count) (a .course))) e
+    let all : due (c .before) ≡ a .course .cuts = omega arith in
+    c .before .loop .inv .2 ∙ ap (λ (k : ℕ). gathered k (atCut (a .work .now) (a .masks .now) (a .count) (a .course))) all
 
 pub join-along-spec : {M : Type 1} → statement M
 join-along-spec =
@@ -75,7 +88,7 @@ join-along-spec =
     shared-slice-read-join
     mul-join-2
     shared-slice-read-join-2
-    (λ c κs. search needs)
+    join-requires
     (λ c. search needs)
     (λ c. search needs)
     loop-again

@@ -20,10 +20,10 @@ abbrev began : tie.After-lend → tie.Start
 began k = k .before .before .before .before .before .before
 
 long : (k : tie.After-lend) → length (take (began k .args .count) (k .lend .result)) ≡ began k .args .count
-long k = length-take-le (began k .args .count) (k .lend .result) (omega (arith, began k .pre .0 .0, k .lend .ok))
+long k = length-take-le (began k .args .count) (k .lend .result) (omega (arith, began k .pre .few, k .lend .ok))
 
 lent : (k : tie.After-lend) → let a = began k .args in rulesIn (take (a .count) (k .lend .result)) ≡ take (a .count) (a .rules)
-lent k = lent-back _ _ (omega (arith, began k .pre .0 .0)) (k .lend .ensures)
+lent k = lent-back _ _ (omega (arith, began k .pre .few)) (k .lend .ensures)
 
 marked : (k : tie.After-lend) →
     let a = began k .args in
@@ -33,11 +33,16 @@ marked k = let test = k .before in sym (test .before .has .ensures) ∙ test .if
 pick-node-requires : tie.Need-pick-node-requires
 pick-node-requires c κs =
     let k = c .before .before in
-    let (g, fitted) = began k .pre in
-    let sizes = g .1 .tabled .sizes in (
-      (g .1, omega (arith, long k, g .0)),
-      ((whole-inside _ _ (sizes .rows-some) (sizes .cols-some), omega (arith, g .2)), rw (lent k) (fitted (marked k))),
-    )
+    let due = began k .pre in
+    let sizes = due .ready .tabled .sizes in
+    rw (lent k)
+    (record {
+      ready = due .ready;
+      few = omega (arith, due .few, length-take-le (began k .args .count) (began k .args .rules) (omega (arith, due .few)));
+      on = whole-inside _ _ (sizes .rows-some) (sizes .cols-some);
+      room = omega (arith, due .room);
+      fitted = due .fitted (marked k);
+    })
 
 returns : tie.Need-returns
 unfolding verdict

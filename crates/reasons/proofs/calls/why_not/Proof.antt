@@ -5,6 +5,7 @@ use Rattle.names.specs.declared.number.Fault.{Fault}
 use Rattle.names.proofs.SpellingNumbers.{Bytes}
 use Rattle.books.specs.Book.{bookOf}
 use Rattle.pieces.specs.Asking.{Asks}
+use Rattle.pieces.proofs.AskingSheets.{kept-fault, kept-start, kept-from, book-asks}
 use Rattle.reasons.proofs.Asked.{told-faulty, told-in, told-refused, sizes-asked, room-asked, told-reason}
 use borrow.Author.Needs.{needs}
 use Rattle.reasons.proofs.calls.why_not.Statement.{statement}
@@ -22,16 +23,19 @@ abbrev split : tie.After-ask-sheet → tie.After-split-book
 split a = a .before .before .before .before .before .before
 
 fine : (a : tie.After-ask-sheet) → bookOf (now (began (split a) .args .book)) .fault .number ≡ 0
-fine a = sym (ap (λ (f : Fault). f .number) (split a .split-book .ensures .fault)) ∙ a .before .before .before .if1 .left
+fine a = sym (ap (λ (f : Fault). f .number) (kept-fault _ _ (split a .split-book .ensures))) ∙ a .before .before .before .if1 .left
 
 asks : (a : tie.After-ask-sheet) → let s = began (split a) .args in
     Asks (now (s .book)) (now (s .sheet)) (now (s .work)) (a .ask-sheet .result) (a .ask-sheet .last .1 .1 .1 .1 .0)
-asks a = a .ask-sheet .ensures (split a .split-book .ensures .split (fine a, refl))
+asks a =
+    let k = split a in
+    let from = kept-from _ _ (k .split-book .ensures) (a .before .before .before .if1 .left) refl in
+    book-asks _ _ (book-bytes k) (λ i. k .before .before .before .shared-slice-known2 .given i .fits) _ _ from _ _ _ (a .ask-sheet .ensures)
 
 returns : tie.Need-returns
 returns c =
     let k = c .before .before .before .before .before in
-    told-faulty _ _ _ _ _ (c .unexplained .ensures) _ (k .split-book .ensures .fault) (c .before .before .if1 .taken) (c .before .blame .ensures)
+    told-faulty _ _ _ _ _ (c .unexplained .ensures) _ (kept-fault _ _ (k .split-book .ensures)) (c .before .before .if1 .taken) (c .before .blame .ensures)
 
 returns-2 : tie.Need-returns-2
 returns-2 c =
@@ -53,7 +57,7 @@ returns-4 : tie.Need-returns-4
 returns-4 c =
     let f = c .before .before .before in
     let a = f .before .before .before .before .before .before in
-    told-reason _ _ _ _ _ (asks a) (fine a) (f .if3 .left) (book-bytes (split a)) _ (split a .split-book .ensures .start)
+    told-reason _ _ _ _ _ (asks a) (fine a) (f .if3 .left) (book-bytes (split a)) _ (kept-start _ _ (split a .split-book .ensures))
     _ (c .before .before .unblamed2 .ensures) _ (c .reason .ensures)
 
 pub why-not-spec : {M : Type 1} → statement M

@@ -1,6 +1,8 @@
 -- What was asked can be added, and adding it makes the figures those of one sheet more.
 use denote.Ref.{now}
 use Rattle.names.proofs.SpellingNumbers.{Bytes}
+use Rattle.pieces.specs.Asking.{Asks}
+use Rattle.pieces.proofs.AskingSheets.{book-asks}
 use Rattle.runs.proofs.AskedSheets.{addable, asked-adds}
 use borrow.Author.Needs.{needs}
 use Rattle.runs.proofs.report.add_sheet.Statement.{statement}
@@ -13,20 +15,22 @@ began k = k .before .before .before .before .before .before .before
 book-bytes : (k : tie.After-ask-sheet) → Bytes (now (began k .args .book))
 book-bytes k i = k .before .before .before .before .before .before .shared-slice-known .given i .fits
 
+asks : (k : tie.After-ask-sheet) → let a = began k .args in
+    Asks (now (a .book)) (now (a .sheet)) (now (a .work)) (k .ask-sheet .result) (k .ask-sheet .last .1 .1 .1 .1 .0)
+asks k = book-asks _ _ (book-bytes k) (λ i. k .before .before .before .before .shared-slice-known3 .given i .fits) _ _ (began k .pre .0 .0) _ _ _ (k .ask-sheet .ensures)
+
 add-asked-requires : tie.Need-add-asked-requires
 add-asked-requires c κs =
     let k = c .before .before .before in
     let s = began k in
-    let from = s .pre .0 .0 in
-    addable _ _ _ (from .accepted) (s .pre .0 .1) (book-bytes k) _ _ (k .ask-sheet .ensures from) _ (s .pre .1 .0) (s .pre .1 .1)
+    addable _ _ _ (s .pre .0 .0 .accepted) (s .pre .0 .1) (book-bytes k) _ _ (asks k) _ (s .pre .1 .0) (s .pre .1 .1)
 
 returns : tie.Need-returns
 returns c =
     let k = c .before .before .before .before .before .before in
     let s = began k in
-    let from = s .pre .0 .0 in
     rw (c .before .before .add-asked .ensures)
-    (asked-adds _ _ _ (from .accepted) (s .pre .0 .1) (book-bytes k) _ _ (k .ask-sheet .ensures from) _ (s .pre .1 .0))
+    (asked-adds _ _ _ (s .pre .0 .0 .accepted) (s .pre .0 .1) (book-bytes k) _ _ (asks k) _ (s .pre .1 .0))
 
 pub add-sheet-spec : {M : Type 1} → statement M
 add-sheet-spec =

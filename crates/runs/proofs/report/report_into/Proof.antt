@@ -1,9 +1,9 @@
 -- Where something is refused, the figures stay cleared; else the sheets are added, and the work slice is cleared.
-use mathlib.Core.Path.{refl, sym, ap, _∙_}
+use mathlib.Core.Path.{refl, ap, _∙_}
 use native.Mathlib.Omega.{arith}
 use denote.Ref.{now}
 use lib.ListN.{length}
-use Rattle.names.specs.declared.number.Fault.{Fault}
+use Rattle.pieces.proofs.AskingSheets.{kept-fault, kept-from}
 use Rattle.runs.specs.inner.Adding.{standing}
 use Rattle.runs.proofs.ReportingRuns.{Granted, granted, cleared-standing, reports-refusal, reports-run}
 use borrow.Author.Needs.{needs}
@@ -31,7 +31,7 @@ add-sheets-requires c κs =
     let k = cleared p in
     let s = began p in
     let g = may c in (
-      (p .split-book .ensures .split (ap (λ (f : Fault). f .number) (sym (p .split-book .ensures .fault)) ∙ g .book-fine, refl), g .work-long),
+      (kept-from _ _ (p .split-book .ensures) (g .book-fine) refl, g .work-long),
       (g .run-fine, omega (arith, k .clear .kept .0, s .pre), ap standing (k .clear .ensures) ∙ cleared-standing _),
     )
 
@@ -46,14 +46,14 @@ returns c =
     let a = t .before .before .before .before .before .before in
     let q = granting (a .before) in
     let p = q .before .before in
-    reports-run _ _ _ _ _ (cleared p .clear .ensures) _ _ (p .split-book .ensures .fault) (q .refused .ensures)
+    reports-run _ _ _ _ _ (cleared p .clear .ensures) _ _ (kept-fault _ _ (p .split-book .ensures)) (q .refused .ensures)
     (a .before .before .before .before .if1 .taken) _ _ _ (a .add-sheets .ensures) (t .clear2 .ensures)
 
 returns-2 : tie.Need-returns-2
 returns-2 c =
     let q = c .before .before in
     let p = q .before .before in
-    reports-refusal _ _ _ _ _ (cleared p .clear .ensures) _ _ (p .split-book .ensures .fault) (q .refused .ensures) (c .if1 .left)
+    reports-refusal _ _ _ _ _ (cleared p .clear .ensures) _ _ (kept-fault _ _ (p .split-book .ensures)) (q .refused .ensures) (c .if1 .left)
 
 pub report-into-spec : {M : Type 1} → statement M
 report-into-spec =

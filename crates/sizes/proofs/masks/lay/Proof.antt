@@ -3,7 +3,7 @@ use mathlib.Core.Path.{_≡_}
 use Prim.Native.Nat.{_-_, _≤_, _<_}
 use native.Mathlib.Omega.{arith}
 use lib.ListN.{length-set}
-use Rattle.pieces.specs.inner.Layout.{mostRules}
+use Rattle.pieces.specs.Masks.{mostRules}
 use Rattle.sizes.specs.inner.Masks.{dirOf, Laid}
 use Rattle.sizes.proofs.Laying.{laying-start, laying-step, joins-few}
 use borrow.Author.Needs.{needs}

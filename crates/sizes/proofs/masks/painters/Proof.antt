@@ -3,7 +3,7 @@ use mathlib.Core.Path.{_≡_, sym, ap₂, _∙_}
 use Prim.Native.Nat.{_-_, _≤_}
 use native.Mathlib.Omega.{arith}
 use lib.Bits.{bitOr}
-use Rattle.pieces.specs.inner.Firing.{gathered}
+use Rattle.pieces.specs.Firing.{gathered}
 use Rattle.pieces.proofs.Gathered.{gathered-next}
 use Rattle.sizes.specs.inner.Masks.{paintersOf}
 use borrow.Author.Needs.{needs}

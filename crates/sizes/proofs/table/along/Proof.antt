@@ -4,7 +4,8 @@ use Prim.Native.Nat.{ℕ, _+_, _-_, _*_, _≤_}
 use native.Mathlib.Omega.{arith}
 use lib.Bits.{bitOr}
 use lib.ListN.{getD}
-use Rattle.pieces.specs.inner.Firing.{gathered, allFired}
+use Rattle.pieces.specs.Firing.{gathered}
+use Rattle.pieces.specs.inner.Along.{allFired}
 use Rattle.pieces.proofs.Gathered.{gathered-next}
 use Rattle.sizes.specs.inner.Entries.{along}
 use Rattle.sizes.proofs.Slots.{row-more, row-fits}

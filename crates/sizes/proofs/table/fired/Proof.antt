@@ -1,6 +1,6 @@
 -- The two tests are those of the definition.
 use borrow.Author.Tests.{eq-eqb, ne-eqb}
-use Rattle.pieces.specs.inner.Firing.{firing}
+use Rattle.pieces.specs.Firing.{firing}
 use Rattle.sizes.proofs.table.fired.Statement.{statement}
 use Rattle.sizes.proofs.table.fired.Tie as tie
 

@@ -3,7 +3,8 @@ use mathlib.Core.Path.{_≡_, sym, ap₂, _∙_}
 use Prim.Native.Nat.{_-_, _≤_}
 use native.Mathlib.Omega.{arith}
 use lib.Bits.{bitOr}
-use Rattle.pieces.specs.inner.Firing.{gathered, allFired}
+use Rattle.pieces.specs.Firing.{gathered}
+use Rattle.pieces.specs.inner.Along.{allFired}
 use Rattle.pieces.proofs.Gathered.{gathered-next}
 use borrow.Author.Needs.{needs}
 use Rattle.sizes.proofs.table.join.Statement.{statement}

@@ -1,15 +1,20 @@
--- When a number is right for a thing that is cut: its bits are the motifs that the rules give. And what the joins of rules give at the cuts.
-use Prim.Native.Nat.{ℕ, _+_, _-_}
+-- When a number is right for a thing that is cut: its bits are the motifs that the rules give. And when masks serve rules: their joins give what fires at a cut, and
+-- their colour rules the painters.
+use Prim.Native.Nat.{ℕ, _+_, _<_}
 use mathlib.Core.Path.{_≡_}
+use mathlib.Core.Bool.{true}
 use mathlib.Core.List.{List}
 use mathlib.Core.Logic.{_↔_}
+use lib.ListN.{length, getD}
+use Rattle.names.specs.Bits.{bit}
 use Rattle.books.specs.Picture.{joins}
-use Rattle.books.specs.declared.rule.Dir.{Dir}
 use Rattle.books.specs.Search.{Cutting, Ruled, Gives}
+use Rattle.books.specs.declared.rule.Dir.{Dir}
 use Rattle.books.specs.declared.rule.Rule.{Rule}
 use Rattle.books.specs.declared.rule.Body.the-variants.{Colour}
-use Rattle.names.specs.Bits.{bit}
-use Rattle.pieces.specs.inner.Firing.{gathered}
+use Rattle.pieces.specs.Masks.{paintersFrom, colourMasks}
+use Rattle.pieces.specs.Firing.{joinsFired, fitting}
+use Rattle.pieces.specs.declared.masks.Joins.{Joins}
 
 -- the number whose bits are the motifs that the rules give a thing
 abbrev pub Right : {X : Type 0} → Cutting X → List Rule → ℕ → X → Type 0
@@ -24,6 +29,8 @@ pub record Fires (rules : List Rule) (fire : Dir → ℕ → ℕ → ℕ) : Type
 abbrev pub Painted : {X : Type 0} → Cutting X → List Rule → ℕ → X → Type 0
 Painted c rules e x = (a : ℕ) → (bit e a ≡ 1) ↔ ((k : ℕ) × Ruled rules a (Colour k) × c .Shows k x)
 
--- what the cuts in one direction give of a thing that reaches so far, by the entries of the first parts and of the rests
-unfoldable pub cutsOf : (Dir → ℕ → ℕ → ℕ) → (Dir → ℕ → ℕ) → (Dir → ℕ → ℕ) → Dir → ℕ → ℕ
-cutsOf fire l r d n = gathered (n - 1) (λ k. fire d (l d (k + 1)) (r d (k + 1)))
+-- masks with a place for each join, whose joins and painters are those of some rules
+pub record Serves (rules : List Rule) (masks : List ℕ) (j : Joins) : Type 0 where
+  pub fits : fitting (length masks) j ≡ true
+  pub fires : Fires rules (joinsFired masks j)
+  pub paints : (c : ℕ) → c < colourMasks → (a : ℕ) → (bit (getD masks (paintersFrom + c) 0) a ≡ 1) ↔ Ruled rules a (Colour c)

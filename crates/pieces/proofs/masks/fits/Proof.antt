@@ -1,9 +1,9 @@
 -- The tests are those of the definition.
 use borrow.Author.Tests.{eq-eqb, ne-eqb, le-leb, lt-leb}
-use Rattle.pieces.specs.inner.Layout.{mostRules, allMasks}
-use Rattle.pieces.specs.inner.Told.{fitting}
-use Rattle.pieces.proofs.asking.fits.Statement.{statement}
-use Rattle.pieces.proofs.asking.fits.Tie as tie
+use Rattle.pieces.specs.Masks.{mostRules, allMasks}
+use Rattle.pieces.specs.Firing.{fitting}
+use Rattle.pieces.proofs.masks.fits.Statement.{statement}
+use Rattle.pieces.proofs.masks.fits.Tie as tie
 
 returns : tie.Need-returns
 unfolding fitting

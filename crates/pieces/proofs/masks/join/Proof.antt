@@ -3,11 +3,12 @@ use mathlib.Core.Path.{_≡_, sym, ap₂, _∙_}
 use Prim.Native.Nat.{_-_, _≤_}
 use native.Mathlib.Omega.{arith}
 use lib.Bits.{bitOr}
-use Rattle.pieces.specs.inner.Firing.{gathered, allFired}
+use Rattle.pieces.specs.Firing.{gathered}
+use Rattle.pieces.specs.inner.Along.{allFired}
 use Rattle.pieces.proofs.Gathered.{gathered-next}
 use borrow.Author.Needs.{needs}
-use Rattle.pieces.proofs.table.join.Statement.{statement}
-use Rattle.pieces.proofs.table.join.Tie as tie
+use Rattle.pieces.proofs.masks.join.Statement.{statement}
+use Rattle.pieces.proofs.masks.join.Tie as tie
 
 abbrev Inv-loop : tie.InvT-loop
 Inv-loop masks count l r found₀ i₀ found i = (i ≤ count) × (found ≡ allFired masks i l r)

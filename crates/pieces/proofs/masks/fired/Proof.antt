@@ -1,8 +1,8 @@
 -- The two tests are those of the definition.
 use borrow.Author.Tests.{eq-eqb, ne-eqb}
-use Rattle.pieces.specs.inner.Firing.{firing}
-use Rattle.pieces.proofs.table.fired.Statement.{statement}
-use Rattle.pieces.proofs.table.fired.Tie as tie
+use Rattle.pieces.specs.Firing.{firing}
+use Rattle.pieces.proofs.masks.fired.Statement.{statement}
+use Rattle.pieces.proofs.masks.fired.Tie as tie
 
 returns : tie.Need-returns
 unfolding firing
