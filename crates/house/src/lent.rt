@@ -6,6 +6,27 @@ pub(crate) fn byte_at(bytes: &[u8], i: usize) -> u8 {
     if i < bytes.len() { bytes[i] } else { 0 }
 }
 
+// So many bytes from the front, or none where there are fewer.
+pub(crate) fn front(bytes: &[u8], count: usize) -> &[u8] {
+    if count <= bytes.len() {
+        return &bytes[0..count];
+    }
+    &bytes[..0]
+}
+
+// How much of a slice is lent: as much as is said, or all where nothing is.
+pub(crate) fn room(said: usize, all: usize) -> usize
+    ensures { λ r. ⌜ r ≤ all ⌝ }
+{
+    if said == 0 {
+        return all;
+    }
+    if said < all {
+        return said;
+    }
+    all
+}
+
 fn one_if(test: bool) -> usize
     ensures { λ r. ⌜ r ≤ 1 ⌝ }
 {

@@ -1,44 +1,48 @@
 // Text and numbers on the standard output.
+use crate::lent;
 use libc::STDOUT_FILENO;
 
 pub(crate) fn text(bytes: &[u8]) {
     io::write_all(STDOUT_FILENO, bytes);
 }
 
-pub(crate) fn line(bytes: &[u8]) {
-    text(bytes);
+pub(crate) fn end() {
     text(b"\n");
 }
 
-// A number with some text before it.
-pub(crate) fn figure(before: &[u8], n: u64) {
-    text(before);
+// The next number of a group.
+pub(crate) fn also(n: u64) {
+    text(b" ");
     io::print_decimal(STDOUT_FILENO, n);
 }
 
-// What was asked, and a call's answer to it: number, blamed input and place.
-pub(crate) fn answer(asked: &[u8], packed: u64) {
-    text(asked);
-    figure(b": ", packed % 256);
-    figure(b" ", packed / 256 % 16);
-    figure(b" ", packed / 4096 % 1048576);
+// The first number of a group, which a mark begins.
+pub(crate) fn group(mark: u8, n: u64) {
+    let marks = [mark];
+    text(&marks);
+    also(n);
+}
+
+// A call's answer: number, blamed input and place.
+pub(crate) fn answer(packed: u64) {
+    group(b':', packed % 256);
+    also(packed / 256 % 16);
+    also(packed / 4096 % 1048576);
+}
+
+// The same, and the count that the call answers.
+pub(crate) fn answer_and_count(packed: u64) {
+    answer(packed);
+    group(b';', packed / 4294967296);
+}
+
+// How much of a work slice was written.
+pub(crate) fn written(work: &[u32]) {
+    group(b';', lent::entries_written(work) as u64);
 }
 
 fn entry(n: u32) {
-    figure(b" ", n as u64);
-}
-
-fn tree_number(n: u16) {
-    figure(b" ", n as u64);
-}
-
-// The entries of a table, in order.
-pub(crate) fn entries(before: &[u8], work: &[u32]) {
-    text(before);
-    for i in 0..work.len() {
-        entry(work[i]);
-    }
-    text(b"\n");
+    also(n as u64);
 }
 
 // An entry, where there is one.
@@ -49,19 +53,21 @@ fn entry_at(work: &[u32], i: usize) {
 }
 
 // The entries from a place up to another.
-pub(crate) fn some_entries(before: &[u8], work: &[u32], from: usize, to: usize) {
-    text(before);
+pub(crate) fn entries(work: &[u32], from: usize, to: usize) {
     for i in from..to {
         entry_at(work, i);
     }
-    text(b"\n");
+    end();
 }
 
-// The numbers of a tree, in order.
-pub(crate) fn numbers(before: &[u8], tree: &[u16]) {
-    text(before);
+fn number(n: u16) {
+    also(n as u64);
+}
+
+// The numbers of a tree.
+pub(crate) fn numbers(tree: &[u16]) {
     for i in 0..tree.len() {
-        tree_number(tree[i]);
+        number(tree[i]);
     }
-    text(b"\n");
+    end();
 }

@@ -1,16 +1,40 @@
 // A book or a sheet read by itself.
+use crate::lent;
 use crate::printing;
 
 // Whether the bytes are a book.
-pub(crate) fn book(asked: &[u8], bytes: &[u8]) {
-    printing::answer(asked, books::calls::dv_read_book(bytes));
-    printing::text(b"\n");
+fn book(bytes: &[u8]) {
+    printing::answer(books::calls::dv_read_book(bytes));
+    printing::end();
 }
 
 // Whether the bytes are a sheet, and its ticket.
-pub(crate) fn sheet(asked: &[u8], bytes: &[u8]) {
-    let packed = books::calls::dv_read_sheet(bytes);
-    printing::answer(asked, packed);
-    printing::figure(b"; ", packed / 4294967296);
-    printing::text(b"\n");
+fn sheet(bytes: &[u8]) {
+    printing::answer_and_count(books::calls::dv_read_sheet(bytes));
+    printing::end();
+}
+
+// The name of a colour of the book, or nothing.
+fn ink(book: &[u8], number: &[u8]) {
+    printing::text(books::calls::colour(book, lent::byte_at(number, 0) as usize));
+    printing::text(b"\"\n");
+}
+
+// The motif count and the rule count of a book with the colours of the house.
+fn figures(book: &[u8]) {
+    printing::group(b':', lent::byte_at(book, 17) as u64);
+    printing::also(lent::byte_at(book, 19) as u64);
+    printing::end();
+}
+
+// A call that reads, by its letter, or a heading; any other line has nothing more to it.
+pub(crate) fn read(letter: u8, first: &[u8], second: &[u8]) {
+    match letter {
+        b'b' => book(first),
+        b's' => sheet(first),
+        b'i' => ink(first, second),
+        b'f' => figures(first),
+        b'h' => printing::end(),
+        _ => {}
+    }
 }

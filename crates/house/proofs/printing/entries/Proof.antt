@@ -1,23 +1,14 @@
--- At each turn the next number is one of the slice.
-use borrow.Author.Needs.{needs}
+-- Each turn goes on by one place.
 use native.Mathlib.Omega.{arith}
-use Prim.Native.Nat.{_-_, _≤_}
-use mathlib.Core.Path.{_≡_}
-use lib.ListN.{length}
+use Prim.Native.Nat.{_-_}
 use Rattle.house.proofs.printing.entries.Statement.{statement}
 use Rattle.house.proofs.printing.entries.Tie as tie
 
 abbrev Inv-loop : tie.InvT-loop
-Inv-loop before work i₀ t4 i-end i = (i ≤ i-end) × (i-end ≡ length work)
+Inv-loop work from to i₀ i = Unit {0}
 
 abbrev μ-loop : tie.MeasureT-loop
-μ-loop before work i₀ t4 i-end i = i-end - i
-
-loop-holds : tie.Need-loop-holds Inv-loop μ-loop
-loop-holds c = (omega arith, omega arith)
-
-loop-again : tie.Need-loop-again Inv-loop μ-loop
-loop-again c = (omega arith, omega arith)
+μ-loop work from to i₀ i = to - i
 
 pub entries-spec : {M : Type 1} → statement M
 entries-spec =
@@ -25,14 +16,10 @@ entries-spec =
     (tie.spec
     Inv-loop
     μ-loop
-    (λ c κs. tt)
-    loop-holds
-    (λ c. omega arith)
-    (λ c. omega arith)
+    (λ c. tt)
     (λ c κs. tt)
     (λ c. omega arith)
     (λ c. omega arith)
-    loop-again
-    (λ c. search needs)
+    (λ c. tt)
     (λ c κs. tt)
     (λ c. tt))

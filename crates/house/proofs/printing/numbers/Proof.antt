@@ -1,5 +1,4 @@
 -- At each turn the next number is one of the slice.
-use borrow.Author.Needs.{needs}
 use native.Mathlib.Omega.{arith}
 use Prim.Native.Nat.{_-_, _≤_}
 use mathlib.Core.Path.{_≡_}
@@ -8,10 +7,10 @@ use Rattle.house.proofs.printing.numbers.Statement.{statement}
 use Rattle.house.proofs.printing.numbers.Tie as tie
 
 abbrev Inv-loop : tie.InvT-loop
-Inv-loop before tree i₀ t4 i-end i = (i ≤ i-end) × (i-end ≡ length tree)
+Inv-loop tree i₀ i-end i = (i ≤ i-end) × (i-end ≡ length tree)
 
 abbrev μ-loop : tie.MeasureT-loop
-μ-loop before tree i₀ t4 i-end i = i-end - i
+μ-loop tree i₀ i-end i = i-end - i
 
 loop-holds : tie.Need-loop-holds Inv-loop μ-loop
 loop-holds c = (omega arith, omega arith)
@@ -25,7 +24,6 @@ numbers-spec =
     (tie.spec
     Inv-loop
     μ-loop
-    (λ c κs. tt)
     loop-holds
     (λ c. omega arith)
     (λ c. omega arith)
@@ -33,6 +31,5 @@ numbers-spec =
     (λ c. omega arith)
     (λ c. omega arith)
     loop-again
-    (λ c. search needs)
     (λ c κs. tt)
     (λ c. tt))

@@ -1,0 +1,68 @@
+// Each line of the list is run by the call that it is for, which its first letter says.
+use crate::asking;
+use crate::cards;
+use crate::combining;
+use crate::lent;
+use crate::lines;
+use crate::printing;
+use crate::reading;
+use crate::reports;
+use crate::spelling;
+use crate::why;
+
+// The calls that are lent a work slice, and those that read. The number is what a call wants besides.
+fn call(letter: u8, first: &[u8], second: &[u8], work: &mut [u32], number: usize) {
+    match letter {
+        b'd' | b't' => asking::derive(first, second, work, number, letter == b't'),
+        b'c' => cards::card(first, work, number),
+        b'w' => why::why_not(first, second, work),
+        b'r' => reports::run(first, second, work),
+        _ => reading::read(letter, first, second),
+    }
+}
+
+// The words of a line, and what comes of it with as much of a work slice as it says.
+fn asked(line: &[u8], first: &[u8], second: &[u8]) {
+    printing::text(lines::part(line, 1));
+    let mut work = [4294967295u32; 6086];
+    let room = lent::room(lines::number(line, 4), 6086);
+    call(
+        lent::byte_at(line, 0),
+        first,
+        second,
+        &mut work[0..room],
+        lines::number(line, 5),
+    );
+}
+
+// A line with its inputs. What is kept is changed by lines of two kinds only.
+fn run(line: &[u8], first: &[u8], second: &[u8], kept: &mut [u8]) {
+    match lent::byte_at(line, 0) {
+        b'k' => spelling::keep(lent::byte_at(line, 5), first, kept),
+        b'm' => combining::make(line, first, second, kept),
+        _ => asked(line, first, second),
+    }
+}
+
+fn case(line: &[u8], kept: &mut [u8]) {
+    let mut first = [0u8; 1024];
+    let mut second = [0u8; 65537];
+    let first_length = spelling::spell(line, 2, kept, &mut first);
+    let second_length = spelling::spell(line, 3, kept, &mut second);
+    run(
+        line,
+        lent::front(&first, first_length),
+        lent::front(&second, second_length),
+        kept,
+    );
+}
+
+// The lines of a list, in their order. The slice holds what is kept from one to the next.
+pub(crate) fn each(list: &[u8], kept: &mut [u8]) {
+    let mut at = 0;
+    while at < list.len() {
+        let line = lines::upto(list, at, b'\n');
+        case(line, kept);
+        at += line.len() + 1;
+    }
+}
