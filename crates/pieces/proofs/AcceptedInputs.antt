@@ -1,5 +1,5 @@
 -- Reading gives what the table asks: rules that fit their masks, and for each cell the number of its colour.
-use Prim.Native.Nat.{ℕ, _≤_, _<_}
+use Prim.Native.Nat.{ℕ, _≤_}
 use mathlib.Core.Path.{_≡_}
 use mathlib.Core.List.{List}
 use native.Mathlib.Omega.{arith}

@@ -15,7 +15,7 @@ use Rattle.pieces.specs.Firing.{firedAt, joinsFired}
 use Rattle.pieces.specs.Filling.{cutsOf, pieceCuts}
 use Rattle.pieces.specs.inner.Course.{courseOf}
 use Rattle.pieces.specs.inner.Along.{allFired, window, along}
-use Rattle.pieces.specs.inner.Placed.{Placed}
+use Rattle.pieces.specs.inner.ForTable.{MasksFit}
 use Rattle.pieces.specs.declared.masks.Joins.{Joins}
 use Rattle.pieces.specs.declared.piece.Piece.{Piece}
 use Rattle.pieces.proofs.Courses.{course-at, course-on}
@@ -37,7 +37,7 @@ window-fires masks j down l r few = gathered-back (j .down) _ _ back
         rw (getD-drop from masks i 0, getD-drop from masks (secondsFrom + i) 0, getD-drop from masks (headsFrom + i) 0, e, f, g)
 
 -- a window has its three rows
-pub window-long : (masks : List ℕ) (j : Joins) (d : Dir) → Placed (length masks) j → headsFrom + countOf j d ≤ length (window masks j d)
+pub window-long : (masks : List ℕ) (j : Joins) (d : Dir) → MasksFit (length masks) j → headsFrom + countOf j d ≤ length (window masks j d)
 window-long masks j across h = omega (arith, h .all, h .across-few)
 window-long masks j down h = omega (arith, length-drop (mostRules - j .down) masks, h .all, h .down-few)
 

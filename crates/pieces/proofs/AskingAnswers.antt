@@ -30,7 +30,7 @@ use Rattle.pieces.specs.Pieces.{Inside, slotOf}
 use Rattle.pieces.specs.Table.{cut}
 use Rattle.names.specs.Bits.{bit}
 use Rattle.pieces.specs.Derivation.{Derivation, entriesNeeded, numbersNeeded, filled, derivation}
-use Rattle.pieces.specs.Asking.{SplitBook, kept, splitBook, AskedSheet, asked, askSheet, Asking, unwritten, tabled, asking}
+use Rattle.pieces.specs.Asking.{SplitBook, keptWith, splitBook, AskedSheet, askedWith, askSheet, Asking, unwritten, tabled, asking}
 use Rattle.pieces.specs.Firing.{fireOf, paintedOf}
 use Rattle.pieces.proofs.Entries.{entry-derives, derives-entry}
 use Rattle.pieces.proofs.ExactViews.{motif-below}
@@ -130,11 +130,11 @@ module _ (book sheet entries numbers : List ℕ) (fine : bookOf book .fault .num
 
 -- ── Two outcomes that a contract allows are equal ──
 
-pub split-book-settled : (book masks : List ℕ) → SettlesBoth (λ (r : Split) (left : List ℕ). kept r left ≡ splitBook book masks)
+pub split-book-settled : (book masks : List ℕ) → SettlesBoth (λ (r : Split) (left : List ℕ). keptWith r left ≡ splitBook book masks)
 split-book-settled book masks r q x y e f = let same = settled e f in (ap (λ (s : SplitBook). s .split) same, ap (λ (s : SplitBook). s .masks) same)
 
 pub ask-sheet-settled : (book : List ℕ) (split : Split) (masks sheet entries : List ℕ)
-    → SettlesBoth (λ (r : Asked) (left : List ℕ). asked r left ≡ askSheet book split masks sheet entries)
+    → SettlesBoth (λ (r : Asked) (left : List ℕ). askedWith r left ≡ askSheet book split masks sheet entries)
 ask-sheet-settled book split masks sheet entries r q x y e f = let same = settled e f in (ap (λ (s : AskedSheet). s .asked) same, ap (λ (s : AskedSheet). s .entries) same)
 
 pub fire-settled : (masks : List ℕ) (j : Joins) (d : Dir) (l r : ℕ) → Settles (fireOf masks j d l r)

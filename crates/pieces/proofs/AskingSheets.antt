@@ -1,52 +1,49 @@
 -- By what is kept of an accepted book, a sheet is told what asking the book says: the masks serve the book's rules, so that the table is that of the book, and the bit
 -- of the start motif at the whole sheet says whether it derives the sheet.
 use Prim.Native.Nat.{ℕ, _≤_, _<_}
-use mathlib.Core.Path.{_≡_, sym, ap, ap₂, _∙_, subst}
-use mathlib.Core.Bool.{Bool}
+use mathlib.Core.Path.{_≡_, sym, ap, _∙_, subst}
 use mathlib.Core.List.{List}
+use mathlib.Core.Logic.{_↔_}
 use native.Mathlib.Decide.{decLt, ℕ-discrete}
 use native.Mathlib.Omega.{arith}
 use borrow.Author.Tests.{eq-eqb, ne-eqb, lt-ltb, le-ltb}
-use lib.Dec.{eqb}
 use lib.ListN.{length, take}
-use Rattle.names.specs.Bits.{isSet}
-use Rattle.names.specs.Pick.{pick}
+use lib.Seq.{length-take-le}
+use Rattle.names.specs.Bits.{bit, isSet}
 use Rattle.names.specs.declared.colours.Colours.{Colours}
 use Rattle.names.specs.declared.number.Fault.{Fault}
 use Rattle.names.proofs.SpellingNumbers.{Bytes}
-use Rattle.books.specs.Answer.{plain}
 use Rattle.books.specs.Book.{bookOf}
-use Rattle.books.specs.Contents.{Contents}
-use Rattle.books.specs.Decide.{derives?}
+use Rattle.books.specs.Contents.{Contents, Has}
 use Rattle.books.specs.Order.{numbersOf, numberedSheet}
 use Rattle.books.specs.Picture.{Picture}
 use Rattle.books.specs.Sheet.{sheetOf}
 use Rattle.books.specs.declared.book.BookRead.{BookRead}
 use Rattle.books.specs.declared.family.Family.{Family}
 use Rattle.books.specs.declared.order.NumberedSheet.{NumberedSheet}
-use Rattle.books.specs.declared.rule.Rule.{Rule}
+use Rattle.books.specs.declared.rule.Body.the-variants.{Colour}
 use Rattle.books.specs.declared.sheet.Sheet.{Sheet}
 use Rattle.books.proofs.Ordering.{numbers-for, numbered-room, numbered-few}
-use Rattle.books.proofs.ReadingBooks.{book-places, book-accepted}
+use Rattle.books.proofs.ReadingBooks.{book-lies, book-places, book-accepted}
 use Rattle.books.proofs.ReadingSheets.{sheet-lies}
 use Rattle.pieces.specs.Area.{whole}
-use Rattle.pieces.specs.Asking.{SplitBook, kept, keeping, splitBook, Asking, unwritten, startAnswer, judgedBy, toldBy, AskedSheet, asked, showing, askSheet, tabled, asking, SplitFrom, Asks}
+use Rattle.pieces.specs.Asking.{SplitBook, keptWith, keeping, splitBook, startAnswer, judgedBy, toldBy, AskedSheet, askedWith, sheetTold, askSheet, tabled, asking, SplitFrom, Asks}
 use Rattle.pieces.specs.Derivation.{entriesNeeded, filled}
 use Rattle.pieces.specs.Filling.{filledBy}
 use Rattle.pieces.specs.Largest.{marked}
-use Rattle.pieces.specs.Masks.{allMasks, Masked, splitOf, laid}
-use Rattle.pieces.specs.Rights.{Serves}
+use Rattle.pieces.specs.Masks.{mostRules, allMasks, Masked, splitOf, laid}
+use Rattle.pieces.specs.Firing.{fireOf, paintedOf}
+use Rattle.pieces.specs.Rights.{Fires, Serves}
 use Rattle.pieces.specs.declared.asking.Asked.{Asked}
 use Rattle.pieces.specs.declared.asking.Split.{Split}
-use Rattle.pieces.specs.declared.masks.Joins.{Joins}
-use Rattle.pieces.specs.inner.Placed.{Shows}
+use Rattle.pieces.specs.inner.ForTable.{Shows}
 use Rattle.pieces.specs.inner.Small.{SmallRules}
 use Rattle.pieces.proofs.AcceptedInputs.{rules-read, as-read, cells-numbered}
 use Rattle.pieces.proofs.Cutting.{whole-inside, cut-whole}
 use Rattle.books.specs.Lent.{contentsOf, pictureOf}
 use Rattle.pieces.proofs.Entries.{entry-tests}
 use Rattle.pieces.proofs.Judging.{filled-holds, held-entry}
-use Rattle.pieces.proofs.ServingMasks.{split-serves}
+use Rattle.pieces.proofs.ServingMasks.{split-serves, fire-serves, painted-serves}
 use Rattle.pieces.proofs.WholeTable.{whole-table}
 
 -- ── What was read ──
@@ -74,7 +71,7 @@ read-shows book c sheet is = rw is shows
 
 -- ── What is kept of a book ──
 
-module _ (book before : List ℕ) {split : Split} {masks : List ℕ} (is : kept split masks ≡ splitBook book before) where
+module _ (book before : List ℕ) {split : Split} {masks : List ℕ} (is : keptWith split masks ≡ splitBook book before) where
   pub kept-fault : split .fault ≡ bookOf book .fault
   unfolding splitBook
   kept-fault = ap (λ (x : SplitBook). x .split .fault) is
@@ -91,14 +88,26 @@ module _ (book : List ℕ) (split : Split) (masks : List ℕ) (from : SplitFrom 
   abbrev b : Contents
   b = contentsOf book
 
-  is-split : kept split masks ≡ keeping (bookOf book) (splitOf (b .rules) (from .before))
+  is-split : keptWith split masks ≡ keeping (bookOf book) (splitOf (b .rules) (from .before))
   unfolding splitBook laid
   is-split = from .is ∙ rw (eq-eqb (bookOf book .fault .number) 0 (from .accepted), eq-eqb (length (from .before)) allMasks (from .sized))
 
-  book-serves : Bytes book → Serves (b .rules) masks (split .joins)
-  book-serves bytes =
-      subst (λ (x : SplitBook). Serves (b .rules) (x .masks) (x .split .joins)) (sym is-split)
-      (split-serves (b .rules) (from .before) (book-accepted book bytes (from .accepted) .keeps .rules-few) (from .sized))
+  -- its masks serve its rules, ...
+  pub book-serves : Serves (b .rules) masks (split .joins)
+  book-serves =
+      let k = book-lies book (from .accepted) in
+      let f = bookOf book .family in
+      let few : length (b .rules) ≤ mostRules = omega (arith, length-take-le (f .count) (f .rules) (omega (arith, k .rules-few, k .rules-size)), k .rules-few) in
+      subst (λ (x : SplitBook). Serves (b .rules) (x .masks) (x .split .joins)) (sym is-split) (split-serves (b .rules) (from .before) few (from .sized))
+
+  -- ... so that what the public functions give by them is what the rules give
+  pub book-fires : Fires (b .rules) (fireOf masks (split .joins))
+  book-fires = fire-serves book-serves
+
+  pub book-paints : Bytes book → (a : ℕ) → (bit (paintedOf masks) a ≡ 1) ↔ ((c : ℕ) × Has b a (Colour c))
+  book-paints bytes =
+      let k = book-accepted book bytes (from .accepted) .keeps in
+      painted-serves book-serves (λ a c m. omega (arith, k .sound .rules-fit _ m .body-fits, k .colours-ok .few))
 
 -- ── The bit of the start motif at the whole sheet ──
 
@@ -127,7 +136,7 @@ module _ (book sheet : List ℕ) (bytes-book : Bytes book) (bytes-sheet : Bytes 
   s = numberedSheet book (f .colours) sheet
 
   serves : Serves (contentsOf book .rules) masks (split .joins)
-  serves = book-serves book split masks from bytes-book
+  serves = book-serves book split masks from
 
   by-table : sheetOf sheet .fault .number ≡ 0 → entriesNeeded p ≤ length entries
       → judgedBy (g .rows) (g .cols) (f .start) (filledBy masks (split .joins) (numbersOf book (f .colours) sheet g) (g .rows) (g .cols) entries)
@@ -151,14 +160,14 @@ module _ (book sheet : List ℕ) (bytes-book : Bytes book) (bytes-sheet : Bytes 
           (by-table z enough)
 
   -- the whole outcome of ask_sheet, by the book alone
-  pub asked-of-book : askSheet book split masks sheet entries ≡ showing s (asking book sheet entries)
+  pub asked-of-book : askSheet book split masks sheet entries ≡ sheetTold s (asking book sheet entries)
   unfolding askSheet
   asked-of-book =
-      ap (λ (x : SplitBook). let t = numberedSheet book (x .split .colours) sheet in showing t (toldBy t (x .split .start) (split .joins) masks entries))
+      ap (λ (x : SplitBook). let t = numberedSheet book (x .split .colours) sheet in sheetTold t (toldBy t (x .split .start) (split .joins) masks entries))
       (is-split book split masks from)
-      ∙ ap (showing s) told
+      ∙ ap (sheetTold s) told
 
-  pub book-asks : (r : Asked) (left : List ℕ) → asked r left ≡ askSheet book split masks sheet entries → Asks book sheet entries r left
+  pub book-asks : (r : Asked) (left : List ℕ) → askedWith r left ≡ askSheet book split masks sheet entries → Asks book sheet entries r left
   unfolding numberedSheet
   book-asks r left e =
       let is = e ∙ asked-of-book in

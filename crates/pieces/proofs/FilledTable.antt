@@ -1,13 +1,12 @@
 -- Where the cells are right, and what fires at a cut is what the joins of a book give, the table that is filled is that of the picture: slot by slot the entry due is
 -- made of earlier ones, which are right, since the parts of a piece have smaller slots and are the parts of its picture.
-use mathlib.Core.Path.{_≡_, refl, sym, ap, ap₂, _∙_, subst}
+use mathlib.Core.Path.{_≡_, refl, sym, ap, ap₂, _∙_}
 use mathlib.Core.List.{List, _∷_, _++_, map, append-assoc}
 use mathlib.Core.Logic.{⊎-elim}
 use Prim.Native.Nat.{ℕ, zero, suc, _+_, _-_, _*_, _≤_, _<_}
 use native.Mathlib.Nat.{add-assoc}
 use native.Mathlib.Numerals.{add-one}
 use native.Mathlib.Omega.{arith}
-use native.Mathlib.Decide.{decLt}
 use lib.ListN.{length, getD, take, drop, set, length-map, drop-of-length-le, List·getD-append}
 use lib.Seq.{ext-getD, getD-take, length-take-le, take-all, take-suc, drop-cons, set-at}
 use Rattle.books.specs.Contents.{Contents}

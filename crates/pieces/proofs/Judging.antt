@@ -34,7 +34,7 @@ use Rattle.pieces.proofs.ExactViews.{Exact}
 use Rattle.pieces.specs.Tree.{treeOf}
 use Rattle.pieces.specs.Masks.{allMasks}
 use Rattle.pieces.specs.inner.Fitted.{Fitted}
-use Rattle.pieces.specs.inner.Placed.{filledFor}
+use Rattle.pieces.specs.inner.ForTable.{filledFor}
 use Rattle.pieces.specs.inner.Verdict.{Verdict, verdict}
 use Rattle.pieces.specs.Derivation.{leaving, entriesNeeded, filled, judged}
 use Rattle.pieces.proofs.Entries.{derives-entry}

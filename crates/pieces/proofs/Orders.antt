@@ -5,7 +5,6 @@ use mathlib.Core.Path.{_≡_, sym, ap, _∙_}
 use mathlib.Core.Bool.{true}
 use mathlib.Core.List.{List}
 use mathlib.Core.Logic.{⊎-elim}
-use native.Mathlib.Omega.{arith}
 use lib.ListN.{length, take}
 use Rattle.names.proofs.SpellingNumbers.{Bytes}
 use Rattle.books.specs.Answer.{plain}
@@ -27,7 +26,7 @@ use Rattle.pieces.specs.Area.{whole}
 use Rattle.pieces.specs.Derivation.{leaving, derivation}
 use Rattle.pieces.specs.inner.Fitted.{Fitted}
 use Rattle.pieces.specs.inner.Small.{SmallRules}
-use Rattle.pieces.specs.inner.Placed.{Paintable, filledFor}
+use Rattle.pieces.specs.inner.ForTable.{Paintable, filledFor}
 use Rattle.pieces.specs.inner.Room.{Room}
 use Rattle.pieces.specs.inner.Verdict.{Verdict, verdict, lacking}
 use Rattle.pieces.specs.inner.Seen.{sized, hasBit, seen}

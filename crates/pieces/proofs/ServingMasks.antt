@@ -4,7 +4,7 @@ use mathlib.Core.Path.{_≡_, refl, sym, ap, _∙_, subst}
 use mathlib.Core.Bool.{Bool, true, false, false≢true}
 use mathlib.Core.Logic.{_↔_}
 use mathlib.Core.List.{List, List·Memᴰ}
-use Prim.Native.Nat.{ℕ, _+_, _^_, _≤_, _<_}
+use Prim.Native.Nat.{ℕ, _+_, _≤_, _<_}
 use native.Mathlib.Omega.{arith}
 use native.Mathlib.Decide.{ℕ-discrete}
 use borrow.Author.Tests.{eqb-true, leb-true, eq-eqb, ne-eqb, le-leb}
@@ -23,29 +23,29 @@ use Rattle.books.specs.declared.rule.Rule.{Rule}
 use Rattle.books.specs.declared.rule.Body.{Body}
 use Rattle.books.specs.declared.rule.Body.the-variants.{Colour, Across, Down}
 use Rattle.pieces.specs.Masks.{mostRules, paintersFrom, colourMasks, allMasks, Masked, masked, noJoins, splitFrom, cleared, splitOf}
-use Rattle.pieces.specs.Firing.{firing, gathered, joinsFired, fitting, fireOf, paintedOf}
+use Rattle.pieces.specs.Firing.{gathered, joinsFired, fitting, fireOf, paintedOf}
 use Rattle.pieces.specs.Rights.{Fires, Serves}
-use Rattle.pieces.specs.inner.Placed.{Placed}
+use Rattle.pieces.specs.inner.ForTable.{MasksFit}
 use Rattle.pieces.specs.declared.masks.Joins.{Joins}
 use Rattle.pieces.proofs.Gathered.{gathered-has, has-gathered, firing-has, has-firing}
-use Rattle.pieces.proofs.Splitting.{fired, painter, Roomy, more-fires, more-paints, split-roomy, split-gives}
+use Rattle.pieces.proofs.Splitting.{fired, painter, PlacesFor, more-fires, more-paints, split-places, split-gives}
 
 -- ── Masks that fit ──
 
-pub fitting-placed : (masks : ℕ) (j : Joins) → fitting masks j ≡ true → Placed masks j
+pub fitting-fit : (masks : ℕ) (j : Joins) → fitting masks j ≡ true → MasksFit masks j
 unfolding fitting
-fitting-placed masks j =
+fitting-fit masks j =
     let across-fits = leb (j .across) mostRules in
     let down-fits = leb (j .down) mostRules in
-    pick-ind (λ (t : Bool). t ≡ true → Placed masks j) (eqb masks allMasks) (pick across-fits down-fits false) false
-    (λ e. pick-ind (λ (t : Bool). t ≡ true → Placed masks j) across-fits down-fits false
+    pick-ind (λ (t : Bool). t ≡ true → MasksFit masks j) (eqb masks allMasks) (pick across-fits down-fits false) false
+    (λ e. pick-ind (λ (t : Bool). t ≡ true → MasksFit masks j) across-fits down-fits false
     (λ f g. record { all = eqb-true masks allMasks e; across-few = leb-true (j .across) mostRules f; down-few = leb-true (j .down) mostRules g })
     (λ _ z. absurd (false≢true z)))
     (λ _ z. absurd (false≢true z))
 
-placed-fitting : (masks : ℕ) (j : Joins) → Placed masks j → fitting masks j ≡ true
+fit-fitting : (masks : ℕ) (j : Joins) → MasksFit masks j → fitting masks j ≡ true
 unfolding fitting
-placed-fitting masks j h = rw (eq-eqb masks allMasks (h .all), le-leb (j .across) mostRules (h .across-few), le-leb (j .down) mostRules (h .down-few))
+fit-fitting masks j h = rw (eq-eqb masks allMasks (h .all), le-leb (j .across) mostRules (h .across-few), le-leb (j .down) mostRules (h .down-few))
 
 -- ── One rule ──
 
@@ -89,8 +89,8 @@ module _ (rules : List Rule) (masks : List ℕ) (few : length rules ≤ mostRule
   size : length (take paintersFrom masks) ≡ paintersFrom
   size = length-take-le paintersFrom masks (omega arith)
 
-  roomy : Roomy (length rules) start
-  roomy = record { long = simp length-append (omega (arith, size)); free = omega arith }
+  places : PlacesFor (length rules) start
+  places = record { long = simp length-append (omega (arith, size)); free = omega arith }
 
   none-paint : (c : ℕ) → c < colourMasks → getD (cleared masks) (paintersFrom + c) 0 ≡ 0
   none-paint c h =
@@ -106,13 +106,13 @@ module _ (rules : List Rule) (masks : List ℕ) (few : length rules ≤ mostRule
   fires-given : (d : Dir) (l r a : ℕ) → (bit (joinsFired (end .masks) (end .joins) d l r) a ≡ 1) ↔ ((q : Rule) × List·Memᴰ q rules × (bit (fired d l r (q .head) (q .body)) a ≡ 1))
   fires-given d l r a =
       split-gives (λ s. joinsFired (s .masks) (s .joins) d l r) (λ q. fired d l r (q .head) (q .body))
-      (λ n s w q. more-fires n s w (q .head) (q .body) d l r) a rules start roomy (none-fire d l r)
+      (λ n s w q. more-fires n s w (q .head) (q .body) d l r) a rules start places (none-fire d l r)
 
   paints-given : (c : ℕ) → c < colourMasks → (a : ℕ)
       → (bit (getD (end .masks) (paintersFrom + c) 0) a ≡ 1) ↔ ((q : Rule) × List·Memᴰ q rules × (bit (painter c (q .head) (q .body)) a ≡ 1))
   paints-given c h a =
       split-gives (λ s. getD (s .masks) (paintersFrom + c) 0) (λ q. painter c (q .head) (q .body))
-      (λ n s w q. more-paints n s w (q .head) (q .body) c h) a rules start roomy (none-paint c h)
+      (λ n s w q. more-paints n s w (q .head) (q .body) c h) a rules start places (none-paint c h)
 
   split-fires : Fires rules (joinsFired (end .masks) (end .joins))
   split-fires =
@@ -130,13 +130,13 @@ module _ (rules : List Rule) (masks : List ℕ) (few : length rules ≤ mostRule
     λ m. paints-given c h a .1 (rule a (Colour c), m, has-painter c a),
   )
 
-  pub split-placed : Placed (length (splitOf rules masks .masks)) (splitOf rules masks .joins)
+  pub split-fit : MasksFit (length (splitOf rules masks .masks)) (splitOf rules masks .joins)
   unfolding splitOf
-  split-placed = let w = split-roomy rules start roomy in record { all = w .long; across-few = omega (arith, w .free); down-few = omega (arith, w .free) }
+  split-fit = let w = split-places rules start places in record { all = w .long; across-few = omega (arith, w .free); down-few = omega (arith, w .free) }
 
   pub split-serves : Serves rules (splitOf rules masks .masks) (splitOf rules masks .joins)
   unfolding splitOf
-  split-serves = record { fits = placed-fitting _ _ split-placed; fires = split-fires; paints = split-paints }
+  split-serves = record { fits = fit-fitting _ _ split-fit; fires = split-fires; paints = split-paints }
 
 -- ── What the public functions give by such masks ──
 
@@ -157,7 +157,7 @@ module _ {rules : List Rule} {masks : List ℕ} {j : Joins} (serves : Serves rul
   pub painted-serves : ((a c : ℕ) → Ruled rules a (Colour c) → c < colourMasks) → (a : ℕ) → (bit (paintedOf masks) a ≡ 1) ↔ ((c : ℕ) × Ruled rules a (Colour c))
   unfolding paintedOf
   painted-serves low a =
-      rw (eq-eqb (length masks) allMasks (fitting-placed (length masks) j (serves .fits) .all)) (
+      rw (eq-eqb (length masks) allMasks (fitting-fit (length masks) j (serves .fits) .all)) (
         λ o. let (c, h, u) = gathered-has colourMasks _ a o in (c, serves .paints c h a .0 u),
         λ (c, m). has-gathered colourMasks _ a c (low a c m) (serves .paints c (low a c m) a .1 m),
       )

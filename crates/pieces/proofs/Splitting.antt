@@ -1,27 +1,25 @@
 -- Rules are split one after the other: a join goes to the next place of its direction and disturbs none that stands, and the head of a colour rule joins the painters
 -- of its colour. So what masks give is what they gave before and what each rule gives.
-use mathlib.Core.Path.{_≡_, refl, sym, ap, ap₂, _∙_, subst}
+use mathlib.Core.Path.{_≡_, refl, sym, ap₂, _∙_, subst}
 use mathlib.Core.Logic.{_↔_, _⊎_, inl, inr, ⊎-elim}
 use mathlib.Core.List.{List, [], _∷_, List·Memᴰ, List·Memᴰ·head, List·Memᴰ·tail, List·Memᴰ·cases-cons, List·Memᴰ·not-nil}
 use Prim.Native.Nat.{ℕ, suc, _+_, _^_, _≤_, _<_}
-use native.Mathlib.Numerals.{add-one}
 use native.Mathlib.Omega.{arith}
 use native.Mathlib.Decide.{ℕ-discrete}
 use borrow.Author.Tests.{eq-eqb, ne-eqb}
 use lib.Bits.{bitOr, or-zero-r}
 use lib.Dec.{eqb}
-use lib.ListN.{length, getD, take, drop, set, length-set, drop-of-length-le}
-use lib.Seq.{getD-set-same, getD-set-other, getD-take, drop-cons, length-take-le}
+use lib.ListN.{length, getD, set, length-set}
+use lib.Seq.{getD-set-same, getD-set-other}
 use Rattle.names.specs.Bits.{bit}
 use Rattle.names.specs.Pick.{pick}
 use Rattle.names.proofs.Bits.{none-set, or-split, or-left, or-right}
-use Rattle.books.specs.Rules.{noRule}
 use Rattle.books.specs.declared.rule.Dir.{Dir}
 use Rattle.books.specs.declared.rule.Dir.the-variants.{Across as across, Down as down}
 use Rattle.books.specs.declared.rule.Rule.{Rule}
 use Rattle.books.specs.declared.rule.Body.{Body}
 use Rattle.books.specs.declared.rule.Body.the-variants.{Colour, Across, Down}
-use Rattle.pieces.specs.Masks.{mostRules, secondsFrom, headsFrom, paintersFrom, colourMasks, allMasks, placeOf, countOf, Masked, oneMore, putAt, putJoin, putPainter, putBody, splitFrom}
+use Rattle.pieces.specs.Masks.{mostRules, secondsFrom, headsFrom, paintersFrom, colourMasks, allMasks, placeOf, countOf, Masked, putAt, putJoin, putPainter, putBody, splitFrom}
 use Rattle.pieces.specs.Firing.{firing, gathered, firedAt, joinsFired}
 use Rattle.pieces.specs.declared.masks.Joins.{Joins}
 use Rattle.pieces.proofs.Gathered.{gathered-next, gathered-same}
@@ -79,23 +77,23 @@ module _ (masks : List ℕ) (at a x y : ℕ) (low : at < mostRules) where
 -- ── One rule more ──
 
 -- masks with places free for so many rules
-pub record Roomy (left : ℕ) (s : Masked) : Type 0 where
+pub record PlacesFor (left : ℕ) (s : Masked) : Type 0 where
   pub long : length (s .masks) ≡ allMasks
   pub free : s .joins .across + s .joins .down + left ≤ mostRules
 
-module _ (left : ℕ) (s : Masked) (roomy : Roomy (suc left) s) where
+module _ (left : ℕ) (s : Masked) (places : PlacesFor (suc left) s) where
   abbrev j : Joins
   j = s .joins
 
   place-low : (d : Dir) (i : ℕ) → i ≤ countOf j d → placeOf d i < mostRules
-  place-low across i h = omega (arith, roomy .free)
+  place-low across i h = omega (arith, places .free)
   place-low down i h = omega arith
 
   place-apart : (d e : Dir) (i : ℕ) → i < countOf j d → placeOf d i ≡ placeOf e (countOf j e) → ⊥
   place-apart across across i h p = omega arith
-  place-apart across down i h p = omega (arith, roomy .free)
-  place-apart down across i h p = omega (arith, roomy .free)
-  place-apart down down i h p = omega (arith, roomy .free)
+  place-apart across down i h p = omega (arith, places .free)
+  place-apart down across i h p = omega (arith, places .free)
+  place-apart down down i h p = omega (arith, places .free)
 
   module _ (a x y l r : ℕ) where
     -- those that stood, ...
@@ -111,7 +109,7 @@ module _ (left : ℕ) (s : Masked) (roomy : Roomy (suc left) s) where
         ≡ bitOr (joinsFired (s .masks) j d l r) (firing l r (2 ^ x) (2 ^ y) (2 ^ a))
     more d =
         gathered-next (countOf j d) _
-        ∙ ap₂ bitOr (stood d d) (put-fires (s .masks) (placeOf d (countOf j d)) a x y (place-low d (countOf j d) (omega arith)) (roomy .long) l r)
+        ∙ ap₂ bitOr (stood d d) (put-fires (s .masks) (placeOf d (countOf j d)) a x y (place-low d (countOf j d) (omega arith)) (places .long) l r)
 
   -- what fires, with one rule more
   pub more-fires : (a : ℕ) (x : Body) (d : Dir) (l r : ℕ)
@@ -135,7 +133,7 @@ module _ (left : ℕ) (s : Masked) (roomy : Roomy (suc left) s) where
   more-paints a (Colour k) c low = go (ℕ-discrete k c)
     where
       go : Dec (k ≡ c) → getD (putPainter s a k .masks) (paintersFrom + c) 0 ≡ bitOr (getD (s .masks) (paintersFrom + c) 0) (pick (eqb k c) (2 ^ a) 0)
-      go (yes e) = rw (e, eq-eqb c c refl) (getD-set-same (s .masks) (paintersFrom + c) _ 0 (omega (arith, roomy .long)))
+      go (yes e) = rw (e, eq-eqb c c refl) (getD-set-same (s .masks) (paintersFrom + c) _ 0 (omega (arith, places .long)))
       go (no n) =
           rw (ne-eqb k c n)
           (getD-set-other (s .masks) (paintersFrom + k) (paintersFrom + c) _ 0 (λ e. n (omega arith)) ∙ sym (or-zero-r (getD (s .masks) (paintersFrom + c) 0)))
@@ -143,45 +141,30 @@ module _ (left : ℕ) (s : Masked) (roomy : Roomy (suc left) s) where
       same-painters (s .masks) (placeOf across (j .across)) a x y (place-low across (j .across) (omega arith)) c ∙ sym (or-zero-r _)
   more-paints a (Down x y) c low = same-painters (s .masks) (placeOf down (j .down)) a x y (place-low down (j .down) (omega arith)) c ∙ sym (or-zero-r _)
 
-  pub more-roomy : (a : ℕ) (x : Body) → Roomy left (putBody s a x)
-  more-roomy a (Colour c) = record { long = simp length-set (roomy .long); free = omega (arith, roomy .free) }
-  more-roomy a (Across x y) = record { long = simp length-set (roomy .long); free = omega (arith, roomy .free) }
-  more-roomy a (Down x y) = record { long = simp length-set (roomy .long); free = omega (arith, roomy .free) }
+  pub more-places : (a : ℕ) (x : Body) → PlacesFor left (putBody s a x)
+  more-places a (Colour c) = record { long = simp length-set (places .long); free = omega (arith, places .free) }
+  more-places a (Across x y) = record { long = simp length-set (places .long); free = omega (arith, places .free) }
+  more-places a (Down x y) = record { long = simp length-set (places .long); free = omega (arith, places .free) }
 
 -- ── All rules ──
 
--- one after the other of the first so many
-module _ (rules : List Rule) (count : ℕ) (held : count ≤ length rules) (s : Masked) where
-  pub one-split : (i : ℕ) → i < count → let q = getD rules i noRule in
-      splitFrom (drop i (take count rules)) s ≡ splitFrom (drop (i + 1) (take count rules)) (putBody s (q .head) (q .body))
-  unfolding splitFrom
-  one-split i h =
-      let low : i < length (take count rules) = omega (arith, length-take-le count rules held) in
-      ap (λ (l : List Rule). splitFrom l s)
-      (drop-cons (take count rules) i noRule low
-      ∙ ap₂ (λ (q : Rule) (n : ℕ). q ∷ drop n (take count rules)) (getD-take count rules i noRule h) (sym (add-one i)))
-
-  pub all-split : (i : ℕ) → count ≤ i → splitFrom (drop i (take count rules)) s ≡ s
-  unfolding splitFrom
-  all-split i h = rw (drop-of-length-le (take count rules) {i = i} (omega (arith, length-take-le count rules held)))
-
-pub split-roomy : (rules : List Rule) (s : Masked) → Roomy (length rules) s → Roomy 0 (splitFrom rules s)
+pub split-places : (rules : List Rule) (s : Masked) → PlacesFor (length rules) s → PlacesFor 0 (splitFrom rules s)
 unfolding splitFrom
-split-roomy [] s roomy = roomy
-split-roomy (q ∷ rest) s roomy = split-roomy rest (putBody s (q .head) (q .body)) (more-roomy (length rest) s roomy (q .head) (q .body))
+split-places [] s places = places
+split-places (q ∷ rest) s places = split-places rest (putBody s (q .head) (q .body)) (more-places (length rest) s places (q .head) (q .body))
 
 -- a number to which each rule adds its own has the bits that it had and those of each rule
 module _ (number : Masked → ℕ) (own : Rule → ℕ)
-    (more : (left : ℕ) (s : Masked) → Roomy (suc left) s → (q : Rule) → number (putBody s (q .head) (q .body)) ≡ bitOr (number s) (own q)) (a : ℕ) where
+    (more : (left : ℕ) (s : Masked) → PlacesFor (suc left) s → (q : Rule) → number (putBody s (q .head) (q .body)) ≡ bitOr (number s) (own q)) (a : ℕ) where
   abbrev Given : List Rule → Type 0
   Given rules = (q : Rule) × List·Memᴰ q rules × (bit (own q) a ≡ 1)
 
-  split-adds : (rules : List Rule) (s : Masked) → Roomy (length rules) s → (bit (number (splitFrom rules s)) a ≡ 1) ↔ ((bit (number s) a ≡ 1) ⊎ Given rules)
+  split-adds : (rules : List Rule) (s : Masked) → PlacesFor (length rules) s → (bit (number (splitFrom rules s)) a ≡ 1) ↔ ((bit (number s) a ≡ 1) ⊎ Given rules)
   unfolding splitFrom
-  split-adds [] s roomy = (inl, ⊎-elim (λ o. o) (λ (q, m, o). absurd (List·Memᴰ·not-nil m)))
-  split-adds (q ∷ rest) s roomy =
-      let e = more (length rest) s roomy q in
-      let (there, back) = split-adds rest (putBody s (q .head) (q .body)) (more-roomy (length rest) s roomy (q .head) (q .body)) in (
+  split-adds [] s places = (inl, ⊎-elim (λ o. o) (λ (q, m, o). absurd (List·Memᴰ·not-nil m)))
+  split-adds (q ∷ rest) s places =
+      let e = more (length rest) s places q in
+      let (there, back) = split-adds rest (putBody s (q .head) (q .body)) (more-places (length rest) s places (q .head) (q .body)) in (
         λ o. ⊎-elim
             (λ u. ⊎-elim inl (λ v. inr (q, List·Memᴰ·head refl, v)) (or-split (number s) (own q) a (rw e at u)))
             (λ (p, m, v). inr (p, List·Memᴰ·tail m, v))
@@ -196,6 +179,6 @@ module _ (number : Masked → ℕ) (own : Rule → ℕ)
       )
 
   -- and those of each rule alone, where it had none
-  pub split-gives : (rules : List Rule) (s : Masked) → Roomy (length rules) s → number s ≡ 0 → (bit (number (splitFrom rules s)) a ≡ 1) ↔ Given rules
-  split-gives rules s roomy none =
-      let (there, back) = split-adds rules s roomy in (λ o. ⊎-elim (λ u. absurd (none-set a (rw none at u))) (λ g. g) (there o), λ g. back (inr g))
+  pub split-gives : (rules : List Rule) (s : Masked) → PlacesFor (length rules) s → number s ≡ 0 → (bit (number (splitFrom rules s)) a ≡ 1) ↔ Given rules
+  split-gives rules s places none =
+      let (there, back) = split-adds rules s places in (λ o. ⊎-elim (λ u. absurd (none-set a (rw none at u))) (λ g. g) (there o), λ g. back (inr g))

@@ -5,7 +5,6 @@ use Prim.Native.Nat.{ℕ, _+_, _*_, _≤_, _<_}
 use native.Mathlib.Omega.{arith}
 use lib.ListN.{length, getD, take}
 use lib.Seq.{getD-take}
-use Rattle.names.specs.Name.{Name}
 use Rattle.names.specs.Colours.{nameIn, namesIn, findName}
 use Rattle.names.proofs.ReadingColours.{names-count, name-at}
 use Rattle.books.specs.Contents.{Contents}
@@ -17,12 +16,12 @@ use Rattle.books.specs.Picture.{Picture}
 use Rattle.books.specs.declared.family.Family.{Family}
 use Rattle.books.specs.declared.sheet.Sheet.{Sheet}
 use Rattle.pieces.specs.Pieces.{piece, total}
-use Rattle.pieces.specs.Masks.{paintersFrom, colourMasks}
+use Rattle.pieces.specs.Masks.{paintersFrom}
 use Rattle.pieces.specs.Filling.{filledBy}
 use Rattle.pieces.specs.Rights.{Serves}
 use Rattle.pieces.specs.Table.{cut, entry}
 use Rattle.pieces.specs.Derivation.{filled}
-use Rattle.pieces.specs.inner.Placed.{Paintable}
+use Rattle.pieces.specs.inner.ForTable.{Paintable}
 use Rattle.pieces.specs.inner.Room.{Room}
 use Rattle.pieces.specs.declared.masks.Joins.{Joins}
 use Rattle.pieces.proofs.CellEntries.{found-low, painters-entry}

@@ -1,5 +1,5 @@
--- One book asked for one sheet after another: the book is read and split into masks once, and each sheet gets its table and an answer, with no tree. By any masks, and
--- by a book.
+-- One book asked for one sheet after another: the book is read and split into masks once, and each sheet gets its table and an answer, with no tree.
+-- What is told by any masks, and what by a book.
 use Prim.Native.Nat.{ℕ}
 use mathlib.Core.Path.{_≡_}
 use mathlib.Core.List.{List}
@@ -35,11 +35,11 @@ pub record SplitBook : Type 0 where
   pub split : Split
   pub masks : List ℕ
 
-abbrev pub kept : Split → List ℕ → SplitBook
-kept split masks = record { split = split; masks = masks }
+abbrev pub keptWith : Split → List ℕ → SplitBook
+keptWith split masks = record { split = split; masks = masks }
 
 abbrev pub keeping : BookRead → Masked → SplitBook
-keeping b s = kept (record { fault = b .fault; colours = b .family .colours; start = b .family .start; joins = s .joins }) (s .masks)
+keeping b s = keptWith (record { fault = b .fault; colours = b .family .colours; start = b .family .start; joins = s .joins }) (s .masks)
 
 unfoldable pub splitBook : List ℕ → List ℕ → SplitBook
 splitBook book masks = keeping (bookOf book) (laid (bookOf book .fault .number) (contentsOf book .rules) masks)
@@ -75,16 +75,16 @@ pub record AskedSheet : Type 0 where
   pub asked : Asked
   pub entries : List ℕ
 
-abbrev pub asked : Asked → List ℕ → AskedSheet
-asked r entries = record { asked = r; entries = entries }
+abbrev pub askedWith : Asked → List ℕ → AskedSheet
+askedWith r entries = record { asked = r; entries = entries }
 
-abbrev pub showing : NumberedSheet → Asking → AskedSheet
-showing s a = asked (record { answer = a .answer; ticket = s .ticket; rows = s .rows; cols = s .cols; cells = s .cells }) (a .entries)
+abbrev pub sheetTold : NumberedSheet → Asking → AskedSheet
+sheetTold s a = askedWith (record { answer = a .answer; ticket = s .ticket; rows = s .rows; cols = s .cols; cells = s .cells }) (a .entries)
 
 -- a sheet numbered by the colours kept; of what is told the masks change the answer 0 or 11 alone
 unfoldable pub askSheet : List ℕ → Split → List ℕ → List ℕ → List ℕ → AskedSheet
 askSheet book split masks sheet entries =
-    let s = numberedSheet book (split .colours) sheet in showing s (toldBy s (split .start) (split .joins) masks entries)
+    let s = numberedSheet book (split .colours) sheet in sheetTold s (toldBy s (split .start) (split .joins) masks entries)
 
 -- ── A sheet by a book ──
 
@@ -103,7 +103,7 @@ pub record SplitFrom (book : List ℕ) (split : Split) (masks : List ℕ) : Type
   pub accepted : bookOf book .fault .number ≡ 0
   pub before : List ℕ
   pub sized : length before ≡ allMasks
-  pub is : kept split masks ≡ splitBook book before
+  pub is : keptWith split masks ≡ splitBook book before
 
 -- by these a sheet is told what asking the book says; its cells have the numbers of their colours in the book
 pub record Asks (book sheet entries : List ℕ) (r : Asked) (left : List ℕ) : Type 0 where

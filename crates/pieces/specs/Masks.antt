@@ -1,5 +1,5 @@
--- The rules of a book as masks, in which a motif is worth 2 to the power of its number: how they stand in one row of numbers, and what splitting rules leaves there.
--- The code's constants have the same names.
+-- The rules of a book as masks, in which a motif is worth 2 to the power of its number: how they stand in one row of numbers, and what splitting rules
+-- leaves there. The code's constants have the same names.
 use Prim.Native.Nat.{ℕ, _+_, _-_, _*_, _^_}
 use mathlib.Core.List.{List, [], _∷_, _++_}
 use lib.Bits.{bitOr}
@@ -61,16 +61,16 @@ masked masks j = record { masks = masks; joins = j }
 abbrev pub noJoins : Joins
 noJoins = record { across = 0; down = 0 }
 
-abbrev pub oneMore : Joins → Dir → Joins
-oneMore j across = record { across = j .across + 1; down = j .down }
-oneMore j down = record { across = j .across; down = j .down + 1 }
+abbrev pub oneJoinMore : Joins → Dir → Joins
+oneJoinMore j across = record { across = j .across + 1; down = j .down }
+oneJoinMore j down = record { across = j .across; down = j .down + 1 }
 
 -- the masks of a join at a place of the three rows
 abbrev pub putAt : List ℕ → ℕ → ℕ → ℕ → ℕ → List ℕ
 putAt masks at head first second = set (set (set masks at (2 ^ first)) (secondsFrom + at) (2 ^ second)) (headsFrom + at) (2 ^ head)
 
 abbrev pub putJoin : Masked → Dir → ℕ → ℕ → ℕ → Masked
-putJoin s d head first second = masked (putAt (s .masks) (placeOf d (countOf (s .joins) d)) head first second) (oneMore (s .joins) d)
+putJoin s d head first second = masked (putAt (s .masks) (placeOf d (countOf (s .joins) d)) head first second) (oneJoinMore (s .joins) d)
 
 -- the head of a colour rule joins the other painters of its colour
 abbrev pub putPainter : Masked → ℕ → ℕ → Masked

@@ -1,5 +1,5 @@
--- When a number is right for a thing that is cut: its bits are the motifs that the rules give. And when masks serve rules: their joins give what fires at a cut, and
--- their colour rules the painters.
+-- When a number is right for a thing that is cut: its bits are the motifs that the rules give. And when masks serve rules: their joins are what fires
+-- at a cut, and their colour rules the painters.
 use Prim.Native.Nat.{ℕ, _+_, _<_}
 use mathlib.Core.Path.{_≡_}
 use mathlib.Core.Bool.{true}

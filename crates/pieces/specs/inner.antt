@@ -7,7 +7,7 @@ pub mod Tried
 pub mod Course
 pub mod Along
 pub mod Small
-pub mod Placed
+pub mod ForTable
 pub mod Verdict
 pub mod TreeWrote
 pub mod Due

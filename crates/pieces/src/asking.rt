@@ -21,10 +21,10 @@ use names::number::Fault;
 ghost use mathlib.Core.Path.{_≡_};
 ghost use lib.ListN.{take};
 ghost use Rattle.pieces.specs.Masks.{masked, laid};
-ghost use Rattle.pieces.specs.Asking.{kept, splitBook, startAnswer, unwritten, toldBy, asked, askSheet};
+ghost use Rattle.pieces.specs.Asking.{keptWith, splitBook, startAnswer, unwritten, toldBy, askedWith, askSheet};
 ghost use Rattle.pieces.specs.inner.Seen.{Tabled};
 ghost use Rattle.pieces.specs.inner.Small.{SmallRules};
-ghost use Rattle.pieces.specs.inner.Placed.{Shows};
+ghost use Rattle.pieces.specs.inner.ForTable.{Shows};
 
 // What is kept of a book from sheet to sheet, beside the lent book and the masks of its rules.
 pub struct Split {
@@ -34,7 +34,8 @@ pub struct Split {
     pub joins: Joins,
 }
 
-// The answer of one sheet, with its ticket and its cells by the numbers that their colours have in the book; a refused sheet has the ticket 0, no rows and no columns.
+// The answer of one sheet, with its ticket and its cells by the numbers that their colours have in the book. A refused sheet has the ticket 0, no rows
+// and no columns.
 pub struct Asked {
     pub answer: Answer,
     pub ticket: usize,
@@ -59,7 +60,7 @@ fn lay(fault: u8, rules: [Rule; MOST_RULES], count: usize, masks: &mut [u32]) ->
 
 // Reads a book, and writes the masks of its rules where it is accepted and they fill the slice.
 pub fn split_book(book: &[u8], masks: &mut [u32]) -> Split
-    ensures { λ r. ⌜ kept r (now (masks .exit)) ≡ splitBook (now (book .entry)) (now (masks .entry)) ⌝ }
+    ensures { λ r. ⌜ keptWith r (now (masks .exit)) ≡ splitBook (now (book .entry)) (now (masks .entry)) ⌝ }
 {
     let b = book::read_book(book);
     let fault = b.fault;
@@ -119,7 +120,7 @@ fn tell(s: NumberedSheet, start: u8, joins: Joins, masks: &[u32], work: &mut [u3
 
 // Asks for one sheet by what was kept of a book and the masks of its rules. The work slice gets the table of pieces.
 pub fn ask_sheet(book: &[u8], split: Split, masks: &[u32], sheet: &[u8], work: &mut [u32]) -> Asked
-    ensures { λ r. ⌜ asked r (now (work .exit)) ≡ askSheet (now (book .entry)) split (now (masks .entry)) (now (sheet .entry)) (now (work .entry)) ⌝ }
+    ensures { λ r. ⌜ askedWith r (now (work .exit)) ≡ askSheet (now (book .entry)) split (now (masks .entry)) (now (sheet .entry)) (now (work .entry)) ⌝ }
 {
     let s = order::number_sheet(book, split.colours, sheet);
     let answer = tell(s, split.start, split.joins, masks, work);

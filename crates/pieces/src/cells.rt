@@ -5,7 +5,7 @@ ghost use Prim.Native.Nat.{_≤_};
 ghost use lib.ListN.{length};
 ghost use Rattle.pieces.specs.Masks.{allMasks};
 ghost use Rattle.pieces.specs.Filling.{paintedBy};
-ghost use Rattle.pieces.specs.inner.Placed.{Paintable};
+ghost use Rattle.pieces.specs.inner.ForTable.{Paintable};
 
 // The entries of the first so many cells, by the masks of their colours.
 pub(crate) fn paint_cells(masks: &[u32], colours: &[u8], count: usize, work: &mut [u32])

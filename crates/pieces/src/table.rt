@@ -20,7 +20,7 @@ ghost use Rattle.pieces.specs.inner.Course.{Runs};
 ghost use Rattle.pieces.specs.inner.Along.{along};
 ghost use Rattle.pieces.specs.inner.Seen.{sized, Tabled};
 ghost use Rattle.pieces.specs.inner.Small.{SmallRules};
-ghost use Rattle.pieces.specs.inner.Placed.{Placed, Paintable, filledFor};
+ghost use Rattle.pieces.specs.inner.ForTable.{MasksFit, Paintable, filledFor};
 
 // Every join of one direction at every cut of a piece.
 fn join_along(work: &[u32], masks: &[u32], count: usize, course: Course) -> u32
@@ -50,7 +50,7 @@ fn entry_of(
     p: Piece,
     slot: usize,
 ) -> u32
-    requires { ⌜ Tabled (sized m n) (now work) × Placed (length (now masks)) joins × Inside m n p × (slot ≡ slotOf m n p) ⌝ }
+    requires { ⌜ Tabled (sized m n) (now work) × MasksFit (length (now masks)) joins × Inside m n p × (slot ≡ slotOf m n p) ⌝ }
     ensures { λ x. ⌜ x ≡ entryOf (joinsFired (now (masks .entry)) joins) m n (now (work .entry)) p ⌝ }
 {
     let from = MOST_RULES - joins.down;
@@ -71,7 +71,7 @@ fn entry_of(
 
 // Every entry of a table that begins with those of the cells.
 fn fill(work: &mut [u32], masks: &[u32], joins: Joins, m: usize, n: usize)
-    requires { ⌜ Tabled (sized m n) (now work) × Placed (length (now masks)) joins ⌝ }
+    requires { ⌜ Tabled (sized m n) (now work) × MasksFit (length (now masks)) joins ⌝ }
     ensures { λ _. ⌜ now (work .exit) ≡ joinedBy (joinsFired (now (masks .entry)) joins) m n (now (work .entry)) ⌝ }
 {
     let end = piece::count(m, n);
@@ -103,7 +103,7 @@ pub(crate) fn fill_from(
     n: usize,
     work: &mut [u32],
 )
-    requires { ⌜ Tabled (sized m n) (now work) × Placed (length (now masks)) joins × Paintable (now colours) (m * n) ⌝ }
+    requires { ⌜ Tabled (sized m n) (now work) × MasksFit (length (now masks)) joins × Paintable (now colours) (m * n) ⌝ }
     ensures { λ _. ⌜ now (work .exit) ≡ filledBy (now (masks .entry)) joins (now (colours .entry)) m n (now (work .entry)) ⌝ }
 {
     cells::paint_cells(masks, colours, piece::times(m, n), work);

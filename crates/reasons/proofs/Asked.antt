@@ -1,32 +1,33 @@
 -- What asking the book for the sheet tells of the outcome: where it answers 0 the sheet is in the family, 11 calls for the reason, and every other answer stays.
 -- On 11 the work slice holds the table, so that the reason which it shows is the reason.
 use Prim.Native.Nat.{ℕ, _≤_, _<_}
-use mathlib.Core.Path.{_≡_, refl, sym, ap, _∙_}
+use mathlib.Core.Path.{_≡_, refl, sym, ap, ap₂, _∙_}
 use mathlib.Core.Bool.{Bool}
 use mathlib.Core.List.{List}
 use native.Mathlib.Omega.{arith}
-use borrow.Author.Tests.{eq-eqb, ne-eqb, lt-ltb, le-ltb}
+use borrow.Author.Tests.{ne-eqb}
 use lib.ListN.{length}
 use Rattle.names.specs.declared.number.Fault.{Fault}
 use Rattle.names.proofs.SpellingNumbers.{Bytes}
 use Rattle.books.specs.Contents.{Contents}
 use Rattle.books.specs.Picture.{Picture}
-use Rattle.books.specs.Derives.{Member}
 use Rattle.books.specs.Answer.{plain, blaming}
 use Rattle.books.specs.declared.answer.Answer.{Answer}
 use Rattle.books.specs.Book.{bookOf}
 use Rattle.books.specs.Sheet.{sheetOf}
-use Rattle.books.proofs.Deciding.{decided, refused as not-derived}
 use Rattle.books.proofs.ReadingBooks.{book-accepted}
 use Rattle.books.proofs.ReadingSheets.{sheet-lies, sheet-refused}
-use Rattle.pieces.specs.Asking.{Asking, unwritten, tabled, asking, Asks}
+use Rattle.pieces.specs.Asking.{Asking, asking, SplitFrom, Asks}
 use Rattle.pieces.specs.Derivation.{entriesNeeded, filled}
 use Rattle.pieces.specs.Pieces.{total}
 use Rattle.pieces.specs.declared.asking.Asked.{Asked}
 use Rattle.books.specs.Lent.{contentsOf, pictureOf}
+use Rattle.pieces.specs.declared.asking.Split.{Split}
+use Rattle.pieces.proofs.AskingSheets.{kept-start}
+use Rattle.pieces.proofs.AskingAnswers.{sheet-first, room-second, derived-asked, other-asked}
 use Rattle.pieces.proofs.Judging.{filled-holds, filled-length}
-use Rattle.sizes.specs.Outcome.{cardHas}
-use Rattle.sizes.proofs.OneSize.{on-card, placed-has}
+use Rattle.sizes.specs.Table.{hasSizeBy}
+use Rattle.sizes.proofs.OneSize.{Placed, placed-has}
 use Rattle.reasons.specs.declared.calls.WhyNot.{WhyNot}
 use Rattle.reasons.specs.declared.reason.Reason.{Reason}
 use Rattle.reasons.specs.Why.{Outcome, refused, reasonOf, whyNot, Answers}
@@ -43,28 +44,6 @@ module _ (book sheet entries : List ℕ) where
 
   abbrev explained : Outcome
   explained = record { answer = plain 0; reason = reasonOf b p; entries = filled b p entries }
-
-  -- ── The ways down of asking ──
-
-  ask-faulty : (sheetOf sheet .fault .number ≡ 0 → ⊥) → asking book sheet entries ≡ unwritten (blaming 2 (sheetOf sheet .fault)) entries
-  unfolding asking
-  ask-faulty n = simp (ne-eqb (sheetOf sheet .fault .number) 0 n)
-
-  module _ (fine : sheetOf sheet .fault .number ≡ 0) where
-    ask-short : length entries < entriesNeeded p → asking book sheet entries ≡ unwritten (plain 9) entries
-    unfolding asking
-    ask-short h = simp (eq-eqb (sheetOf sheet .fault .number) 0 fine, lt-ltb (length entries) (entriesNeeded p) h)
-
-    module _ (room : entriesNeeded p ≤ length entries) where
-      ask-in : Member b p → asking book sheet entries ≡ unwritten (plain 0) (filled b p entries)
-      unfolding asking tabled
-      ask-in x =
-          simp (eq-eqb (sheetOf sheet .fault .number) 0 fine, le-ltb (length entries) (entriesNeeded p) room, decided b (b .start) p .1 x)
-
-      ask-out : (Member b p → ⊥) → asking book sheet entries ≡ unwritten (plain 11) (filled b p entries)
-      unfolding asking tabled
-      ask-out n =
-          simp (eq-eqb (sheetOf sheet .fault .number) 0 fine, le-ltb (length entries) (entriesNeeded p) room, not-derived b (b .start) p .1 n)
 
   -- ── What follows for the outcome ──
 
@@ -86,16 +65,16 @@ module _ (book sheet entries : List ℕ) where
       (record {
         in-book = λ n. absurd (n book-fine);
         in-sheet = λ z n. let f = sheet-refused sheet n .blamed in
-            rw (ask-faulty n, ne-eqb (sheetOf sheet .fault .number) 0 n)
+            rw (sheet-first book sheet entries n, ne-eqb (sheetOf sheet .fault .number) 0 n)
             (record { zero = λ e. absurd (n e); eleven = λ e. absurd (omega (arith, f .known)); other = λ _ _. refl });
         short-work = λ fine short.
-            rw (ask-short (fine .sheet-fine) short)
+            rw (room-second book sheet entries (fine .sheet-fine) short)
             (record { zero = λ e. absurd (omega arith); eleven = λ e. absurd (omega arith); other = λ _ _. refl });
         in-family = λ fine room x.
-            rw (ask-in (fine .sheet-fine) room x)
+            rw (derived-asked book sheet entries fine room x)
             (record { zero = λ _. refl; eleven = λ e. absurd (omega arith); other = λ n _. absurd (n refl) });
         explained = λ fine room none first.
-            rw (ask-out (fine .sheet-fine) room none)
+            rw (other-asked book sheet entries fine room none)
             (record {
               zero = λ e. absurd (omega arith);
               eleven = λ _. record { is = refl; holds = refl; sheet-fine = fine .sheet-fine; room = room };
@@ -153,21 +132,19 @@ module _ (book sheet entries left : List ℕ) (r : Asked) (asks : Asks book shee
   pub room-asked : total (r .rows) (r .cols) ≤ length left
   room-asked = rw (asks .rows, asks .cols, holds, filled-length (contentsOf book) (pictureOf sheet) entries (called .room)) (called .room)
 
-  reason-found : Bytes book
-      → reasonIn (cardHas book (pictureOf sheet .rows) (pictureOf sheet .cols)) left (bookOf book .family .start) (pictureOf sheet .rows) (pictureOf sheet .cols)
-      ≡ reasonOf (contentsOf book) (pictureOf sheet)
-  reason-found bytes =
+  reason-found : (m n : ℕ) → m ≡ pictureOf sheet .rows → n ≡ pictureOf sheet .cols → (split : Split) (masks : List ℕ) → SplitFrom book split masks → Bytes book
+      → reasonIn (hasSizeBy masks (split .joins) (split .start) m n) left (split .start) m n ≡ reasonOf (contentsOf book) (pictureOf sheet)
+  reason-found m n em en split masks from bytes =
       let s = sheet-lies sheet (called .sheet-fine) in
-      let m = pictureOf sheet .rows in
-      let n = pictureOf sheet .cols in
-      let on = on-card m n (record { rows-some = s .rows-some; rows-few = s .rows-few; cols-some = s .cols-some; cols-few = s .cols-few }) in
-      ap (λ (has : Bool). reasonIn has left (bookOf book .family .start) m n) (placed-has book m n book-fine on)
-      ∙ reason-shown (contentsOf book) (pictureOf sheet) (book-accepted book bytes book-fine .keeps .sound)
+      let placed : Placed m n = record { rows-some = omega (arith, s .rows-some); rows-few = omega (arith, s .rows-few); cols-some = omega (arith, s .cols-some); cols-few = omega (arith, s .cols-few) } in
+      ap₂ (λ (has : Bool) (a : ℕ). reasonIn has left a m n) (placed-has book bytes split masks from m n placed) (kept-start book (from .before) (from .is))
+      ∙ rw (em, en) (reason-shown (contentsOf book) (pictureOf sheet) (book-accepted book bytes book-fine .keeps .sound)
       (record { rows-some = s .rows-some; rows-few = omega (arith, s .rows-few); cols-some = s .cols-some; cols-few = omega (arith, s .cols-few) })
-      left (rw holds (filled-holds (contentsOf book) (pictureOf sheet) entries))
+      left (rw holds (filled-holds (contentsOf book) (pictureOf sheet) entries)))
 
-  pub told-reason : Bytes book → (start : ℕ) → start ≡ bookOf book .family .start → (a : Answer) → a ≡ plain 0 → (why : Reason)
-      → why ≡ reasonIn (cardHas book (r .rows) (r .cols)) left start (r .rows) (r .cols) → Answers (whyNot book sheet entries) (record { answer = a; reason = why }) left
-  told-reason bytes start es a e why found =
+  pub told-reason : Bytes book → (split : Split) (masks : List ℕ) → SplitFrom book split masks → (a : Answer) → a ≡ plain 0 → (why : Reason)
+      → why ≡ reasonIn (hasSizeBy masks (split .joins) (split .start) (r .rows) (r .cols)) left (split .start) (r .rows) (r .cols)
+      → Answers (whyNot book sheet entries) (record { answer = a; reason = why }) left
+  told-reason bytes split masks from a e why found =
       rw (called .is)
-      (record { answers = e; reasons = (rw (asks .rows, asks .cols, es) at found) ∙ reason-found bytes; leaves = holds })
+      (record { answers = e; reasons = found ∙ reason-found (r .rows) (r .cols) (asks .rows) (asks .cols) split masks from bytes; leaves = holds })

@@ -44,7 +44,14 @@ pub fn why_not(book: &[u8], sheet: &[u8], work: &mut [u32]) -> WhyNot
     }
     WhyNot {
         answer: answer::unblamed(0),
-        reason: why::reason(book, split.start, work, asked.rows, asked.cols),
+        reason: why::reason(
+            &masks,
+            split.joins,
+            split.start,
+            work,
+            asked.rows,
+            asked.cols,
+        ),
     }
 }
 

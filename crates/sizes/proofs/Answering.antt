@@ -8,7 +8,7 @@ use native.Mathlib.Nat.{suc-mul, mul-one}
 use native.Mathlib.Omega.{arith}
 use borrow.Author.Tests.{eq-eqb, ne-eqb, lt-ltb, le-ltb}
 use lib.Dec.{eqb, ltb}
-use lib.ListN.{length, getD, length-append}
+use lib.ListN.{length, length-append}
 use Rattle.names.specs.Pick.{pick}
 use Rattle.names.proofs.Picking.{pick-ind}
 use Rattle.names.proofs.SpellingNumbers.{Bytes}
@@ -16,21 +16,21 @@ use Rattle.books.specs.Answer.{plain, blaming, Packs}
 use Rattle.books.specs.Book.{bookOf}
 use Rattle.books.specs.Contents.{Contents}
 use Rattle.books.specs.Lent.{contentsOf}
-use Rattle.books.specs.Keeps.{BodyFits}
-use Rattle.books.specs.Rules.{noRule}
-use Rattle.books.specs.Size.{greatest}
+use Rattle.books.specs.Size.{greatest, room}
 use Rattle.books.specs.declared.answer.Answer.{Answer}
-use Rattle.books.specs.declared.book.BookRead.{BookRead}
-use Rattle.books.specs.declared.rule.Body.{Body}
-use Rattle.books.specs.declared.rule.Body.the-variants.{Colour, Across, Down}
 use Rattle.books.proofs.Packing.{plain-packs, book-placed}
 use Rattle.books.proofs.ReadingBooks.{book-lies, book-accepted}
 use Rattle.names.specs.Counted.{each}
+use Rattle.pieces.specs.Asking.{keptWith, splitBook}
+use Rattle.pieces.specs.Masks.{allMasks}
+use Rattle.pieces.specs.declared.asking.Split.{Split}
+use Rattle.pieces.proofs.AskingSheets.{kept-fault, kept-start, kept-from, book-serves}
 use Rattle.sizes.specs.Size.{by}
 use Rattle.sizes.specs.Card.{sized?, sizesOf}
 use Rattle.sizes.specs.Outcome.{Outcome, refused, carded, roomed, sizeCard, Answers}
-use Rattle.sizes.specs.inner.Masks.{Small}
-use Rattle.sizes.specs.inner.Rows.{CardMade}
+use Rattle.sizes.specs.Table.{tableBy}
+use Rattle.sizes.specs.inner.Rows.{rowsOf, RowsWrote}
+use Rattle.sizes.proofs.CardRows.{card-counted, card-written}
 
 -- ── The ways down ──
 
@@ -52,58 +52,32 @@ module _ (book slice : List ℕ) where
     unfolding roomed
     with-room h = then-room ∙ simp (le-ltb (length slice) greatest h)
 
--- ── As the call goes them, with what it read ──
+-- ── As the call goes them, with what was split ──
 
-body-small : (m n : ℕ) (x : Body) → m ≤ 32 → n ≤ 64 → BodyFits m n x → BodyFits 32 64 x
-body-small m n (Colour c) h k f = omega arith
-body-small m n (Across l r) h k f = (omega arith, omega arith)
-body-small m n (Down u v) h k f = (omega arith, omega arith)
+module _ (book before : List ℕ) {split : Split} {masks : List ℕ} (is : keptWith split masks ≡ splitBook book before) where
+  accepted : split .fault .number ≡ 0 → bookOf book .fault .number ≡ 0
+  accepted = rw (kept-fault book before is) (λ fine. fine)
 
-small-book : (book : List ℕ) → bookOf book .fault .number ≡ 0 → Small (bookOf book .family .rules) (bookOf book .family .count)
-small-book book fine =
-    let l = book-lies book fine in
-    record {
-      few = l .rules-few;
-      fit = λ i h. let f = l .rules-fit i h in
-          record { head-fits = omega (arith, f .head-fits, l .motifs-few); body-fits = body-small _ _ (getD (bookOf book .family .rules) i noRule .body) (l .motifs-few) (l .places .few) (f .body-fits) };
-    }
-
-start-low : (book : List ℕ) → bookOf book .fault .number ≡ 0 → bookOf book .family .start < 32
-start-low book fine = let l = book-lies book fine in omega (arith, l .start-fits, l .motifs-few)
-
-module _ (book slice : List ℕ) (a : Answer) where
-  refuses : (bookOf book .fault .number ≡ 0 → ⊥) → a ≡ blaming 1 (bookOf book .fault) → Answers (sizeCard book slice) (record { answer = a; sizes = 0 }) slice
-  refuses n e = rw (book-first book slice n) (record { answers = e; counts = refl; leaves = refl })
-
-  writes : Bytes book → bookOf book .fault .number ≡ 0 → greatest ≤ length slice → a ≡ plain 0 → (n : ℕ) (after : List ℕ)
-      → CardMade (bookOf book .family .rules) (bookOf book .family .count) (bookOf book .family .start) slice n after
-      → Answers (sizeCard book slice) (record { answer = a; sizes = n }) after
-  writes bytes fine room e n after made =
-      let b = contentsOf book in
-      let sound = book-accepted book bytes fine .keeps .sound in
-      rw (with-room book slice fine room) (record { answers = e; counts = made .counts b sound refl refl; leaves = made .leaves b sound refl refl })
-
-  lacks : bookOf book .fault .number ≡ 0 → length slice < greatest → a ≡ plain 13 → Answers (sizeCard book slice) (record { answer = a; sizes = 0 }) slice
-  lacks fine short e = rw (no-room book slice fine short) (record { answers = e; counts = refl; leaves = refl })
-
-module _ (book : List ℕ) (r : BookRead) (read : r ≡ bookOf book) where
-  pub read-small : r .fault .number ≡ 0 → Small (r .family .rules) (r .family .count)
-  read-small = rw read (small-book book)
-
-  pub read-start : r .fault .number ≡ 0 → r .family .start < 32
-  read-start = rw read (start-low book)
+  pub start-low : split .fault .number ≡ 0 → split .start < 32
+  start-low fine = let l = book-lies book (accepted fine) in omega (arith, kept-start book before is, l .start-fits, l .motifs-few)
 
   module _ (slice : List ℕ) (a : Answer) where
-    pub read-refuses : (r .fault .number ≡ 0 → ⊥) → a ≡ blaming 1 (r .fault) → Answers (sizeCard book slice) (record { answer = a; sizes = 0 }) slice
-    read-refuses = rw read (refuses book slice a)
+    pub refuses : (split .fault .number ≡ 0 → ⊥) → a ≡ blaming 1 (split .fault) → Answers (sizeCard book slice) (record { answer = a; sizes = 0 }) slice
+    refuses = rw (kept-fault book before is) (λ bad e. rw (book-first book slice bad) (record { answers = e; counts = refl; leaves = refl }))
 
-    pub read-lacks : r .fault .number ≡ 0 → length slice < greatest → a ≡ plain 13 → Answers (sizeCard book slice) (record { answer = a; sizes = 0 }) slice
-    read-lacks = rw read (lacks book slice a)
+    pub lacks : split .fault .number ≡ 0 → length slice < greatest → a ≡ plain 13 → Answers (sizeCard book slice) (record { answer = a; sizes = 0 }) slice
+    lacks fine short e = rw (no-room book slice (accepted fine) short) (record { answers = e; counts = refl; leaves = refl })
 
-    pub read-writes : Bytes book → r .fault .number ≡ 0 → greatest ≤ length slice → a ≡ plain 0 → (n : ℕ) (after : List ℕ)
-        → CardMade (r .family .rules) (r .family .count) (r .family .start) slice n after
+    pub writes : length before ≡ allMasks → Bytes book → split .fault .number ≡ 0 → greatest ≤ length slice → a ≡ plain 0 → (n : ℕ) (after : List ℕ)
+        → RowsWrote (rowsOf (tableBy masks (split .joins) greatest room) greatest (split .start) greatest) slice n after
         → Answers (sizeCard book slice) (record { answer = a; sizes = n }) after
-    read-writes = rw read (writes book slice a)
+    writes long bytes fine roomy e n after wrote =
+        let b = contentsOf book in
+        let keeps = book-accepted book bytes (accepted fine) .keeps in
+        let serves = book-serves book split masks (kept-from book before is fine long) in
+        let rows = rw (kept-start book before is) at wrote in
+        rw (with-room book slice (accepted fine) roomy)
+        (record { answers = e; counts = card-counted b keeps masks (split .joins) serves slice n after rows; leaves = card-written b keeps masks (split .joins) serves slice n after rows })
 
 -- ── Every answer packs ──
 

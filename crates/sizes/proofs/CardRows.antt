@@ -10,24 +10,27 @@ use native.Mathlib.Omega.{arith}
 use lib.Arith.{digits-lt}
 use lib.Dec.{eqb}
 use lib.Count.{ones, ones-le}
-use lib.ListN.{length, getD, set, drop, take, length-append, length-drop}
+use lib.ListN.{length, getD, set, drop, length-append, length-drop}
 use lib.Seq.{set-at, drop-cons}
 use borrow.Author.Tests.{eq-eqb, ne-eqb}
 use Rattle.names.specs.Pick.{pick}
 use Rattle.names.proofs.Tests.{true-or-false}
 use Rattle.books.specs.Contents.{Contents}
-use Rattle.books.specs.Keeps.{Sound}
+use Rattle.books.specs.Keeps.{Keeps}
 use Rattle.books.specs.Size.{greatest, room}
-use Rattle.books.specs.declared.rule.Rule.{Rule}
 use Rattle.names.specs.Counted.{each}
 use Rattle.names.specs.Bits.{bit, bits}
+use Rattle.pieces.specs.Rights.{Serves}
+use Rattle.pieces.specs.declared.masks.Joins.{Joins}
 use Rattle.pieces.proofs.Entries.{bits-lt, bits-has, has-bits}
 use Rattle.sizes.specs.Size.{Size, by}
 use Rattle.sizes.specs.Test.{hasSize?}
-use Rattle.sizes.specs.Card.{sized?, cardRow, card, setBits}
-use Rattle.sizes.specs.inner.Entries.{entry, slot, OfTable, Right, SizesMade}
-use Rattle.sizes.specs.inner.Rows.{rowOf, rowsOf, RowsWrote, CardMade}
+use Rattle.sizes.specs.Card.{sized?, cardRow, card, sizesOf, setBits}
+use Rattle.sizes.specs.Table.{slot, tableBy}
+use Rattle.sizes.specs.inner.Entries.{entry, OfTable, Right}
+use Rattle.sizes.specs.inner.Rows.{rowOf, rowsOf, RowsWrote}
 use Rattle.sizes.proofs.CardRight.{card-length}
+use Rattle.sizes.proofs.EntriesRight.{table-right}
 use Rattle.sizes.proofs.Counting.{sizes-counted, set-bits-append}
 use Rattle.sizes.proofs.Listing.{each-length}
 
@@ -126,17 +129,16 @@ module _ (b : Contents) (n : ℕ) (t : List ℕ) (right : Right b n (n * n) t) (
   unfolding rowsOf card
   rows-right = each-same n _ _ row-right
 
-module _ (rules : List Rule) (few start : ℕ) (t before : List ℕ) (count : ℕ) (after : List ℕ) (made : SizesMade rules few room t)
-    (wrote : RowsWrote (rowsOf t greatest start greatest) before count after) where
-  rows-are : (b : Contents) → Sound b → b .rules ≡ take few rules → b .start ≡ start → rowsOf t greatest start greatest ≡ card b greatest
-  rows-are b sound same begins =
-      ap (λ (a : ℕ). rowsOf t greatest a greatest) (sym begins) ∙ rows-right b greatest t (made .right b sound same) (sound .start-fits)
+-- ── The card by masks that serve the book ──
 
-  pub card-made : CardMade rules few start before count after
-  card-made =
-      record {
-        counts = λ b sound same begins. wrote .counted ∙ ap setBits (rows-are b sound same begins) ∙ sizes-counted b greatest;
-        leaves = λ b sound same begins. wrote .written
-            ∙ ap (λ (l : List ℕ). l ++ drop (length l) before) (rows-are b sound same begins)
-            ∙ ap (λ (k : ℕ). card b greatest ++ drop k before) (card-length b greatest);
-      }
+module _ (b : Contents) (keeps : Keeps b) (masks : List ℕ) (j : Joins) (serves : Serves (b .rules) masks j) (before : List ℕ) (count : ℕ) (after : List ℕ)
+    (wrote : RowsWrote (rowsOf (tableBy masks j greatest room) greatest (b .start) greatest) before count after) where
+  rows-are : rowsOf (tableBy masks j greatest room) greatest (b .start) greatest ≡ card b greatest
+  rows-are = rows-right b greatest _ (table-right b keeps masks j serves greatest room (omega arith) (omega arith)) (keeps .sound .start-fits)
+
+  pub card-counted : count ≡ length (sizesOf b greatest)
+  card-counted = wrote .counted ∙ ap setBits rows-are ∙ sizes-counted b greatest
+
+  pub card-written : after ≡ card b greatest ++ drop greatest before
+  card-written =
+      wrote .written ∙ ap (λ (l : List ℕ). l ++ drop (length l) before) rows-are ∙ ap (λ (k : ℕ). card b greatest ++ drop k before) (card-length b greatest)

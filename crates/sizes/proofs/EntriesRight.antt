@@ -1,48 +1,113 @@
--- The entry at a slot, by those before it, is that of its size: a size of more than 1 by 1 comes from a join alone, and the parts of a cut stand before it.
-use Prim.Native.Nat.{ℕ, _+_, _-_, _*_, _<_}
-use mathlib.Core.Path.{_≡_, ap₂, _∙_}
+-- The entry of a size by those of its parts is right where theirs are: a size of more than 1 by 1 comes from a join alone, and the parts of a cut stand before it. So a
+-- table that is filled slot by slot is right up to the slot that is due: the entry due is made of earlier ones, and writing it disturbs none of them.
+use Prim.Native.Nat.{ℕ, zero, suc, _+_, _-_, _≤_, _<_}
+use mathlib.Core.Path.{_≡_, refl, sym, ap, _∙_}
 use mathlib.Core.List.{List}
+use native.Mathlib.Decide.{decLt}
+use native.Mathlib.Nat.{zero-mul, zero-div, zero-mod}
 use native.Mathlib.Omega.{arith}
-use lib.Bits.{bitOr}
-use lib.ListN.{getD}
+use lib.ListN.{length, getD, set, replicate, length-set}
+use lib.Seq.{getD-set-same, getD-set-other}
 use Rattle.books.specs.Contents.{Contents}
-use Rattle.books.specs.Keeps.{Sound}
+use Rattle.books.specs.Keeps.{Sound, Keeps}
+use Rattle.books.specs.Size.{room}
 use Rattle.books.specs.declared.rule.Dir.the-variants.{Across as across, Down as down}
 use Rattle.books.specs.declared.rule.Dir.{Dir}
-use Rattle.pieces.specs.inner.Along.{allFired}
 use Rattle.pieces.specs.Filling.{cutsOf}
-use Rattle.pieces.proofs.Gathered.{gathered-same}
-use Rattle.pieces.proofs.PartsRight.{parts-right}
-use Rattle.sizes.specs.Size.{Size, reach, firstPart, restPart}
+use Rattle.pieces.specs.Firing.{fireOf, paintedOf}
+use Rattle.pieces.specs.Rights.{Fires, Painted, Serves}
+use Rattle.pieces.specs.declared.masks.Joins.{Joins}
+use Rattle.pieces.proofs.PartsRight.{cell-right, parts-right}
+use Rattle.pieces.proofs.ServingMasks.{fire-serves, painted-serves}
+use Rattle.sizes.specs.Size.{Size, by, reach}
 use Rattle.sizes.specs.HasSize.{sizes}
-use Rattle.sizes.specs.inner.Entries.{entry, slot, OfTable, Right, along, Joins, entryAt, Serves}
-use Rattle.sizes.proofs.Firing.{joins-fire}
-use Rattle.sizes.proofs.Slots.{first-within, rest-within, first-before, rest-before, place-col, place-row, firstOf, stepOf, first-place, rest-place}
+use Rattle.sizes.specs.Table.{slot, sizeAt, at, entryOf, withEntry, withEntries, sizesBy, tableBy}
+use Rattle.sizes.specs.inner.Entries.{entry, OfTable, Right}
+use Rattle.sizes.proofs.Slots.{first-within, rest-within, first-before, rest-before, size-at-slot}
 use Rattle.sizes.proofs.Testing.{size-decided}
 
-module _ (b : Contents) (sound : Sound b) (n : ℕ) (j : Joins) (serves : Serves b j) (t : List ℕ) (s : Size) (w : OfTable n s)
-    (right : Right b n (slot n s) t) where
-  abbrev cuts : Dir → ℕ
-  cuts d =
-      cutsOf (λ d. allFired (j .masks d) (j .count d)) (λ d k. getD t (slot n (firstPart d k s)) 0) (λ d k. getD t (slot n (restPart d k s)) 0) d (reach d s)
+-- ── One entry ──
 
-  cuts-right : 2 < s .rows + s .cols → bitOr (cuts across) (cuts down) ≡ entry b s
+-- 1 by 1 stands first, and nothing else does
+first-slot : (n : ℕ) (s : Size) → s .rows + s .cols ≤ 2 → OfTable n s → slot n s ≡ 0
+first-slot n s h w =
+    let er : s .rows - 1 ≡ 0 = omega (arith, w .rows-some, w .cols-some) in
+    let ec : s .cols - 1 ≡ 0 = omega (arith, w .rows-some, w .cols-some) in
+    rw (er, ec) (omega (arith, zero-mul n))
+
+at-first : (n : ℕ) (s : Size) → OfTable n s → slot n s ≡ 0 → s ≡ by 1 1
+at-first n s w z = sym (size-at-slot n s w) ∙ ap (sizeAt n) z ∙ rw (zero-div, zero-mod)
+
+module _ (b : Contents) (sound : Sound b) (fire : Dir → ℕ → ℕ → ℕ) (fires : Fires (b .rules) fire) (n : ℕ) where
+  entry-right : (t : List ℕ) (s : Size) → OfTable n s → Right b n (slot n s) t → 2 < s .rows + s .cols → entryOf fire n t s ≡ entry b s
   unfolding entry
-  cuts-right large =
-      parts-right (sizes b) (b .rules) (b .motifs) (λ r m. sound .rules-fit r m .head-fits) _ (size-decided b) _ (joins-fire b j serves) _ _ s
+  entry-right t s w right large =
+      parts-right (sizes b) (b .rules) (b .motifs) (λ r m. sound .rules-fit r m .head-fits) _ (size-decided b) fire fires _ _ s
       (λ d k h l. right _ (first-within n s w d k h l) (first-before n s w d k h l))
       (λ d k h l. right _ (rest-within n s w d k h l) (rest-before n s w d k h l))
       (λ c e. omega (arith, e .0, e .1))
 
-  -- as the code goes along the cuts
-  along-cuts : (d : Dir) → along t (j .masks d) (j .count d) (firstOf d n s) (slot n s) (stepOf d n) (reach d s - 1) ≡ cuts d
-  unfolding along cutsOf
-  along-cuts d =
-      gathered-same (reach d s - 1) _ _
-      (λ k h. ap₂ (λ (x y : ℕ). allFired (j .masks d) (j .count d) (getD t x 0) (getD t y 0)) (first-place d n k s) (rest-place d n k s h))
+  -- ── Slot by slot ──
 
-  pub entry-right : 2 < s .rows + s .cols → entryAt j n t (slot n s) ≡ entry b s
-  unfolding entryAt
-  entry-right large =
-      let f : slot n s - (s .cols - 1) ≡ (s .rows - 1) * n = omega arith in
-      rw (place-col n s w, place-row n s w, f) (ap₂ bitOr (along-cuts across) (along-cuts down) ∙ cuts-right large)
+  one-more : (k : ℕ) (t : List ℕ) → 1 ≤ k → k < length t → Right b n k t → Right b n (suc k) (withEntry fire n k t)
+  one-more k t some less old s w h = go (decLt (slot n s) k)
+    where
+      go : Dec (slot n s < k) → at n (withEntry fire n k t) s ≡ entry b s
+      go (yes l) = getD-set-other t k (slot n s) _ 0 (λ q. omega arith) ∙ old s w l
+      go (no l) =
+          let here : slot n s ≡ k = omega arith in
+          let is : sizeAt n k ≡ s = ap (sizeAt n) (sym here) ∙ size-at-slot n s w in
+          rw here (getD-set-same t k _ 0 less) ∙ ap (entryOf fire n t) is
+          ∙ entry-right t s w (λ q v g. old q v (omega arith)) (go-large (decLt 2 (s .rows + s .cols)))
+        where
+          go-large : Dec (2 < s .rows + s .cols) → 2 < s .rows + s .cols
+          go-large (yes g) = g
+          go-large (no g) = absurd (omega (arith, first-slot n s (omega arith) w))
+
+  pub entries-length : (k : ℕ) (t : List ℕ) → length (withEntries fire n k t) ≡ length t
+  unfolding withEntries
+  entries-length zero t = refl
+  entries-length (suc k) t = length-set (withEntries fire n k t) (suc k) _ ∙ entries-length k t
+
+  entries-right : (k : ℕ) (t : List ℕ) → k < length t → getD t 0 0 ≡ entry b (by 1 1) → Right b n (suc k) (withEntries fire n k t)
+  unfolding withEntries
+  entries-right zero t low begins = λ s w h. let z : slot n s ≡ 0 = omega arith in rw (z, at-first n s w z) begins
+  entries-right (suc k) t low begins =
+      one-more (suc k) (withEntries fire n k t) (omega arith) (omega (arith, entries-length k t)) (entries-right k t (omega arith) begins)
+
+-- one entry more, as the code writes it
+pub one-written : (fire : Dir → ℕ → ℕ → ℕ) (n due : ℕ) (before t : List ℕ) (e : ℕ) → 1 ≤ due → t ≡ withEntries fire n (due - 1) before
+    → e ≡ entryOf fire n t (sizeAt n due) → set t due e ≡ withEntries fire n (due + 1 - 1) before
+unfolding withEntries
+one-written fire n zero before t e some is right = absurd (omega arith)
+one-written fire n (suc k) before t e some is right =
+    let p : suc k - 1 ≡ k = omega arith in
+    let q : suc k + 1 - 1 ≡ suc k = omega arith in
+    rw (q, right, rw p at is)
+
+-- ── By masks that serve the book ──
+
+module _ (b : Contents) (keeps : Keeps b) (masks : List ℕ) (j : Joins) (serves : Serves (b .rules) masks j) where
+  no-cut : (d : Dir) → reach d (by 1 1) ≤ 1
+  no-cut across = omega arith
+  no-cut down = omega arith
+
+  painted : Painted (sizes b) (b .rules) (paintedOf masks) (by 1 1)
+  painted a =
+      let p = painted-serves serves (λ h c m. omega (arith, keeps .sound .rules-fit _ m .body-fits, keeps .colours-ok .few)) a in (
+        λ o. let (c, m) = p .0 o in (c, m, (refl, refl, keeps .sound .rules-fit _ m .body-fits)),
+        λ (c, m, _). p .1 (c, m),
+      )
+
+  -- a join has no cut there
+  painted-right : paintedOf masks ≡ entry b (by 1 1)
+  unfolding entry
+  painted-right =
+      cell-right (sizes b) (b .rules) (b .motifs) (λ r m. keeps .sound .rules-fit r m .head-fits) _ (size-decided b) (by 1 1) no-cut (paintedOf masks) painted
+
+  pub table-right : (n end : ℕ) → 1 ≤ end → end ≤ room → Right b n end (tableBy masks j n end)
+  unfolding sizesBy
+  table-right n end some few =
+      let begun = set (replicate room 0) 0 (paintedOf masks) in
+      let e : suc (end - 1) ≡ end = omega arith in
+      rw e at (entries-right b (keeps .sound) (fireOf masks j) (fire-serves serves) n (end - 1) begun (omega arith) painted-right)

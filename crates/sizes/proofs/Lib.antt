@@ -4,12 +4,9 @@ pub mod Listing
 pub mod Counting
 pub mod CardRight
 pub mod SizesListed
-pub mod Laying
-pub mod Firing
 pub mod Slots
+pub mod AlongCuts
 pub mod EntriesRight
-pub mod Painters
-pub mod Filling
 pub mod CardRows
 pub mod Answering
 pub mod Demand1

@@ -1,43 +1,37 @@
--- One size is told by its own entry, and that is made of earlier ones alone. So whether a card has a size is what its bit says, and exactly when the family has a
--- sheet of that size.
-use Prim.Native.Nat.{ℕ, suc, _+_, _-_, _≤_, _<_}
-use mathlib.Core.Path.{_≡_, refl, sym, ap, ap₂, _∙_}
-use mathlib.Core.Bool.{Bool, true, false}
+-- One size is told by its own entry, and that is made of earlier ones alone. So by what is kept of an accepted book a size is had exactly where the card has its bit, and
+-- exactly when the family has a sheet of that size.
+use Prim.Native.Nat.{ℕ, suc, _+_, _-_, _*_, _≤_, _<_}
+use mathlib.Core.Path.{_≡_, sym, ap, _∙_}
+use mathlib.Core.Bool.{Bool, true}
 use mathlib.Core.List.{List}
-use mathlib.Core.Logic.{_↔_}
+use mathlib.Core.Logic.{_↔_, ⊎-elim}
+use native.Mathlib.Nat.{le-refl, mul-le-mul}
 use native.Mathlib.Omega.{arith}
-use borrow.Author.Tests.{eq-eqb, ne-eqb, lt-ltb, ltb-true, le-leb, leb-true}
+use borrow.Author.Tests.{lt-ltb, ltb-true, le-leb, leb-true}
 use lib.Dec.{eqb, ltb}
 use lib.ListN.{getD}
-use Rattle.names.proofs.SpellingNumbers.{Bytes}
-use Rattle.books.specs.Book.{bookOf}
-use Rattle.books.specs.Size.{greatest, room}
-use Rattle.books.specs.declared.book.BookRead.{BookRead}
-use Rattle.books.specs.declared.rule.Rule.{Rule}
-use Rattle.names.proofs.Tests.{and-both, and-make, and-on, and-off}
-use Rattle.books.proofs.ReadingBooks.{book-accepted}
 use Rattle.names.specs.Bits.{bit}
+use Rattle.names.proofs.SpellingNumbers.{Bytes}
+use Rattle.names.proofs.Tests.{true-or-false, and-both, and-make, and-on, and-off}
+use Rattle.books.specs.Contents.{Contents}
+use Rattle.books.specs.Keeps.{Keeps}
+use Rattle.books.specs.Size.{greatest, room}
+use Rattle.books.proofs.ReadingBooks.{book-accepted}
+use Rattle.pieces.specs.Asking.{SplitFrom}
+use Rattle.pieces.specs.Rights.{Serves}
+use Rattle.pieces.specs.declared.asking.Split.{Split}
+use Rattle.pieces.specs.declared.masks.Joins.{Joins}
+use Rattle.pieces.proofs.AskingSheets.{kept-start, book-serves}
 use Rattle.sizes.specs.Size.{by}
-use Rattle.sizes.specs.Test.{hasSize?}
 use Rattle.sizes.specs.Promise.{Sized}
 use Rattle.sizes.specs.Card.{sized?, card, within, onCard, hasOn}
-use Rattle.sizes.specs.Outcome.{cardHas}
-use Rattle.sizes.specs.inner.Entries.{slot, SizesMade}
-use Rattle.sizes.specs.inner.Rows.{SlotTold}
+use Rattle.sizes.specs.Table.{slot, tableBy, entryBits, hasSizeBy}
+use Rattle.sizes.specs.inner.Entries.{OfTable}
 use Rattle.sizes.proofs.CardRight.{sized-decided, card-right}
 use Rattle.sizes.proofs.CardRows.{entry-tells}
 use Rattle.books.specs.Lent.{contentsOf}
-
--- the start's bit in the last entry that was filled
-pub slot-told : (rules : List Rule) (few start k : ℕ) (t : List ℕ) → SizesMade rules few (k + 1) t
-    → SlotTold rules few start k (eqb (bit (getD t k 0) start) 1)
-slot-told rules few start k t made =
-    record {
-      right = λ b sound same begins s w here.
-          ap₂ (λ (i a : ℕ). eqb (bit (getD t i 0) a) 1) (sym here) (sym begins)
-          ∙ ap (λ (x : ℕ). eqb (bit x (b .start)) 1) (made .right b sound same s w (omega arith))
-          ∙ entry-tells b s (b .start) (sound .start-fits);
-    }
+use Rattle.sizes.proofs.EntriesRight.{table-right}
+use Rattle.sizes.proofs.Slots.{row-more}
 
 -- ── The places of a card ──
 
@@ -67,64 +61,60 @@ placed m n e =
       cols-few = leb-true n greatest w;
     }
 
-pub slot-low : (m n : ℕ) → Placed m n → slot greatest (by m n) < room
-slot-low m n p = omega (arith, p)
+-- ── By masks that serve a book ──
 
--- ── What a card has ──
+-- the last of so many rows
+last-slot : (m n : ℕ) → 1 ≤ m → 1 ≤ n → slot n (by m n) ≡ m * n - 1
+last-slot m n hm hn =
+    let e : m - 1 + 1 ≡ m = omega arith in
+    omega (arith, row-more (m - 1) n, ap (λ (k : ℕ). k * n) e)
 
-module _ (book : List ℕ) (m n : ℕ) where
-  pub refused-none : (bookOf book .fault .number ≡ 0 → ⊥) → cardHas book m n ≡ false
-  unfolding cardHas
-  refused-none bad = simp (ne-eqb (bookOf book .fault .number) 0 bad)
-
-  module _ (fine : bookOf book .fault .number ≡ 0) where
-    accepted : cardHas book m n ≡ hasOn (contentsOf book) m n
-    unfolding cardHas
-    accepted = simp (eq-eqb (bookOf book .fault .number) 0 fine)
-
-    pub beyond-none : onCard m n ≡ false → cardHas book m n ≡ false
-    unfolding hasOn
-    beyond-none e = accepted ∙ and-off (onCard m n) _ e
-
-    pub placed-has : onCard m n ≡ true → cardHas book m n ≡ sized? (contentsOf book) (m - 1) (n - 1)
-    unfolding hasOn
-    placed-has e = accepted ∙ and-on (onCard m n) _ e
-
-    told-placed : Bytes book → onCard m n ≡ true → (has : Bool)
-        → SlotTold (bookOf book .family .rules) (bookOf book .family .count) (bookOf book .family .start) (slot greatest (by m n)) has → has ≡ cardHas book m n
-    unfolding sized?
-    told-placed bytes e has told =
-        let p = placed m n e in
-        let b = contentsOf book in
-        let er : suc (m - 1) ≡ m = omega (arith, p) in
-        let ec : suc (n - 1) ≡ n = omega (arith, p) in
-        told .right b (book-accepted book bytes fine .keeps .sound) refl refl (by m n)
-        (record { rows-some = p .rows-some; cols-some = p .cols-some; cols-few = p .cols-few }) refl
-        ∙ ap₂ (λ (r c : ℕ). hasSize? b (b .start) (by r c)) (sym er) (sym ec) ∙ sym (placed-has e)
-
--- as the call goes, with what it read
-module _ (book : List ℕ) (m n : ℕ) (r : BookRead) (read : r ≡ bookOf book) where
-  pub read-refused : (r .fault .number ≡ 0 → ⊥) → false ≡ cardHas book m n
-  read-refused = rw read (λ bad. sym (refused-none book m n bad))
-
-  pub read-beyond : r .fault .number ≡ 0 → onCard m n ≡ false → false ≡ cardHas book m n
-  read-beyond = rw read (λ fine e. sym (beyond-none book m n fine e))
-
-  pub read-placed : r .fault .number ≡ 0 → Bytes book → onCard m n ≡ true → (has : Bool)
-      → SlotTold (r .family .rules) (r .family .count) (r .family .start) (slot greatest (by m n)) has → has ≡ cardHas book m n
-  read-placed = rw read (told-placed book m n)
-
--- ── Exactly the sizes of the family, and the bits of its card ──
-
-module _ (book : List ℕ) (fine : bookOf book .fault .number ≡ 0) (m n : ℕ) (p : Placed m n) where
-  pub size-exactly : (cardHas book m n ≡ true) ↔ Sized (contentsOf book) m n
-  size-exactly =
-      let e = placed-has book m n fine (on-card m n p) in
+module _ (b : Contents) (keeps : Keeps b) (masks : List ℕ) (j : Joins) (serves : Serves (b .rules) masks j) (m n : ℕ) where
+  told : Placed m n → eqb (bit (getD (tableBy masks j n (m * n)) (m * n - 1) 0) (b .start)) 1 ≡ sized? b (m - 1) (n - 1)
+  unfolding sized?
+  told p =
       let er : suc (m - 1) ≡ m = omega (arith, p) in
       let ec : suc (n - 1) ≡ n = omega (arith, p) in
-      rw e (rw (er, ec) at (sized-decided (contentsOf book) (m - 1) (n - 1)))
+      let last = last-slot m n (p .rows-some) (p .cols-some) in
+      let some : 1 ≤ m * n = mul-le-mul (p .rows-some) (p .cols-some) in
+      let few : m * n ≤ room = mul-le-mul (p .rows-few) (p .cols-few) in
+      let w : OfTable n (by m n) = record { rows-some = p .rows-some; cols-some = p .cols-some; cols-few = le-refl n } in
+      let right = table-right b keeps masks j serves n (m * n) some few (by m n) w (omega arith) in
+      ap (λ (x : ℕ). eqb (bit x (b .start)) 1) (rw last at right) ∙ entry-tells b (by m n) (b .start) (keeps .sound .start-fits) ∙ rw (er, ec)
 
-  pub size-bit : (cardHas book m n ≡ true) ↔ (bit (getD (card (contentsOf book) greatest) (m - 1) 0) (n - 1) ≡ 1)
-  size-bit =
-      let says = card-right (contentsOf book) greatest .says m n (p .rows-some) (p .rows-few) (p .cols-some) (p .cols-few) in
-      (λ h. says .1 (size-exactly .0 h), λ o. size-exactly .1 (says .0 o))
+  pub has-size-told : hasSizeBy masks j (b .start) m n ≡ hasOn b m n
+  unfolding hasSizeBy hasOn
+  has-size-told =
+      let low : b .start < entryBits = omega (arith, keeps .sound .start-fits, keeps .motifs-few) in
+      and-on (ltb (b .start) entryBits) _ (lt-ltb (b .start) entryBits low)
+      ∙ ⊎-elim
+      (λ e. and-on (onCard m n) _ e ∙ told (placed m n e) ∙ sym (and-on (onCard m n) _ e))
+      (λ e. and-off (onCard m n) _ e ∙ sym (and-off (onCard m n) _ e))
+      (true-or-false (onCard m n))
+
+-- ── By what is kept of an accepted book: exactly the sizes of the family, and the bits of its card ──
+
+module _ (book : List ℕ) (bytes : Bytes book) (split : Split) (masks : List ℕ) (from : SplitFrom book split masks) (m n : ℕ) where
+  abbrev has : Bool
+  has = hasSizeBy masks (split .joins) (split .start) m n
+
+  pub has-size-holds : has ≡ hasOn (contentsOf book) m n
+  has-size-holds =
+      ap (λ (a : ℕ). hasSizeBy masks (split .joins) a m n) (kept-start book (from .before) (from .is))
+      ∙ has-size-told (contentsOf book) (book-accepted book bytes (from .accepted) .keeps) masks (split .joins) (book-serves book split masks from) m n
+
+  module _ (p : Placed m n) where
+    pub placed-has : has ≡ sized? (contentsOf book) (m - 1) (n - 1)
+    unfolding hasOn
+    placed-has = has-size-holds ∙ and-on (onCard m n) _ (on-card m n p)
+
+    pub size-exactly : (has ≡ true) ↔ Sized (contentsOf book) m n
+    size-exactly =
+        let er : suc (m - 1) ≡ m = omega (arith, p) in
+        let ec : suc (n - 1) ≡ n = omega (arith, p) in
+        rw placed-has (rw (er, ec) at (sized-decided (contentsOf book) (m - 1) (n - 1)))
+
+    pub size-bit : (has ≡ true) ↔ (bit (getD (card (contentsOf book) greatest) (m - 1) 0) (n - 1) ≡ 1)
+    size-bit =
+        let says = card-right (contentsOf book) greatest .says m n (p .rows-some) (p .rows-few) (p .cols-some) (p .cols-few) in
+        (λ h. says .1 (size-exactly .0 h), λ o. size-exactly .1 (says .0 o))

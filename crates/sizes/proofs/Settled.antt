@@ -5,7 +5,9 @@ use mathlib.Core.List.{List}
 use Rattle.names.proofs.Settled.{Settles, settles}
 use Rattle.books.proofs.Settled.{settled}
 use Rattle.sizes.specs.declared.calls.CardAnswer.{CardAnswer}
-use Rattle.sizes.specs.Outcome.{sizeCard, Answers, Leaves, cardHas}
+use Rattle.sizes.specs.Outcome.{sizeCard, Answers, Leaves}
+use Rattle.sizes.specs.Table.{hasSizeBy}
+use Rattle.pieces.specs.declared.masks.Joins.{Joins}
 
 pub size-card-settled : (book slice x y : List ℕ) (r q : CardAnswer) → Answers (sizeCard book slice) r x → Answers (sizeCard book slice) q y → (r ≡ q) × (x ≡ y)
 size-card-settled book slice x y r q a b =
@@ -16,5 +18,5 @@ size-card-settled book slice x y r q a b =
 pub dv-size-card-settled : (book slice x y : List ℕ) (r q : ℕ) → Leaves (sizeCard book slice) r x → Leaves (sizeCard book slice) q y → (r ≡ q) × (x ≡ y)
 dv-size-card-settled book slice x y r q a b = (settled (a .answers) (b .answers), settled (a .leaves) (b .leaves))
 
-pub has-size-settled : (book : List ℕ) (m n : ℕ) → Settles (cardHas book m n)
-has-size-settled book m n = settles _
+pub has-size-settled : (masks : List ℕ) (j : Joins) (a m n : ℕ) → Settles (hasSizeBy masks j a m n)
+has-size-settled masks j a m n = settles _

@@ -1,14 +1,15 @@
 -- Where the parts of a size stand in the table: before the size itself, at places that go by one from column to column and by the table's columns from row
 -- to row.
 use Prim.Native.Nat.{ℕ, _+_, _-_, _*_, _/_, _%_, _≤_, _<_}
-use mathlib.Core.Path.{_≡_}
-use native.Mathlib.Nat.{add-mul, mul-le-mul-right, one-mul, mul-one}
+use mathlib.Core.Path.{_≡_, ap₂}
+use native.Mathlib.Nat.{add-mul, mul-le-mul-right, one-mul, mul-one, div-add-mod'}
 use native.Mathlib.Omega.{arith}
 use lib.Arith.{digits-div, digits-mod}
 use Rattle.books.specs.declared.rule.Dir.the-variants.{Across as across, Down as down}
 use Rattle.books.specs.declared.rule.Dir.{Dir}
-use Rattle.sizes.specs.Size.{Size, reach, firstPart, restPart}
-use Rattle.sizes.specs.inner.Entries.{OfTable, slot}
+use Rattle.sizes.specs.Size.{Size, by, reach, firstPart, restPart}
+use Rattle.sizes.specs.Table.{slot, sizeAt}
+use Rattle.sizes.specs.inner.Entries.{OfTable}
 
 -- So many rows of n places, and one more.
 pub row-more : (k n : ℕ) → (k + 1) * n ≡ k * n + n
@@ -36,12 +37,19 @@ module _ (n : ℕ) (s : Size) (w : OfTable n s) where
   rest-before across k h l = omega arith
   rest-before down k h l = omega (arith, row-fits (s .rows - k - 1) (s .rows - 1) n (omega arith), w .cols-some, w .cols-few)
 
-  -- A slot tells its size.
-  pub place-col : slot n s % n ≡ s .cols - 1
-  place-col = digits-mod (s .rows - 1) (omega (arith, w .cols-some, w .cols-few))
+  -- A slot tells its size, ...
+  pub size-at-slot : sizeAt n (slot n s) ≡ s
+  size-at-slot =
+      let row : slot n s / n ≡ s .rows - 1 = digits-div (s .rows - 1) (omega (arith, w .cols-some, w .cols-few)) in
+      let col : slot n s % n ≡ s .cols - 1 = digits-mod (s .rows - 1) (omega (arith, w .cols-some, w .cols-few)) in
+      ap₂ by (omega (arith, row, w .rows-some)) (omega (arith, col, w .cols-some))
 
-  pub place-row : slot n s / n ≡ s .rows - 1
-  place-row = digits-div (s .rows - 1) (omega (arith, w .cols-some, w .cols-few))
+-- ... and a size its slot.
+pub slot-of-size : (n k : ℕ) → slot n (sizeAt n k) ≡ k
+slot-of-size n k =
+    let row : k / n + 1 - 1 ≡ k / n = omega arith in
+    let col : k % n + 1 - 1 ≡ k % n = omega arith in
+    rw (row, col) (div-add-mod' k n)
 
 -- The cut after k + 1 columns, or rows: where its first part stands, ...
 abbrev pub firstOf : Dir → ℕ → Size → ℕ

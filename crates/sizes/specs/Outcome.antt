@@ -1,7 +1,6 @@
 -- What the call answers and leaves, from the bytes of the lent book and the entries of the lent card slice.
 use Prim.Native.Nat.{ℕ}
 use mathlib.Core.Path.{_≡_}
-use mathlib.Core.Bool.{Bool, false}
 use mathlib.Core.List.{List, _++_}
 use lib.Dec.{ltb}
 use lib.ListN.{length, drop}
@@ -12,7 +11,7 @@ use Rattle.books.specs.Lent.{lentBook}
 use Rattle.books.specs.Size.{greatest}
 use Rattle.books.specs.declared.answer.Answer.{Answer}
 use Rattle.sizes.specs.declared.calls.CardAnswer.{CardAnswer}
-use Rattle.sizes.specs.Card.{card, sizesOf, hasOn}
+use Rattle.sizes.specs.Card.{card, sizesOf}
 
 -- the answer, the number of sizes, and the card slice
 pub record Outcome : Type 0 where
@@ -46,7 +45,3 @@ pub record Answers (o : Outcome) (r : CardAnswer) (slice : List ℕ) : Type 0 wh
 pub record Leaves (o : Outcome) (r : ℕ) (slice : List ℕ) : Type 0 where
   pub answers : r ≡ packed (o .answer) (o .sizes)
   pub leaves : slice ≡ o .slice
-
--- whether the size card of a lent book has the size of m rows and n columns: a refused book has no card
-unfoldable pub cardHas : List ℕ → ℕ → ℕ → Bool
-cardHas book m n = lentBook 1 book (λ _. false) (λ b. hasOn b m n)

@@ -1,3 +1,3 @@
-pub mod Masks
+pub mod Along
 pub mod Entries
 pub mod Rows

@@ -1,12 +1,11 @@
 // The size card as a call: from a lent book into a lent slice.
 use crate::card::write_card;
-use crate::one;
 use books::answer;
 use books::answer::Answer;
-use books::book;
 use books::size::GREATEST;
-ghost use mathlib.Core.Path.{_≡_};
-ghost use Rattle.sizes.specs.Outcome.{sizeCard, Answers, Leaves, cardHas};
+use pieces::asking;
+use pieces::masks::ALL_MASKS;
+ghost use Rattle.sizes.specs.Outcome.{sizeCard, Answers, Leaves};
 
 // The answer, and how many sizes the family has.
 pub struct CardAnswer {
@@ -18,11 +17,11 @@ pub struct CardAnswer {
 pub fn size_card(book: &[u8], card: &mut [u32]) -> CardAnswer
     ensures { λ r. ⌜ Answers (sizeCard (now (book .entry)) (now (card .entry))) r (now (card .exit)) ⌝ }
 {
-    let b = book::read_book(book);
-    let fault = b.fault;
-    if fault.number != 0 {
+    let mut masks = [0u32; ALL_MASKS];
+    let split = asking::split_book(book, &mut masks);
+    if split.fault.number != 0 {
         return CardAnswer {
-            answer: answer::blame(1, fault),
+            answer: answer::blame(1, split.fault),
             sizes: 0,
         };
     }
@@ -32,9 +31,7 @@ pub fn size_card(book: &[u8], card: &mut [u32]) -> CardAnswer
             sizes: 0,
         };
     }
-    let f = b.family;
-    let rules = f.rules;
-    let sizes = write_card(rules, f.count, f.start as u32, card);
+    let sizes = write_card(&masks, split.joins, split.start, card);
     CardAnswer {
         answer: answer::unblamed(0),
         sizes,
@@ -48,26 +45,4 @@ pub extern "C" fn dv_size_card(book: &[u8], card: &mut [u32]) -> u64
 {
     let r = size_card(book, card);
     answer::pack(r.answer, r.sizes)
-}
-
-// Whether the size card of a book has one size: a refused book has no card, and no card has a size beyond its rows and columns.
-pub fn has_size(book: &[u8], rows: usize, cols: usize) -> bool
-    ensures { λ r. ⌜ r ≡ cardHas (now (book .entry)) rows cols ⌝ }
-{
-    let b = book::read_book(book);
-    let fault = b.fault;
-    if fault.number != 0 {
-        return false;
-    }
-    if one::on_card(rows, cols) {
-        let f = b.family;
-        let rules = f.rules;
-        return one::has_slot(
-            rules,
-            f.count,
-            f.start as u32,
-            (rows - 1) * GREATEST + (cols - 1),
-        );
-    }
-    false
 }

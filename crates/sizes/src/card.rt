@@ -1,14 +1,14 @@
 // The rows of the card, from the table of sizes.
 use crate::table;
-use books::rule::Rule;
 use books::size::GREATEST;
 use books::size::ROOM;
+use pieces::masks::Joins;
 ghost use mathlib.Core.Path.{_≡_};
 ghost use Prim.Native.Nat.{_+_, _≤_, _<_};
 ghost use lib.ListN.{length};
 ghost use Rattle.books.specs.Size.{greatest, room};
-ghost use Rattle.sizes.specs.inner.Masks.{Small};
-ghost use Rattle.sizes.specs.inner.Rows.{rowOf, rowsOf, RowsWrote, CardMade};
+ghost use Rattle.sizes.specs.Table.{tableBy};
+ghost use Rattle.sizes.specs.inner.Rows.{rowOf, rowsOf, RowsWrote};
 
 // One row: the start motif's bit in each of its entries, from a place on.
 fn row(sizes: &[u32], start: u32, at: usize) -> u32
@@ -41,12 +41,12 @@ fn write_rows(sizes: &[u32], start: u32, card: &mut [u32]) -> usize
     count
 }
 
-// The card of the first rules of a family; answers how many sizes it has.
-pub(crate) fn write_card(rules: [Rule; 200], count: usize, start: u32, card: &mut [u32]) -> usize
-    requires { ⌜ Small rules count × (start < 32) × (greatest ≤ length (now card)) ⌝ }
-    ensures { λ n. ⌜ CardMade rules count start (now (card .entry)) n (now (card .exit)) ⌝ }
+// The card by the masks of a family; answers how many sizes it has.
+pub(crate) fn write_card(masks: &[u32], joins: Joins, start: u8, card: &mut [u32]) -> usize
+    requires { ⌜ (start < 32) × (greatest ≤ length (now card)) ⌝ }
+    ensures { λ n. ⌜ RowsWrote (rowsOf (tableBy (now (masks .entry)) joins greatest room) greatest start greatest) (now (card .entry)) n (now (card .exit)) ⌝ }
 {
     let mut sizes = [0u32; ROOM];
-    table::fill_sizes(rules, count, ROOM, &mut sizes);
-    write_rows(&sizes, start, card)
+    table::fill(&mut sizes, masks, joins, GREATEST, ROOM);
+    write_rows(&sizes, start as u32, card)
 }

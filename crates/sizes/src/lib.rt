@@ -1,6 +1,5 @@
 // The size card of a family: which sizes its sheets have.
 pub mod calls;
 mod card;
-mod masks;
-mod one;
+pub mod one;
 mod table;

@@ -2,7 +2,7 @@
 use mathlib.Core.Path.{ap, _∙_}
 use denote.Ref.{now}
 use Rattle.books.specs.declared.order.NumberedSheet.{NumberedSheet}
-use Rattle.pieces.specs.Asking.{showing, toldBy, askSheet}
+use Rattle.pieces.specs.Asking.{sheetTold, toldBy, askSheet}
 use Rattle.pieces.proofs.AskingSheets.{read-shows}
 use borrow.Author.Needs.{needs}
 use Rattle.pieces.proofs.asking.ask_sheet.Statement.{statement}
@@ -24,8 +24,8 @@ returns c =
     let t = c .before .before .before in
     let n = t .before .before in
     let a = began n .args in
-    ap (showing (n .number-sheet .result)) (t .tell .ensures)
-    ∙ ap (λ (s : NumberedSheet). showing s (toldBy s (a .split .start) (a .split .joins) (now (a .masks)) (now (a .work)))) (n .number-sheet .ensures)
+    ap (sheetTold (n .number-sheet .result)) (t .tell .ensures)
+    ∙ ap (λ (s : NumberedSheet). sheetTold s (toldBy s (a .split .start) (a .split .joins) (now (a .masks)) (now (a .work)))) (n .number-sheet .ensures)
 
 pub ask-sheet-spec : {M : Type 1} → statement M
 ask-sheet-spec = tie.close (tie.spec (λ c κs. search needs) tell-requires (λ c. search needs) returns)

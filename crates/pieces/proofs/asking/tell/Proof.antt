@@ -1,15 +1,14 @@
 -- Each test is one of the definition's; where none ends it, the bit is read in the table that was filled.
 use mathlib.Core.Path.{sym, ap, _∙_}
-use mathlib.Core.List.{List}
-use Prim.Native.Nat.{ℕ, _≤_}
+use Prim.Native.Nat.{_≤_}
 use native.Mathlib.Nat.{le-trans, lt-of-lt-of-le, le-of-eq}
 use borrow.Author.Tests.{eq-eqb, ne-eqb, lt-ltb, le-ltb}
 use denote.Ref.{now}
 use lib.ListN.{length}
 use Rattle.pieces.specs.Pieces.{total}
 use Rattle.pieces.specs.Asking.{judgedBy, toldBy}
-use Rattle.pieces.specs.inner.Placed.{Shows}
-use Rattle.pieces.proofs.ServingMasks.{fitting-placed}
+use Rattle.pieces.specs.inner.ForTable.{Shows}
+use Rattle.pieces.proofs.ServingMasks.{fitting-fit}
 use borrow.Author.Needs.{needs}
 use Rattle.pieces.proofs.asking.tell.Statement.{statement}
 use Rattle.pieces.proofs.asking.tell.Tie as tie
@@ -50,7 +49,7 @@ fill-from-requires c κs =
     let y = c .before .before .before in
     let t = y .before in
     let s = shows t in
-    (record { sizes = s .sizes; entries = enough t }, fitting-placed _ _ (sym (t .fits2 .ensures) ∙ y .if3 .taken), s .cells)
+    (record { sizes = s .sizes; entries = enough t }, fitting-fit _ _ (sym (t .fits2 .ensures) ∙ y .if3 .taken), s .cells)
 
 whole-sheet-requires : tie.Need-whole-sheet-requires
 whole-sheet-requires c κs =

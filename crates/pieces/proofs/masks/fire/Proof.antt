@@ -1,5 +1,5 @@
 -- Masks that fit have a window for the joins of each direction, and what fires in it is what the joins give.
-use mathlib.Core.Path.{_≡_, sym, ap, _∙_}
+use mathlib.Core.Path.{sym, ap, _∙_}
 use mathlib.Core.List.{List}
 use Prim.Native.Nat.{ℕ, _-_}
 use native.Mathlib.Omega.{arith}
@@ -10,9 +10,9 @@ use Rattle.books.specs.declared.rule.Dir.the-variants.{Across as across, Down a
 use Rattle.pieces.specs.Firing.{fireOf}
 use Rattle.pieces.specs.Masks.{mostRules}
 use Rattle.pieces.specs.inner.Along.{allFired}
-use Rattle.pieces.specs.inner.Placed.{Placed}
+use Rattle.pieces.specs.inner.ForTable.{MasksFit}
 use Rattle.pieces.proofs.AllCuts.{window-fires, window-long}
-use Rattle.pieces.proofs.ServingMasks.{fitting-placed}
+use Rattle.pieces.proofs.ServingMasks.{fitting-fit}
 use borrow.Author.Needs.{needs}
 use Rattle.pieces.proofs.masks.fire.Statement.{statement}
 use Rattle.pieces.proofs.masks.fire.Tie as tie
@@ -21,8 +21,8 @@ use Rattle.pieces.proofs.masks.fire.Tie as tie
 abbrev began : tie.Then1 → tie.Start
 began t = t .before .before .before
 
-placed : (t : tie.Then1) → Placed (length (now (began t .args .masks))) (began t .args .joins)
-placed t = fitting-placed _ _ (sym (t .before .fits2 .ensures) ∙ t .if1 .taken)
+placed : (t : tie.Then1) → MasksFit (length (now (began t .args .masks))) (began t .args .joins)
+placed t = fitting-fit _ _ (sym (t .before .fits2 .ensures) ∙ t .if1 .taken)
 
 join-requires : tie.Need-join-requires
 join-requires c κs = let t = c .before .before in window-long (now (began t .args .masks)) (began t .args .joins) across (placed t)

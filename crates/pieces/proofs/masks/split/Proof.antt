@@ -1,20 +1,38 @@
 -- The rules are put one after the other: what is left, split from here, is the whole.
-use mathlib.Core.Path.{_≡_, refl, sym, ap, _∙_}
-use mathlib.Core.List.{List}
-use Prim.Native.Nat.{ℕ, _+_, _-_, _≤_}
+use mathlib.Core.Path.{_≡_, refl, sym, ap, ap₂, _∙_}
+use mathlib.Core.List.{List, _∷_}
+use Prim.Native.Nat.{ℕ, _+_, _-_, _≤_, _<_}
+use native.Mathlib.Numerals.{add-one}
 use native.Mathlib.Omega.{arith}
-use lib.ListN.{getD, take, drop}
+use lib.ListN.{length, getD, take, drop, drop-of-length-le}
+use lib.Seq.{getD-take, drop-cons, length-take-le}
 use Rattle.names.proofs.Count.{left-suc}
 use Rattle.books.specs.Rules.{noRule}
-use Rattle.pieces.specs.Masks.{masked, noJoins, splitFrom, splitOf}
-use Rattle.pieces.proofs.Splitting.{Roomy, more-roomy, one-split, all-split}
+use Rattle.books.specs.declared.rule.Rule.{Rule}
+use Rattle.pieces.specs.Masks.{Masked, masked, noJoins, putBody, splitFrom, splitOf}
+use Rattle.pieces.proofs.Splitting.{PlacesFor, more-places}
 use borrow.Author.Needs.{needs}
 use Rattle.pieces.proofs.masks.split.Statement.{statement}
 use Rattle.pieces.proofs.masks.split.Tie as tie
 
+-- one after the other of the first so many
+module _ (rules : List Rule) (count : ℕ) (held : count ≤ length rules) (s : Masked) where
+  one-split : (i : ℕ) → i < count → let q = getD rules i noRule in
+      splitFrom (drop i (take count rules)) s ≡ splitFrom (drop (i + 1) (take count rules)) (putBody s (q .head) (q .body))
+  unfolding splitFrom
+  one-split i h =
+      let low : i < length (take count rules) = omega (arith, length-take-le count rules held) in
+      ap (λ (l : List Rule). splitFrom l s)
+      (drop-cons (take count rules) i noRule low
+      ∙ ap₂ (λ (q : Rule) (n : ℕ). q ∷ drop n (take count rules)) (getD-take count rules i noRule h) (sym (add-one i)))
+
+  all-split : (i : ℕ) → count ≤ i → splitFrom (drop i (take count rules)) s ≡ s
+  unfolding splitFrom
+  all-split i h = rw (drop-of-length-le (take count rules) {i = i} (omega (arith, length-take-le count rules held)))
+
 abbrev Inv-loop : tie.InvT-loop
 Inv-loop count masks₀ family joins₀ i₀ masks joins i =
-    (i ≤ count) × Roomy (count - i) (masked masks joins)
+    (i ≤ count) × PlacesFor (count - i) (masked masks joins)
     × (splitFrom (drop i (take count family)) (masked masks joins) ≡ splitFrom (take count family) (masked masks₀ joins₀))
 
 abbrev μ-loop : tie.MeasureT-loop
@@ -42,9 +60,9 @@ loop-again c =
     let before = masked (t .loop .masks) (t .loop .joins) in
     let q = getD (a .t1) (t .loop .i) noRule in
     let low = p .before .before .before .loop-test .taken in
-    let roomy = rw (left-suc (a .count) (t .loop .i) low) at (t .loop .inv .1) in (
+    let places = rw (left-suc (a .count) (t .loop .i) low) at (t .loop .inv .1) in (
       omega arith,
-      rw (p .put-rule .ensures) (more-roomy _ before roomy (q .head) (q .body)),
+      rw (p .put-rule .ensures) (more-places _ before places (q .head) (q .body)),
       ap (splitFrom (drop (t .loop .i + 1) (take (a .count) (a .t1)))) (p .put-rule .ensures) ∙ sym (one-split (a .t1) (a .count) (s .pre .0 .held) before (t .loop .i) low) ∙ t .loop .inv .2,
     )
 

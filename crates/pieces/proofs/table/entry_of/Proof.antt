@@ -6,7 +6,7 @@ use lib.Bits.{bitOr}
 use Rattle.names.proofs.Count.{part-rest}
 use Rattle.books.specs.declared.rule.Dir.the-variants.{Across as across, Down as down}
 use Rattle.pieces.specs.Masks.{mostRules}
-use Rattle.pieces.specs.inner.Along.{along, window}
+use Rattle.pieces.specs.inner.Along.{along}
 use Rattle.pieces.specs.declared.course.Course.{Course}
 use Rattle.pieces.proofs.AllCuts.{window-long, along-cuts}
 use Rattle.pieces.proofs.Courses.{course-runs}

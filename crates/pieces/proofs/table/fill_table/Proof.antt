@@ -1,15 +1,14 @@
 -- The family is split into masks, which serve its rules, and the table is filled from them.
 use mathlib.Core.Path.{refl, sym, ap, _∙_, subst}
-use mathlib.Core.List.{List}
-use Prim.Native.Nat.{ℕ, _≤_}
+use Prim.Native.Nat.{_≤_}
 use native.Mathlib.Omega.{arith}
 use denote.Ref.{now}
 use lib.ListN.{length, take, replicate}
 use lib.Seq.{length-take-le}
 use Rattle.pieces.specs.Masks.{mostRules, allMasks, Masked}
 use Rattle.pieces.specs.Filling.{filledBy}
-use Rattle.pieces.specs.inner.Placed.{Placed}
-use Rattle.pieces.proofs.ServingMasks.{split-placed}
+use Rattle.pieces.specs.inner.ForTable.{MasksFit}
+use Rattle.pieces.proofs.ServingMasks.{split-fit}
 use borrow.Author.Needs.{needs}
 use Rattle.pieces.proofs.table.fill_table.Statement.{statement}
 use Rattle.pieces.proofs.table.fill_table.Tie as tie
@@ -21,8 +20,8 @@ fill-from-requires c κs =
     let (small, tabled, cells) = s .pre in
     let rules = take (s .args .count) (s .args .family) in
     let few : length rules ≤ mostRules = omega (arith, length-take-le (s .args .count) (s .args .family) (small .held), small .few) in
-    let placed = split-placed rules (replicate allMasks 0) few refl in
-    (tabled, subst (λ (x : Masked). Placed (length (x .masks)) (x .joins)) (sym (p .split .ensures)) placed, cells)
+    let placed = split-fit rules (replicate allMasks 0) few refl in
+    (tabled, subst (λ (x : Masked). MasksFit (length (x .masks)) (x .joins)) (sym (p .split .ensures)) placed, cells)
 
 returns : tie.Need-returns
 returns c =

@@ -5,7 +5,7 @@ use Rattle.names.specs.declared.number.Fault.{Fault}
 use Rattle.names.proofs.SpellingNumbers.{Bytes}
 use Rattle.books.specs.Book.{bookOf}
 use Rattle.pieces.specs.Asking.{Asks}
-use Rattle.pieces.proofs.AskingSheets.{kept-fault, kept-start, kept-from, book-asks}
+use Rattle.pieces.proofs.AskingSheets.{kept-fault, kept-from, book-asks}
 use Rattle.reasons.proofs.Asked.{told-faulty, told-in, told-refused, sizes-asked, room-asked, told-reason}
 use borrow.Author.Needs.{needs}
 use Rattle.reasons.proofs.calls.why_not.Statement.{statement}
@@ -49,16 +49,17 @@ returns-3 c =
 
 reason-requires : tie.Need-reason-requires
 reason-requires c κs =
-    let f = c .before .before in
+    let f = c .before .before .before in
     let a = f .before .before .before .before .before .before in
     (sizes-asked _ _ _ _ _ (asks a) (fine a) (f .if3 .left), room-asked _ _ _ _ _ (asks a) (fine a) (f .if3 .left))
 
 returns-4 : tie.Need-returns-4
 returns-4 c =
-    let f = c .before .before .before in
+    let f = c .before .before .before .before in
     let a = f .before .before .before .before .before .before in
-    told-reason _ _ _ _ _ (asks a) (fine a) (f .if3 .left) (book-bytes (split a)) _ (kept-start _ _ (split a .split-book .ensures))
-    _ (c .before .before .unblamed2 .ensures) _ (c .reason .ensures)
+    let from = kept-from _ _ (split a .split-book .ensures) (a .before .before .before .if1 .left) refl in
+    told-reason _ _ _ _ _ (asks a) (fine a) (f .if3 .left) (book-bytes (split a)) _ _ from
+    _ (c .before .before .before .unblamed2 .ensures) _ (c .reason .ensures)
 
 pub why-not-spec : {M : Type 1} → statement M
 why-not-spec =
@@ -79,6 +80,7 @@ why-not-spec =
     (λ c. search needs)
     returns-3
     (λ c κs. search needs)
+    (λ c. search needs)
     reason-requires
     (λ c. search needs)
     returns-4)

@@ -1,5 +1,4 @@
--- The rows are those of a table that is right.
-use Rattle.sizes.proofs.CardRows.{card-made}
+-- The rows are those of the table that was filled.
 use borrow.Author.Needs.{needs}
 use Rattle.sizes.proofs.card.write_card.Statement.{statement}
 use Rattle.sizes.proofs.card.write_card.Tie as tie
@@ -7,7 +6,7 @@ use Rattle.sizes.proofs.card.write_card.Tie as tie
 returns : tie.Need-returns
 returns c =
     let w = c .before .before in
-    card-made _ _ _ _ _ _ _ (w .before .before .before .before .fill-sizes .ensures) (w .write-rows .ensures)
+    rw (← w .before .before .before .before .fill .ensures) (w .write-rows .ensures)
 
 pub write-card-spec : {M : Type 1} → statement M
 write-card-spec =

@@ -4,21 +4,20 @@ use Prim.Native.Nat.{ℕ, _+_, _-_, _*_, _≤_}
 use native.Mathlib.Omega.{arith}
 use lib.Bits.{bitOr}
 use lib.ListN.{getD}
-use Rattle.pieces.specs.Firing.{gathered}
-use Rattle.pieces.specs.inner.Along.{allFired}
+use Rattle.pieces.specs.Firing.{gathered, fireOf}
 use Rattle.pieces.proofs.Gathered.{gathered-next}
-use Rattle.sizes.specs.inner.Entries.{along}
+use Rattle.sizes.specs.inner.Along.{along}
 use Rattle.sizes.proofs.Slots.{row-more, row-fits}
 use borrow.Author.Needs.{needs}
 use Rattle.sizes.proofs.table.along.Statement.{statement}
 use Rattle.sizes.proofs.table.along.Tie as tie
 
 abbrev Inv-loop : tie.InvT-loop
-Inv-loop sizes masks count first due step cuts found₀ front₀ back₀ k₀ found front back k =
-    (k ≤ cuts) × (front ≡ first + k * step) × (back ≡ due - k * step) × (found ≡ along sizes masks count first due step k)
+Inv-loop sizes masks joins d first due step cuts found₀ front₀ back₀ k₀ found front back k =
+    (k ≤ cuts) × (front ≡ first + k * step) × (back ≡ due - k * step) × (found ≡ along (fireOf masks joins d) sizes first due step k)
 
 abbrev μ-loop : tie.MeasureT-loop
-μ-loop sizes masks count first due step cuts found₀ front₀ back₀ k₀ found front back k = cuts - k
+μ-loop sizes masks joins d first due step cuts found₀ front₀ back₀ k₀ found front back k = cuts - k
 
 loop-holds : tie.Need-loop-holds Inv-loop μ-loop
 unfolding along gathered
@@ -32,11 +31,11 @@ step-fits c = row-fits (c .before .loop .k) _ _ (c .loop-test .taken)
 sub-back : tie.Need-sub-back Inv-loop μ-loop
 sub-back c = omega (arith, step-fits c)
 
-shared-slice-read-join : tie.Need-shared-slice-read-join Inv-loop μ-loop
-shared-slice-read-join c = omega (arith, step-fits (c .before))
+shared-slice-read-fire : tie.Need-shared-slice-read-fire Inv-loop μ-loop
+shared-slice-read-fire c = omega (arith, step-fits (c .before))
 
-shared-slice-read-join-2 : tie.Need-shared-slice-read-join-2 Inv-loop μ-loop
-shared-slice-read-join-2 c = omega (arith, step-fits (c .before .before))
+shared-slice-read-fire-2 : tie.Need-shared-slice-read-fire-2 Inv-loop μ-loop
+shared-slice-read-fire-2 c = omega (arith, step-fits (c .before .before))
 
 add-front : tie.Need-add-front Inv-loop μ-loop
 add-front c = omega (arith, step-fits (c .before .before .before))
@@ -50,11 +49,11 @@ loop-again c =
     let k = t .loop .k in
     let more = row-more k (g .step) in
     let back : t .loop .back - g .step ≡ g .due - (k + 1) * g .step = omega (arith, more, t .loop .inv .2) in
-    let here = ap₂ (λ (x y : ℕ). allFired (g .masks .now) (g .count) (getD (g .sizes .now) x 0) (getD (g .sizes .now) y 0)) (t .loop .inv .1) back in (
+    let here = ap₂ (λ (x y : ℕ). fireOf (g .masks .now) (g .joins) (g .d) (getD (g .sizes .now) x 0) (getD (g .sizes .now) y 0)) (t .loop .inv .1) back in (
       omega arith,
       omega (arith, more),
       back,
-      ap₂ bitOr (t .loop .inv .3) (c .join .ensures ∙ here) ∙ sym (gathered-next k _),
+      ap₂ bitOr (t .loop .inv .3) (c .fire .ensures ∙ here) ∙ sym (gathered-next k _),
     )
 
 returns : tie.Need-returns Inv-loop μ-loop
@@ -72,9 +71,9 @@ along-spec =
     loop-holds
     sub-back
     (λ c. omega (arith, step-fits c))
-    shared-slice-read-join
+    shared-slice-read-fire
     (λ c. omega (arith, step-fits (c .before)))
-    shared-slice-read-join-2
+    shared-slice-read-fire-2
     (λ c κs. search needs)
     add-front
     (λ c. search needs)

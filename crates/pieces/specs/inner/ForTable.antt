@@ -12,7 +12,7 @@ use Rattle.pieces.specs.inner.Room.{Room}
 use Rattle.pieces.specs.declared.masks.Joins.{Joins}
 
 -- so many masks, with a place for each join
-pub record Placed (masks : ℕ) (j : Joins) : Type 0 where
+pub record MasksFit (masks : ℕ) (j : Joins) : Type 0 where
   pub all : masks ≡ allMasks
   pub across-few : j .across ≤ mostRules
   pub down-few : j .down ≤ mostRules
