@@ -3,25 +3,25 @@
 use Prim.Native.Nat.{ℕ, _*_, _-_, _≤_}
 use mathlib.Core.Path.{_≡_}
 use mathlib.Core.Bool.{false}
-use mathlib.Core.Logic.{⊎-elim}
 use mathlib.Core.List.{List}
 use native.Mathlib.Omega.{arith}
-use borrow.Author.Tests.{eqb-true, eqb-false}
+use borrow.Author.Tests.{eqb-false}
 use lib.Dec.{eqb, ltb}
 use lib.ListN.{length, take, drop}
 use lib.Seq.{take-at}
 use Rattle.names.specs.declared.number.Fault.{Fault}
 use Rattle.names.proofs.Picking.{pick-ind}
-use Rattle.names.proofs.Tests.{true-or-false}
 use Rattle.books.specs.Contents.{Contents}
 use Rattle.books.specs.Lent.{contentsOf, pictureOf}
 use Rattle.books.specs.Picture.{Picture}
 use Rattle.books.specs.Answer.{blaming}
 use Rattle.books.specs.Book.{bookOf}
 use Rattle.books.specs.Decide.{derives?}
+use Rattle.books.specs.Lookups.{sizeOf}
 use Rattle.books.specs.Sheet.{sheetOf}
+use Rattle.books.specs.Size.{room}
 use Rattle.books.proofs.Deciding.{decided}
-use Rattle.books.proofs.ReadingSheets.{sheet-lies, sheet-refused}
+use Rattle.books.proofs.NumberedCells.{sheet-cells}
 use Rattle.pieces.specs.Given.{Given}
 use Rattle.pieces.specs.Tree.{tree}
 use Rattle.pieces.specs.Derivation.{Derivation, leaving, entriesNeeded, numbersNeeded, filled, judged, roomed, derivation}
@@ -29,12 +29,8 @@ use Rattle.pieces.proofs.TheTree.{tree-given, given-length}
 use Rattle.belongs.specs.Nodes.{nodesOf}
 
 -- a sheet that was read has few cells, and a refused one has none
-pub cells-few : (s : List ℕ) → sheetOf s .sheet .rows * sheetOf s .sheet .cols ≤ 144
-cells-few s =
-    ⊎-elim
-    (λ t. sheet-lies s (eqb-true (sheetOf s .fault .number) 0 t) .area-few)
-    (λ t. rw (sheet-refused s (eqb-false (sheetOf s .fault .number) 0 t) .none) (omega arith))
-    (true-or-false (eqb (sheetOf s .fault .number) 0))
+pub cells-few : (s : List ℕ) → sizeOf s .rows * sizeOf s .cols ≤ room
+cells-few s = sheet-cells s .area-few
 
 pub nodes-few : (s : List ℕ) (n : ℕ) → n ≡ nodesOf s → n ≤ 287
 nodes-few s n e = omega (arith, cells-few s)

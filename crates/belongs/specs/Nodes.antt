@@ -1,7 +1,7 @@
 -- How many nodes the derivation of a sheet has: one for each cell, and one for each join of two parts; a refused sheet has none.
 use Prim.Native.Nat.{ℕ, _*_, _-_}
 use mathlib.Core.List.{List}
-use Rattle.books.specs.Sheet.{sheetOf}
+use Rattle.books.specs.Lookups.{sizeOf}
 
 abbrev pub nodesOf : List ℕ → ℕ
-nodesOf s = 2 * (sheetOf s .sheet .rows * sheetOf s .sheet .cols) - 1
+nodesOf s = 2 * (sizeOf s .rows * sizeOf s .cols) - 1

@@ -1,6 +1,7 @@
 // Asks whether the sheet in sheet.bin belongs to the family of the book in book.bin, both in the working directory, and prints the answer:
 // number, blamed input and place on one line, then on 0 one line for each node of the derivation, rule and cut.
 use books::answer::Answer;
+use books::lookups::sheet_size;
 use libc::STDOUT_FILENO;
 ghost use mathlib.Core.Path.{_≡_};
 ghost use Prim.Native.Nat.{_*_, _≤_};
@@ -35,9 +36,8 @@ fn print_answer(a: Answer) {
 fn nodes(sheet: &[u8]) -> usize
     ensures { λ r. ⌜ r ≡ nodesOf (now (sheet .entry)) ⌝ }
 {
-    let r = books::sheet::read_sheet(sheet);
-    let g = r.sheet;
-    let cells = g.rows * g.cols;
+    let size = sheet_size(sheet);
+    let cells = size.rows * size.cols;
     if cells == 0 {
         return 0;
     }

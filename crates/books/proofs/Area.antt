@@ -1,6 +1,18 @@
--- So many rows of so many cells: more of either are no fewer.
+-- So many rows of so many cells: more of either are no fewer, so that a sheet's cells find room in their array.
 use Prim.Native.Nat.{ℕ, _*_, _≤_}
 use native.Mathlib.Nat.{mul-le-mul}
+use native.Mathlib.Omega.{arith}
+use Rattle.books.specs.Size.{greatest, room, Within}
 
 pub area : (rows cols most : ℕ) → rows ≤ most → cols ≤ most → rows * cols ≤ most * most
 area rows cols most h g = mul-le-mul h g
+
+pub within-area : {most rows cols : ℕ} → Within most rows cols → rows * cols ≤ most * most
+within-area w = area _ _ _ (w .rows-few) (w .cols-few)
+
+-- the greatest sheet finds room
+pub room-enough : greatest * greatest ≤ room
+room-enough = omega arith
+
+pub within-room : {rows cols : ℕ} → Within greatest rows cols → rows * cols ≤ room
+within-room w = omega (arith, within-area w, room-enough)

@@ -18,13 +18,13 @@ use Rattle.names.specs.declared.number.Read.the-variants.{Value}
 use Rattle.names.specs.declared.colours.Colours.{Colours}
 use Rattle.names.proofs.Picking.{pick-ind}
 use Rattle.names.proofs.Onwards.{onward-ind}
-use Rattle.names.proofs.SpellingNumbers.{Bytes}
+use Rattle.names.specs.Bytes.{Bytes}
 use Rattle.names.proofs.Exactly.{number-in-exactly, number-below-exactly}
 use Rattle.names.proofs.FirstFault.{FirstFault, first-fault}
 use Rattle.names.proofs.ListExactly.{list-first, list-read-exactly}
 use Rattle.books.specs.Contents.{Contents}
 use Rattle.books.specs.Lent.{contentsOf}
-use Rattle.books.specs.Keeps.{Keeps}
+use Rattle.books.specs.Keeps.{Keeps, mostMotifs, mostRules}
 use Rattle.books.specs.SpellBook.{spellBook}
 use Rattle.books.specs.Rules.{noRules, refusedRules, ruleAt, rulesFrom, rulesAt}
 use Rattle.books.specs.Book.{refusedBook, figuresAt, afterFigures, ruledAt, figuredAt, bookOf}
@@ -46,7 +46,7 @@ use Rattle.books.proofs.RuleExactly.{rule-read-exactly, rule-refused-ex
 
 -- the count of rules, and what stands before it
 abbrev countAt : List ℕ → ℕ → ℕ → ℕ → FiguresRead
-countAt s motifs start at = onward Refused (numberIn s at 1 200) (λ count end. Whole (record { motifs = motifs; start = start; count = count }) end)
+countAt s motifs start at = onward Refused (numberIn s at 1 mostRules) (λ count end. Whole (record { motifs = motifs; start = start; count = count }) end)
 
 abbrev startAt : List ℕ → ℕ → ℕ → FiguresRead
 startAt s motifs at = onward Refused (numberBelow s at motifs 6) (λ start then. countAt s motifs start then)
@@ -89,7 +89,7 @@ module _ (s : List ℕ) (colours : ℕ) where
   unfolding figuresAt
   motifs-on motifs at (motifs-read from l h) =
       let o = list-on from l in
-      record { many = o .many; on = o .on ∙ rw (number-in-exactly s from 1 32 _ .1 h) }
+      record { many = o .many; on = o .on ∙ rw (number-in-exactly s from 1 mostMotifs _ .1 h) }
 
   start-on : (motifs at : ℕ) → StartRead s colours motifs at → (start : ℕ) × On s colours (figured s c (countAt s motifs start at))
   start-on motifs at (start-read from start m h) =
@@ -102,7 +102,7 @@ module _ (s : List ℕ) (colours : ℕ) where
   rules-on motifs count at rules (rules-so-far from first st h r) few =
       let o = start-on motifs from st in
       let g : Figures = record { motifs = motifs; start = o .0; count = count } in
-      let whole : bookOf s ≡ rulesLeft s c g motifs colours noRules 0 first count = rw (o .1 .on, number-in-exactly s from 1 200 _ .1 h, o .1 .many) in
+      let whole : bookOf s ≡ rulesLeft s c g motifs colours noRules 0 first count = rw (o .1 .on, number-in-exactly s from 1 mostRules _ .1 h, o .1 .many) in
       let left = in-turn-on (RuleStands s motifs colours) (rulesLeft s c g motifs colours)
       (λ ys i p k x next w. rw (rule-read-exactly s motifs colours p x next .1 w)) (bookOf s) noRules count first whole r few in
       record { figures = g; rules = left .0; on = left .1 }
@@ -112,9 +112,9 @@ unfolding bookOf figuresAt ruledAt
 fault-is s f (no-list h) =
     let some = list-first s .some f h in
     rw (list-first s .exactly f some .1 h, ne-eqb (f .number) 0 (λ q. omega arith))
-fault-is s f (no-motifs colours at l h) = list-on s colours at l .on ∙ rw (number-in-exactly s at 1 32 _ .1 h)
+fault-is s f (no-motifs colours at l h) = list-on s colours at l .on ∙ rw (number-in-exactly s at 1 mostMotifs _ .1 h)
 fault-is s f (no-start colours motifs at m h) = motifs-on s colours motifs at m .on ∙ rw (number-below-exactly s at motifs 6 _ .1 h)
-fault-is s f (no-count colours motifs at st h) = start-on s colours motifs at st .1 .on ∙ rw (number-in-exactly s at 1 200 _ .1 h)
+fault-is s f (no-count colours motifs at st h) = start-on s colours motifs at st .1 .on ∙ rw (number-in-exactly s at 1 mostRules _ .1 h)
 fault-is s f (no-rule colours motifs count at before r more h) =
     let o = rules-on s colours motifs count at before r (omega arith) in
     let left : count - length before ≡ suc (count - length before - 1) = omega arith in
@@ -131,13 +131,13 @@ abbrev Out : List ℕ → BookRead → Type 0
 Out s r = (r .fault ≡ fault 0 0) ⊎ BookFault s (r .fault)
 
 module _ (s : List ℕ) (c : Colours) where
-  rules-out : (g : Figures) (from at : ℕ) → StartRead s (c .count) (g .motifs) from → numberIn s from 1 200 ≡ Value (g .count) at
+  rules-out : (g : Figures) (from at : ℕ) → StartRead s (c .count) (g .motifs) from → numberIn s from 1 mostRules ≡ Value (g .count) at
       → Out s (ruledAt s c g (rulesAt s at (g .motifs) (c .count) (g .count)))
   unfolding rulesAt ruledAt
   rules-out g from first st e =
       let m = g .motifs in
       let n = c .count in
-      let h = number-in-exactly s from 1 200 _ .0 e in
+      let h = number-in-exactly s from 1 mostRules _ .0 e in
       in-turn-out (RuleStands s m n) (rulesLeft s c g m n) (Out s) (g .count) first
       (λ xs ys at r all.
       pick-ind (Out s) (ltb at (length s)) _ _
@@ -152,16 +152,16 @@ module _ (s : List ℕ) (c : Colours) where
   figured-out : (at : ℕ) → ListRead s (c .count) at → Out s (figuredAt s c at)
   unfolding figuredAt figuresAt
   figured-out at l =
-      onward-ind (λ (r : FiguresRead). Out s (figured s c r)) Refused (numberIn s at 1 32) _
-      (λ f e. inr (no-motifs (c .count) at l (number-in-exactly s at 1 32 _ .0 e)))
+      onward-ind (λ (r : FiguresRead). Out s (figured s c r)) Refused (numberIn s at 1 mostMotifs) _
+      (λ f e. inr (no-motifs (c .count) at l (number-in-exactly s at 1 mostMotifs _ .0 e)))
       (λ motifs next e.
-      let m : MotifsRead s (c .count) motifs next = motifs-read at l (number-in-exactly s at 1 32 _ .0 e) in
+      let m : MotifsRead s (c .count) motifs next = motifs-read at l (number-in-exactly s at 1 mostMotifs _ .0 e) in
       onward-ind (λ (r : FiguresRead). Out s (figured s c r)) Refused (numberBelow s next motifs 6) _
       (λ f d. inr (no-start (c .count) motifs next m (number-below-exactly s next motifs 6 _ .0 d)))
       (λ start then d.
       let st : StartRead s (c .count) motifs then = start-read next start m (number-below-exactly s next motifs 6 _ .0 d) in
-      onward-ind (λ (r : FiguresRead). Out s (figured s c r)) Refused (numberIn s then 1 200) _
-      (λ f b. inr (no-count (c .count) motifs then st (number-in-exactly s then 1 200 _ .0 b)))
+      onward-ind (λ (r : FiguresRead). Out s (figured s c r)) Refused (numberIn s then 1 mostRules) _
+      (λ f b. inr (no-count (c .count) motifs then st (number-in-exactly s then 1 mostRules _ .0 b)))
       (λ count end b. rules-out (record { motifs = motifs; start = start; count = count }) then end st b)))
 
 book-out : (s : List ℕ) → Out s (bookOf s)

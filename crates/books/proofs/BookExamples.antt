@@ -5,7 +5,7 @@ use mathlib.Core.List.{List, [], _∷_, _++_}
 use lib.ListN.{length}
 use Rattle.names.specs.Pick.{fault}
 use Rattle.names.specs.Number.{lastGroup, longerAt, numberAt, numberIn, numberBelow, spellNumber}
-use Rattle.names.specs.Name.{Name, leastAt, nameOf, sameName, listed}
+use Rattle.names.specs.Name.{Name, leastByte, nameOf, sameName, listed}
 use Rattle.names.specs.Colours.{findName, colourAt, coloursOf}
 use Rattle.books.specs.Contents.{Contents}
 use Rattle.books.specs.Lent.{contentsOf}
@@ -63,7 +63,9 @@ pub record Books : Type 0 where
   pub lower-3 : bookOf (book (3 ∷ 0 ∷ 1 ∷ []) (0 ∷ 2 ∷ 0 ∷ 3 ∷ [])) .fault ≡ fault 6 23
 
 pub books : Books
-unfolding house houseContents book joins colours slateC slateU spellNumber bookOf figuredAt figuresAt ruledAt rulesAt ruleAt bodyAt joinAt colourNumberAt numberIn numberBelow numberAt longerAt lastGroup coloursOf colourAt nameOf leastAt findName listed sameName
+unfolding
+    house houseContents book joins colours slateC slateU spellNumber bookOf figuredAt figuresAt ruledAt rulesAt ruleAt bodyAt joinAt colourNumberAt
+    numberIn numberBelow numberAt longerAt lastGroup coloursOf colourAt nameOf leastByte findName listed sameName
 books =
     record {
       bytes-34 = refl;

@@ -1,5 +1,6 @@
 -- What a C host learns from `dv_read_book` and `dv_read_sheet`, whatever the bytes, with the answer taken apart as the header's functions do: its number is 0 to 8, a
--- fault blames the input at a place within it, no fault blames nothing, each refusal is told exactly of the bytes that `BookFault` or `SheetFault` gives it, 0 is told exactly of what is accepted, and with it the ticket of a sheet. The readers' laws bound the fault, so that it packs.
+-- fault blames the input at a place within it, no fault blames nothing, each refusal is told exactly of the bytes that `BookFault` or `SheetFault` gives it, 0 is
+-- told exactly of what is accepted, and with it the ticket of a sheet. The readers' laws bound the fault, so that it packs.
 use Prim.Native.Nat.{ℕ, _/_, _%_, _^_, _≤_}
 use mathlib.Core.Path.{_≡_, sym, ap, _∙_}
 use mathlib.Core.Logic.{_↔_}
@@ -8,11 +9,11 @@ use native.Mathlib.Omega.{arith}
 use borrow.Author.Tests.{eqb-true, eqb-false}
 use lib.Dec.{eqb}
 use lib.ListN.{length}
-use Rattle.names.specs.Pick.{fault}
+use Rattle.names.specs.Pick.{fault, ReadersNumber}
 use Rattle.names.specs.declared.number.Fault.{Fault}
 use Rattle.names.proofs.Picking.{pick-ind}
 use Rattle.names.proofs.ReadingNumbers.{Blamed}
-use Rattle.names.proofs.SpellingNumbers.{Bytes}
+use Rattle.names.specs.Bytes.{Bytes}
 use Rattle.books.specs.Contents.{Contents}
 use Rattle.books.specs.Lent.{contentsOf}
 use Rattle.books.specs.ContentsIn.{gridIn}
@@ -28,7 +29,7 @@ use Rattle.books.specs.Sheet.{sheetOf}
 use Rattle.books.specs.Calls.{bookAnswer, sheetAnswer, ticketOf}
 use Rattle.books.specs.declared.answer.Answer.{Answer}
 use Rattle.books.specs.declared.sheet.Sheet.{Sheet}
-use Rattle.books.proofs.ReadingBooks.{book-refused, book-accepted}
+use Rattle.books.proofs.ReadingBooks.{farthestBook, book-refused, book-accepted}
 use Rattle.books.proofs.ReadingSheets.{sheet-refused}
 use Rattle.books.proofs.SpellingBooks.{book-read-back}
 use Rattle.books.proofs.SpellingSheets.{sheet-accepted, sheet-read-back}
@@ -39,7 +40,7 @@ use Rattle.books.proofs.Packing.{apart, book-placed, ticket-packs}
 -- what the answer r tells of these bytes and the first fault in them
 pub record Told (s : List ℕ) (f : Fault) (r : ℕ) : Type 0 where
   pub number-is : r % 2 ^ 8 ≡ f .number
-  pub known : r % 2 ^ 8 ≤ 8
+  pub known : ReadersNumber (r % 2 ^ 8)
   pub blamed : 1 ≤ r % 2 ^ 8 → (r / 2 ^ 8 % 2 ^ 4 ≡ 1) × (r / 2 ^ 12 % 2 ^ 20 ≡ f .place) × (r / 2 ^ 12 % 2 ^ 20 ≤ length s)
   pub unblamed : r % 2 ^ 8 ≡ 0 → (r / 2 ^ 8 % 2 ^ 4 ≡ 0) × (r / 2 ^ 12 % 2 ^ 20 ≡ 0)
 
@@ -95,7 +96,7 @@ pub record SheetTold (s : List ℕ) (r : ℕ) : Type 0 where
 pub read-book-told : (s : List ℕ) (r : ℕ) → r ≡ packed (bookAnswer s) 0 → BookTold s r
 read-book-told s r e =
     let packs = book-placed s 1 (omega arith) .packs in
-    let t : Told s (bookOf s .fault) r = rw e (told s 5164 0 (bookOf s .fault) packs (λ n. book-refused s n .blamed)) in
+    let t : Told s (bookOf s .fault) r = rw e (told s farthestBook 0 (bookOf s .fault) packs (λ n. book-refused s n .blamed)) in
     record {
       tells = t;
       refused = λ f some. let first = told-first s _ f r t some in let row = book-refused-exactly s f some in (λ h. row .0 (first .0 h), λ x. first .1 (row .1 x));

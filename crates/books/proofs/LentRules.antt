@@ -4,15 +4,20 @@ use mathlib.Core.Path.{_≡_, refl, ap, ap₂, _∙_}
 use mathlib.Core.List.{List, [], _∷_, _++_, map, map-append, append-assoc}
 use native.Mathlib.Numerals.{add-one}
 use native.Mathlib.Omega.{arith}
-use lib.ListN.{length, getD, take, set, length-map, List·getD-map}
+use lib.ListN.{length, getD, take, set, replicate, length-append, length-map, length-replicate, List·getD-map}
 use lib.Seq.{take-suc, take-all, take-at, set-at, length-take-le}
 use borrow.Author.Tests.{eq-eqb, ne-eqb}
+use Rattle.books.specs.Book.{bookOf}
+use Rattle.books.specs.Keeps.{mostRules}
+use Rattle.books.specs.Lent.{contentsOf}
 use Rattle.books.specs.Picture.{joins}
+use Rattle.books.specs.declared.lent.BookFigures.{BookFigures}
 use Rattle.books.specs.declared.rule.Rule.{Rule}
 use Rattle.books.specs.declared.rule.Body.{Body}
 use Rattle.books.specs.declared.rule.Body.the-variants.{Colour, Across, Down}
 use Rattle.books.specs.Rules.{noRule}
-use Rattle.books.specs.RuleBytes.{bodied, fourOf, lentRules, kindDir, ruleIn, rulesIn}
+use Rattle.books.specs.RuleBytes.{bodied, fourOf, lentRules, BookInto, kindDir, ruleIn, rulesIn}
+use Rattle.books.proofs.ReadingBooks.{book-count, book-size}
 
 body-back : (a : ℕ) (x : Body) → ruleIn (bodied a x) ≡ record { head = a; body = x }
 unfolding ruleIn kindDir
@@ -33,6 +38,18 @@ module _ (x : List ℕ) where
   unfolding ruleIn
   join-in n = rw (ne-eqb (getD x 1 0) 0 n)
 
+  pub head-in : ruleIn x .head ≡ getD x 0 0
+  unfolding ruleIn
+  head-in = refl
+
+  pub across-in : getD x 1 0 ≡ 1 → ruleIn x .body ≡ Across (getD x 2 0) (getD x 3 0)
+  unfolding kindDir
+  across-in e = join-in (λ z. omega arith) ∙ rw (eq-eqb (getD x 1 0) 1 e)
+
+  pub down-in : (getD x 1 0 ≡ 0 → ⊥) → (getD x 1 0 ≡ 1 → ⊥) → ruleIn x .body ≡ Down (getD x 2 0) (getD x 3 0)
+  unfolding kindDir
+  down-in some other = join-in some ∙ rw (ne-eqb (getD x 1 0) 1 other)
+
 -- the i-th rule is that of the i-th row
 pub rule-of-row : (rows : List (List ℕ)) (i : ℕ) → getD (rulesIn rows) i noRule ≡ ruleIn (getD rows i [])
 unfolding ruleIn kindDir
@@ -51,22 +68,40 @@ lent-back rules count h e =
     ∙ ap rulesIn (take-at (map fourOf (take count rules)) _ count (length-map (take count rules) fourOf ∙ length-take-le count rules h))
     ∙ rules-back (take count rules)
 
+pub lent-long : (rules : List Rule) (count : ℕ) → count ≤ length rules → count ≤ mostRules → length (lentRules rules count) ≡ mostRules
+unfolding lentRules
+lent-long rules count h g =
+    let first = length-map (take count rules) fourOf ∙ length-take-le count rules h in
+    simp length-append (omega (arith, first, length-replicate (mostRules - count) (replicate {A = ℕ} 4 0)))
+
+-- ── A book whose rules were read into rows ──
+
+module _ (book : List ℕ) {b : BookFigures} {rows : List (List ℕ)} (read : BookInto book b rows) where
+  pub rows-held : b .rules ≤ length rows
+  rows-held =
+      rw (read .figures, read .lent, lent-long (bookOf book .family .rules) (bookOf book .family .count) (omega (arith, book-count book, book-size book)) (book-count book))
+      (book-count book)
+
+  -- the first of them have the book's rules
+  pub rows-back : rulesIn (take (b .rules) rows) ≡ contentsOf book .rules
+  rows-back = rw (read .figures) (lent-back (bookOf book .family .rules) (bookOf book .family .count) (omega (arith, book-count book, book-size book)) (read .lent))
+
 -- ── The loop ──
 
 -- one more rule is laid out
-pub lent-next : (rules : List Rule) (x : List ℕ) (i : ℕ) → i < length rules → i < 200 → x ≡ fourOf (getD rules i noRule)
+pub lent-next : (rules : List Rule) (x : List ℕ) (i : ℕ) → i < length rules → i < mostRules → x ≡ fourOf (getD rules i noRule)
     → set (lentRules rules i) i x ≡ lentRules rules (i + 1)
 unfolding lentRules
 lent-next rules x i h g e =
     let long : length (map fourOf (take i rules)) ≡ i = length-map (take i rules) fourOf ∙ length-take-le i rules (omega arith) in
     let one : map fourOf (take (i + 1) rules) ≡ map fourOf (take i rules) ++ (x ∷ []) =
     rw (add-one, take-suc rules i noRule, e) (map-append fourOf (take i rules) (getD rules i noRule ∷ [])) in
-    let left : 200 - i ≡ 200 - (i + 1) + 1 = omega arith in
-    rw (left, add-one (200 - (i + 1)), one, append-assoc) (set-at (map fourOf (take i rules)) _ _ x i long)
+    let left : mostRules - i ≡ mostRules - (i + 1) + 1 = omega arith in
+    rw (left, add-one (mostRules - (i + 1)), one, append-assoc) (set-at (map fourOf (take i rules)) _ _ x i long)
 
 -- more than all cannot be laid out
-pub lent-all : (rules : List Rule) (count : ℕ) → length rules ≤ 200 → 200 ≤ count → lentRules rules 200 ≡ lentRules rules count
+pub lent-all : (rules : List Rule) (count : ℕ) → length rules ≤ mostRules → mostRules ≤ count → lentRules rules mostRules ≡ lentRules rules count
 unfolding lentRules
 lent-all rules count h g =
-    let none : 200 - count ≡ 0 = omega arith in
-    rw (none, take-all 200 rules h, take-all count rules (omega arith))
+    let none : mostRules - count ≡ 0 = omega arith in
+    rw (none, take-all mostRules rules h, take-all count rules (omega arith))

@@ -20,6 +20,7 @@ pub mod SpellingBooks
 pub mod LongestBook
 pub mod BookExamples
 pub mod Area
+pub mod SizesWithin
 pub mod ReadingSizes
 pub mod ReadingCells
 pub mod ReadingSheets
@@ -35,6 +36,9 @@ pub mod LentEnds
 pub mod Demand1
 pub mod Showing
 pub mod Settled
-pub mod Ordering
+pub mod SheetInParts
+pub mod NumberedCells
 pub mod LookingUp
+pub mod FarBooks
+pub mod FarSheets
 pub mod FarBytes

@@ -1,4 +1,4 @@
--- The longest book has 3,429 bytes: 2,625 of colours, 4 of figures, and 4 for each of 200 rules. Its spelling is made of bytes.
+-- The longest book has 2,625 bytes of colours, 4 of figures, and 4 for each rule: 3,429 with 200 rules. Its spelling is made of bytes.
 use Prim.Native.Nat.{ℕ, zero, suc, _+_, _*_, _/_, _%_, _<_, _≤_}
 use mathlib.Core.Path.{_≡_, refl, sym, ap, _∙_}
 use mathlib.Core.List.{List, [], _∷_, _++_, List·Memᴰ, List·Memᴰ·head, List·Memᴰ·tail, List·Memᴰ·cases-cons, List·Memᴰ·not-nil}
@@ -6,10 +6,11 @@ use mathlib.Core.Logic.{⊎-elim}
 use native.Mathlib.Omega.{arith}
 use lib.ListN.{length, getD, length-append}
 use Rattle.names.specs.Number.{spellNumber}
-use Rattle.names.specs.Spelling.{spellColours}
-use Rattle.names.proofs.SpellingNumbers.{Bytes, spell-short, spell-two}
+use Rattle.names.specs.Spelling.{spellColours, mostColours}
+use Rattle.names.specs.Bytes.{Bytes}
+use Rattle.names.proofs.SpellingNumbers.{spell-short, spell-two}
 use Rattle.books.specs.Contents.{Contents}
-use Rattle.books.specs.Keeps.{BodyFits, RuleFits, Keeps}
+use Rattle.books.specs.Keeps.{mostMotifs, mostRules, BodyFits, RuleFits, Keeps}
 use Rattle.books.specs.Lent.{contentsOf}
 use Rattle.books.specs.Book.{bookOf}
 use Rattle.books.specs.Rules.{noRule}
@@ -21,7 +22,7 @@ use Rattle.names.proofs.LongestColours.{longestNames, longest-names, longest-le
 use Rattle.names.proofs.SpelledBytes.{FewBytes, none-few, both-few, fewer, number-one, number-two, colours-few}
 use Rattle.books.proofs.ReadingBooks.{book-accepted}
 
-module _ (motifs colours : ℕ) (few-motifs : motifs ≤ 32) (few-colours : colours ≤ 64) where
+module _ (motifs colours : ℕ) (few-motifs : motifs ≤ mostMotifs) (few-colours : colours ≤ mostColours) where
   body-few : (b : Body) → BodyFits motifs colours b → FewBytes (spellBody b) 3
   body-few (Colour c) f = fewer (omega arith) (both-few (number-one 0 (omega arith)) (number-one c (omega arith)))
   body-few (Across l r) f = both-few (number-one 1 (omega arith)) (both-few (number-one l (omega (arith, f .0))) (number-one r (omega (arith, f .1))))
@@ -33,7 +34,10 @@ module _ (motifs colours : ℕ) (few-motifs : motifs ≤ 32) (few-colours : colo
       let g = f r (List·Memᴰ·head refl) in
       fewer (omega arith) (both-few (both-few (number-one (r .head) (omega (arith, g .head-fits))) (body-few (r .body) (g .body-fits))) (rules-few rs (λ x m. f x (List·Memᴰ·tail m))))
 
-book-few : (b : Contents) → Keeps b → FewBytes (spellBook b) 3429
+abbrev pub longestLength : ℕ
+longestLength = 2629 + 4 * mostRules
+
+book-few : (b : Contents) → Keeps b → FewBytes (spellBook b) longestLength
 book-few b keeps =
     let rules = rules-few (b .motifs) (length (b .colours)) (keeps .motifs-few) (keeps .colours-ok .few) (b .rules) (keeps .sound .rules-fit) in
     fewer (omega (arith, keeps .rules-few))
@@ -45,17 +49,17 @@ book-few b keeps =
 pub spelling-bytes : (b : Contents) → Keeps b → Bytes (spellBook b)
 spelling-bytes b keeps = book-few b keeps .bytes
 
-pub spelling-length : (b : Contents) → Keeps b → length (spellBook b) ≤ 3429
+pub spelling-length : (b : Contents) → Keeps b → length (spellBook b) ≤ longestLength
 spelling-length b keeps = book-few b keeps .few
 
-pub longest-book : (s : List ℕ) → Bytes s → bookOf s .fault .number ≡ 0 → length s ≤ 3429
+pub longest-book : (s : List ℕ) → Bytes s → bookOf s .fault .number ≡ 0 → length s ≤ longestLength
 longest-book s bytes z = let a = book-accepted s bytes z in omega (arith, ap length (a .spelled), spelling-length (contentsOf s) (a .keeps))
 
 -- ── One is as long ──
 
--- the n-th of 1,024 joins: no two are the same
+-- the n-th join of two motifs: no two are the same
 abbrev join : ℕ → Rule
-join n = record { head = 0; body = Across (n / 32) (n % 32) }
+join n = record { head = 0; body = Across (n / mostMotifs) (n % mostMotifs) }
 
 abbrev joins : ℕ → ℕ → List Rule
 joins n zero = []
@@ -65,7 +69,7 @@ joins-count : (k n : ℕ) → length (joins n k) ≡ k
 joins-count zero n = refl
 joins-count (suc k) n = ap suc (joins-count k (suc n))
 
-joins-fit : (colours k n : ℕ) → n + k ≤ 1024 → (r : Rule) → List·Memᴰ r (joins n k) → RuleFits 32 colours r
+joins-fit : (colours k n : ℕ) → n + k ≤ mostMotifs * mostMotifs → (r : Rule) → List·Memᴰ r (joins n k) → RuleFits mostMotifs colours r
 joins-fit colours zero n h r m = absurd (List·Memᴰ·not-nil m)
 joins-fit colours (suc k) n h r m =
     ⊎-elim
@@ -73,51 +77,74 @@ joins-fit colours (suc k) n h r m =
     (λ t. joins-fit colours k (suc n) (omega arith) r t)
     (List·Memᴰ·cases-cons m)
 
-joins-length : (k n : ℕ) → n + k ≤ 1024 → length (spellRules (joins n k)) ≡ 4 * k
+joins-length : (k n : ℕ) → n + k ≤ mostMotifs * mostMotifs → length (spellRules (joins n k)) ≡ 4 * k
 joins-length zero n h = refl
 joins-length (suc k) n h =
-    let left = n / 32 in
-    let right = n % 32 in
-    omega (arith, length-append (spellRule (join n)) (spellRules (joins (suc n) k)), length-append (spellNumber 0) (spellBody (Across left right)), length-append (spellNumber 1) (spellNumber left ++ spellNumber right), length-append (spellNumber left) (spellNumber right), spell-short 0 (omega arith), spell-short 1 (omega arith), spell-short left (omega arith), spell-short right (omega arith), joins-length k (suc n) (omega arith))
+    let left = n / mostMotifs in
+    let right = n % mostMotifs in
+    omega (
+      arith,
+      length-append (spellRule (join n)) (spellRules (joins (suc n) k)),
+      length-append (spellNumber 0) (spellBody (Across left right)),
+      length-append (spellNumber 1) (spellNumber left ++ spellNumber right),
+      length-append (spellNumber left) (spellNumber right),
+      spell-short 0 (omega arith),
+      spell-short 1 (omega arith),
+      spell-short left (omega arith),
+      spell-short right (omega arith),
+      joins-length k (suc n) (omega arith),
+    )
 
 joins-at : (k n i : ℕ) → i < k → getD (joins n k) i noRule ≡ join (n + i)
 joins-at zero n i h = absurd (omega arith)
 joins-at (suc k) n zero h = ap join (omega arith)
 joins-at (suc k) n (suc i) h = joins-at k (suc n) i (omega arith) ∙ ap join (omega arith)
 
--- 64 colours, 32 motifs, 200 joins
+-- as many colours, motifs and joins as a book may have
 pub longest : Contents
-longest = record { colours = longestNames; motifs = 32; start = 0; rules = joins 0 200 }
+longest = record { colours = longestNames; motifs = mostMotifs; start = 0; rules = joins 0 mostRules }
 
 pub longest-keeps : Keeps longest
 unfolding longest
 longest-keeps =
-    let count = joins-count 200 0 in
+    let count = joins-count mostRules 0 in
     record {
       colours-ok = longest-names;
       motifs-some = omega arith;
       motifs-few = omega arith;
       rules-some = omega arith;
       rules-few = omega arith;
-      sound = record { start-fits = omega arith; rules-fit = joins-fit (length longestNames) 200 0 (omega arith) };
+      sound = record { start-fits = omega arith; rules-fit = joins-fit (length longestNames) mostRules 0 (omega arith) };
     }
 
-pub longest-spelling : length (spellBook longest) ≡ 3429
+pub longest-spelling : length (spellBook longest) ≡ longestLength
 unfolding longest
 longest-spelling =
     let colours = spellColours longestNames in
-    let motifs = spellNumber 32 in
+    let motifs = spellNumber mostMotifs in
     let start = spellNumber 0 in
-    let count = spellNumber (length (joins 0 200)) in
-    let rules = spellRules (joins 0 200) in
-    omega (arith, length-append colours (motifs ++ (start ++ (count ++ rules))), length-append motifs (start ++ (count ++ rules)), length-append start (count ++ rules), length-append count rules, longest-length, spell-short 32 (omega arith), spell-short 0 (omega arith), ap length (spell-two (length (joins 0 200)) (omega (arith, joins-count 200 0)) (omega (arith, joins-count 200 0))), joins-length 200 0 (omega arith))
+    let count = spellNumber (length (joins 0 mostRules)) in
+    let rules = spellRules (joins 0 mostRules) in
+    let all = joins-count mostRules 0 in
+    omega (
+      arith,
+      length-append colours (motifs ++ (start ++ (count ++ rules))),
+      length-append motifs (start ++ (count ++ rules)),
+      length-append start (count ++ rules),
+      length-append count rules,
+      longest-length,
+      spell-short mostMotifs (omega arith),
+      spell-short 0 (omega arith),
+      ap length (spell-two (length (joins 0 mostRules)) (omega arith) (omega arith)),
+      joins-length mostRules 0 (omega arith),
+    )
 
 -- no rule of it stands twice
-pub longest-rules : (i j : ℕ) → i < 200 → j < 200 → getD (longest .rules) i noRule ≡ getD (longest .rules) j noRule → i ≡ j
+pub longest-rules : (i j : ℕ) → i < mostRules → j < mostRules → getD (longest .rules) i noRule ≡ getD (longest .rules) j noRule → i ≡ j
 unfolding longest
 longest-rules i j hi hj e =
-    let same : join i ≡ join j = sym (joins-at 200 0 i hi ∙ ap join (omega arith)) ∙ (e ∙ (joins-at 200 0 j hj ∙ ap join (omega arith))) in
-    let bodies : Across (i / 32) (i % 32) ≡ Across (j / 32) (j % 32) = ap (λ (r : Rule). r .body) same in
-    let left : i / 32 ≡ j / 32 = cc in
-    let right : i % 32 ≡ j % 32 = cc in
+    let same : join i ≡ join j = sym (joins-at mostRules 0 i hi ∙ ap join (omega arith)) ∙ (e ∙ (joins-at mostRules 0 j hj ∙ ap join (omega arith))) in
+    let bodies : Across (i / mostMotifs) (i % mostMotifs) ≡ Across (j / mostMotifs) (j % mostMotifs) = ap (λ (r : Rule). r .body) same in
+    let left : i / mostMotifs ≡ j / mostMotifs = cc in
+    let right : i % mostMotifs ≡ j % mostMotifs = cc in
     omega arith

@@ -1,19 +1,20 @@
--- The longest sheet has 2,774 bytes: those of the longest colour list, three for the ticket, one for the rows, one for the columns, and one for each cell. Its spelling is made of bytes.
+-- The longest sheet has the bytes of the longest colour list, three for the ticket, one for the rows, one for the columns, and one for each cell: 2,774 where
+-- it has at most 12 rows and columns. Its spelling is made of bytes.
 use Prim.Native.Nat.{ℕ, suc, _+_, _*_, _≤_}
 use mathlib.Core.Path.{_≡_, refl, ap}
 use mathlib.Core.List.{List, [], _∷_, _++_}
 use native.Mathlib.Omega.{arith}
-use lib.ListN.{length, length-append, getD-replicate}
+use lib.ListN.{length, length-append, replicate, getD-replicate}
 use Rattle.names.specs.Number.{greatestNumber, spellNumber}
 use Rattle.names.specs.Spelling.{spellColours}
-use Rattle.names.proofs.SpellingNumbers.{Bytes, spell-short, spell-longest, spell-few}
+use Rattle.names.specs.Bytes.{Bytes}
+use Rattle.names.proofs.SpellingNumbers.{spell-short, spell-longest, spell-few}
 use Rattle.books.specs.Grid.{Grid, GridKeeps}
 use Rattle.books.specs.ContentsIn.{gridIn}
-use Rattle.books.specs.Size.{greatest, room}
-use Rattle.books.specs.Cells.{noCells}
+use Rattle.books.specs.Size.{greatest}
 use Rattle.books.specs.Sheet.{sheetOf}
 use Rattle.books.specs.SpellSheet.{spellCells, spellSheet}
-use Rattle.books.proofs.Area.{area}
+use Rattle.books.proofs.Area.{within-area}
 use Rattle.names.proofs.SpelledBytes.{FewBytes, none-few, both-few, fewer, number-one, number-three, colours-few}
 use Rattle.names.proofs.LongestColours.{colours-longest, longestNames, longest-names, longest-length}
 use Rattle.books.proofs.ReadingCells.{Fit}
@@ -33,7 +34,17 @@ sheet-length g k =
     let rows = spellNumber (g .rows) in
     let cols = spellNumber (g .cols) in
     let cells = spellCells (g .cells) in
-    omega (arith, length-append colours (ticket ++ (rows ++ (cols ++ cells))), length-append ticket (rows ++ (cols ++ cells)), length-append rows (cols ++ cells), length-append cols cells, spell-short (g .rows) (omega (arith, k .rows-few)), spell-short (g .cols) (omega (arith, k .cols-few)), cells-length (length (g .colours)) (omega (arith, k .colours-ok .few)) (g .cells) (k .cells-fit), k .cells-all)
+    omega (
+      arith,
+      length-append colours (ticket ++ (rows ++ (cols ++ cells))),
+      length-append ticket (rows ++ (cols ++ cells)),
+      length-append rows (cols ++ cells),
+      length-append cols cells,
+      spell-short (g .rows) (omega (arith, k .within .rows-few)),
+      spell-short (g .cols) (omega (arith, k .within .cols-few)),
+      cells-length (length (g .colours)) (omega (arith, k .colours-ok .few)) (g .cells) (k .cells-fit),
+      k .cells-all,
+    )
 
 cells-few : (colours : ℕ) → colours ≤ 128 → (vs : List ℕ) → Fit colours vs → FewBytes (spellCells vs) (length vs)
 cells-few colours few [] fit = none-few
@@ -45,18 +56,29 @@ pub spelling-bytes : (g : Grid) → GridKeeps g → Bytes (spellSheet g)
 spelling-bytes g k =
     both-few (colours-few (g .colours) (k .colours-ok))
     (both-few (number-three (g .ticket) (k .ticket-few))
-    (both-few (number-one (g .rows) (omega (arith, k .rows-few)))
-    (both-few (number-one (g .cols) (omega (arith, k .cols-few))) (cells-few (length (g .colours)) (omega (arith, k .colours-ok .few)) (g .cells) (k .cells-fit))))) .bytes
+    (both-few (number-one (g .rows) (omega (arith, k .within .rows-few)))
+    (both-few (number-one (g .cols) (omega (arith, k .within .cols-few)))
+    (cells-few (length (g .colours)) (omega (arith, k .colours-ok .few)) (g .cells) (k .cells-fit))))) .bytes
 
-pub sheet-longest : (s : List ℕ) → Bytes s → sheetOf s .fault .number ≡ 0 → length s ≤ 2774
+abbrev pub longestLength : ℕ
+longestLength = 2630 + greatest * greatest
+
+pub sheet-longest : (s : List ℕ) → Bytes s → sheetOf s .fault .number ≡ 0 → length s ≤ longestLength
 sheet-longest s bytes z =
     let a = sheet-accepted s bytes z in
     let g = gridIn s (sheetOf s .sheet) in
-    omega (arith, ap (λ (x : List ℕ). length x) (a .spelled), sheet-length g (a .keeps), spell-few (g .ticket), colours-longest (g .colours) (a .keeps .colours-ok), area (g .rows) (g .cols) greatest (a .keeps .rows-few) (a .keeps .cols-few))
+    omega (
+      arith,
+      ap (λ (x : List ℕ). length x) (a .spelled),
+      sheet-length g (a .keeps),
+      spell-few (g .ticket),
+      colours-longest (g .colours) (a .keeps .colours-ok),
+      within-area (a .keeps .within),
+    )
 
 -- and one is as long: its ticket is the greatest, and every cell has the first of 64 colours
 pub longest : Grid
-longest = record { colours = longestNames; ticket = greatestNumber; rows = greatest; cols = greatest; cells = noCells }
+longest = record { colours = longestNames; ticket = greatestNumber; rows = greatest; cols = greatest; cells = replicate (greatest * greatest) 0 }
 
 pub longest-keeps : GridKeeps longest
 unfolding longest
@@ -65,14 +87,11 @@ longest-keeps =
     record {
       colours-ok = longest-names;
       ticket-few = omega arith;
-      rows-some = omega arith;
-      rows-few = omega arith;
-      cols-some = omega arith;
-      cols-few = omega arith;
+      within = record { rows-some = omega arith; rows-few = omega arith; cols-some = omega arith; cols-few = omega arith };
       cells-all = refl;
-      cells-fit = λ i h. rw (getD-replicate {A = ℕ} room i 0 0 h) names;
+      cells-fit = λ i h. rw (getD-replicate {A = ℕ} (greatest * greatest) i 0 0 h) names;
     }
 
-pub longest-spelling : length (spellSheet longest) ≡ 2774
+pub longest-spelling : length (spellSheet longest) ≡ longestLength
 unfolding longest
 longest-spelling = omega (arith, sheet-length longest longest-keeps, spell-longest greatestNumber (omega arith) (omega arith), longest-length)

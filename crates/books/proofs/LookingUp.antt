@@ -12,18 +12,18 @@ use lib.Seq.{getD-take, length-take-le}
 use Rattle.names.proofs.Tests.{lt-or-le}
 use Rattle.books.specs.Lent.{contentsOf}
 use Rattle.books.specs.ContentsIn.{gridIn}
-use Rattle.books.specs.Keeps.{BodyFits, RuleFits}
+use Rattle.books.specs.Keeps.{BodyFits, RuleFits, mostRules}
 use Rattle.books.specs.Rules.{noRule}
 use Rattle.books.specs.Book.{bookOf}
 use Rattle.books.specs.Size.{greatest}
 use Rattle.books.specs.Sheet.{sheetOf}
-use Rattle.books.specs.Lookups.{ruleIn, ruleOf, sizeIn, sizeOf, kind, first, second, packedRule, packedFound, packedSize, ruleShown, sizeShown, version}
+use Rattle.books.specs.Lookups.{ruleWith, ruleOf, sizeIn, sizeOf, kindOf, firstHeld, secondHeld, packedRule, packedFound, packedSize, ruleShown, sizeShown, version}
 use Rattle.books.specs.declared.rule.Rule.{Rule}
 use Rattle.books.specs.declared.rule.Body.{Body}
 use Rattle.books.specs.declared.rule.Body.the-variants.{Colour, Across, Down}
 use Rattle.books.specs.declared.lookups.RuleFound.{RuleFound}
 use Rattle.books.specs.declared.lookups.RuleFound.the-variants.{There, Missing}
-use Rattle.books.specs.declared.lookups.SheetSize.{SheetSize}
+use Rattle.books.specs.declared.size.Size.{Size}
 use Rattle.books.proofs.ReadingBooks.{book-lies, book-refused, book-size}
 use Rattle.books.proofs.ReadingSheets.{sheet-lies, sheet-refused}
 use Rattle.books.proofs.Settled.{settled}
@@ -33,12 +33,12 @@ use Rattle.books.proofs.Settled.{settled}
 -- the parts of a rule, as a host reads them off its number
 pub record RuleApart (r : Rule) (n : ℕ) : Type 0 where
   pub head-is : n % 2 ^ 8 ≡ r .head
-  pub kind-is : n / 2 ^ 8 % 2 ^ 8 ≡ kind (r .body)
-  pub first-is : n / 2 ^ 16 % 2 ^ 8 ≡ first (r .body)
-  pub second-is : n / 2 ^ 24 % 2 ^ 8 ≡ second (r .body)
+  pub kind-is : n / 2 ^ 8 % 2 ^ 8 ≡ kindOf (r .body)
+  pub first-is : n / 2 ^ 16 % 2 ^ 8 ≡ firstHeld (r .body)
+  pub second-is : n / 2 ^ 24 % 2 ^ 8 ≡ secondHeld (r .body)
   pub one-above : n / 2 ^ 32 ≡ 1
 
-body-small : (m n : ℕ) → m ≤ 2 ^ 8 → n ≤ 2 ^ 8 → (b : Body) → BodyFits m n b → (kind b < 2 ^ 8) × (first b < 2 ^ 8) × (second b < 2 ^ 8)
+body-small : (m n : ℕ) → m ≤ 2 ^ 8 → n ≤ 2 ^ 8 → (b : Body) → BodyFits m n b → (kindOf b < 2 ^ 8) × (firstHeld b < 2 ^ 8) × (secondHeld b < 2 ^ 8)
 body-small m n h g (Colour c) f = (omega arith, omega arith, omega arith)
 body-small m n h g (Across l r) f = (omega arith, omega arith, omega arith)
 body-small m n h g (Down u v) f = (omega arith, omega arith, omega arith)
@@ -50,7 +50,7 @@ rule-apart m n r h g f =
     record { head-is = omega arith; kind-is = omega arith; first-is = omega arith; second-is = omega arith; one-above = omega arith }
 
 -- so that the number settles the rule
-body-settled : (b c : Body) → kind b ≡ kind c → first b ≡ first c → second b ≡ second c → b ≡ c
+body-settled : (b c : Body) → kindOf b ≡ kindOf c → firstHeld b ≡ firstHeld c → secondHeld b ≡ secondHeld c → b ≡ c
 body-settled (Colour c) (Colour d) k f s = ap Colour f
 body-settled (Across l r) (Across m t) k f s = ap₂ Across f s
 body-settled (Down u v) (Down w x) k f s = ap₂ Down f s
@@ -73,11 +73,11 @@ packed-missing (There r) e = absurd (omega arith)
 packed-missing Missing e = refl
 
 -- rows and columns, as a host reads them off the number of a size
-pub record SizeApart (z : SheetSize) (n : ℕ) : Type 0 where
+pub record SizeApart (z : Size) (n : ℕ) : Type 0 where
   pub rows-is : n % 2 ^ 32 ≡ z .rows
-  pub columns-is : n / 2 ^ 32 ≡ z .columns
+  pub columns-is : n / 2 ^ 32 ≡ z .cols
 
-pub size-apart : (z : SheetSize) → z .rows < 2 ^ 32 → SizeApart z (packedSize z)
+pub size-apart : (z : Size) → z .rows < 2 ^ 32 → SizeApart z (packedSize z)
 size-apart z h = record { rows-is = omega arith; columns-is = omega arith }
 
 -- ── A rule of a book ──
@@ -94,7 +94,7 @@ module _ (s : List ℕ) where
   has-rules : 0 < length rules → bookOf s .fault .number ≡ 0
   has-rules h = ⊎-elim (λ z. z) (λ p. absurd (omega (arith, refused-rules (λ z. omega arith)))) (eq-zero-or-pos (bookOf s .fault .number))
 
-  pub count-few : bookOf s .family .count ≤ 200
+  pub count-few : bookOf s .family .count ≤ mostRules
   count-few =
       ⊎-elim
       (λ z. book-lies s z .rules-few)
@@ -106,11 +106,11 @@ module _ (s : List ℕ) where
 
   module _ (k : ℕ) where
     pub found : k < length rules → ruleOf s k ≡ There (getD rules k noRule)
-    unfolding ruleIn
+    unfolding ruleWith
     found h = rw (lt-ltb k (length rules) h)
 
     pub missing : length rules ≤ k → ruleOf s k ≡ Missing
-    unfolding ruleIn
+    unfolding ruleWith
     missing h = rw (le-ltb k (length rules) h)
 
     -- the same by the count and the places of the family that was read
@@ -148,10 +148,10 @@ module _ (s : List ℕ) where
 -- ── The size of a sheet ──
 
 module _ (s : List ℕ) where
-  pub size-few : (sizeOf s .rows ≤ greatest) × (sizeOf s .columns ≤ greatest)
+  pub size-few : (sizeOf s .rows ≤ greatest) × (sizeOf s .cols ≤ greatest)
   size-few =
       ⊎-elim
-      (λ z. let lies = sheet-lies s z in (lies .rows-few, lies .cols-few))
+      (λ z. let lies = sheet-lies s z in (lies .within .rows-few, lies .within .cols-few))
       (λ p. rw (sheet-refused s (λ z. omega arith) .none) (omega arith, omega arith))
       (eq-zero-or-pos (sheetOf s .fault .number))
 
@@ -161,7 +161,7 @@ module _ (s : List ℕ) where
 
   -- it is 0 exactly where the sheet is refused, and not 0 exactly where it is accepted
   pub no-size-exactly : (sizeShown s ≡ 0) ↔ (sheetOf s .fault .number ≡ 0 → ⊥)
-  no-size-exactly = (λ e z. omega (arith, sheet-lies s z .rows-some), λ d. rw (sheet-refused s d .none))
+  no-size-exactly = (λ e z. omega (arith, sheet-lies s z .within .rows-some), λ d. rw (sheet-refused s d .none))
 
   pub size-exactly : (sizeShown s ≡ 0 → ⊥) ↔ (sheetOf s .fault .number ≡ 0)
   size-exactly = (
@@ -174,7 +174,7 @@ module _ (s : List ℕ) where
 pub rule-settled : (s : List ℕ) (k : ℕ) (r q : RuleFound) → r ≡ ruleOf s k → q ≡ ruleOf s k → r ≡ q
 rule-settled s k r q = settled
 
-pub sheet-size-settled : (s : List ℕ) (r q : SheetSize) → r ≡ sizeOf s → q ≡ sizeOf s → r ≡ q
+pub sheet-size-settled : (s : List ℕ) (r q : Size) → r ≡ sizeOf s → q ≡ sizeOf s → r ≡ q
 sheet-size-settled s r q = settled
 
 pub dv-rule-settled : (s : List ℕ) (k r q : ℕ) → r ≡ ruleShown s k → q ≡ ruleShown s k → r ≡ q

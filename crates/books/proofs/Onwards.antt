@@ -7,6 +7,7 @@ use Rattle.books.specs.Rules.{afterBody, afterRule}
 use Rattle.books.specs.Book.{afterFigures}
 use Rattle.books.specs.declared.rule.Rule.{Rule}
 use Rattle.books.specs.declared.rule.Body.{Body}
+use Rattle.books.specs.declared.size.Size.{Size}
 use Rattle.books.specs.declared.size.SizeRead.{SizeRead}
 use Rattle.books.specs.declared.size.SizeRead.the-variants.{By, Refused as RefusedSize}
 use Rattle.books.specs.declared.bodies.BodyRead.{BodyRead}
@@ -18,9 +19,9 @@ use Rattle.books.specs.declared.book.FiguresRead.{FiguresRead}
 use Rattle.books.specs.declared.book.FiguresRead.the-variants.{Whole as WholeFigures, Refused as RefusedFigures}
 
 module _ {ℓ κ} {A : Type ℓ} (P : A → Type κ) (refuse : Fault → A) where
-  pub after-size-ind : (r : SizeRead) (go : ℕ → ℕ → ℕ → A) → ((f : Fault) → r ≡ RefusedSize f → P (refuse f))
-      → ((rows cols next : ℕ) → r ≡ By rows cols next → P (go rows cols next)) → P (afterSize refuse r go)
-  after-size-ind (By rows cols next) go bad good = good rows cols next refl
+  pub after-size-ind : (r : SizeRead) (go : Size → ℕ → A) → ((f : Fault) → r ≡ RefusedSize f → P (refuse f))
+      → ((z : Size) (next : ℕ) → r ≡ By z next → P (go z next)) → P (afterSize refuse r go)
+  after-size-ind (By z next) go bad good = good z next refl
   after-size-ind (RefusedSize f) go bad good = bad f refl
 
   pub after-figures-ind : (r : FiguresRead) (go : Figures → ℕ → A) → ((f : Fault) → r ≡ RefusedFigures f → P (refuse f))

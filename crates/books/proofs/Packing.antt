@@ -15,7 +15,7 @@ use Rattle.books.specs.Book.{bookOf}
 use Rattle.books.specs.Sheet.{sheetOf}
 use Rattle.books.specs.Calls.{sheetAnswer, ticketOf}
 use Rattle.books.specs.declared.answer.Answer.{Answer}
-use Rattle.books.proofs.ReadingBooks.{book-refused}
+use Rattle.books.proofs.ReadingBooks.{farthestBook, book-refused}
 use Rattle.books.proofs.ReadingSheets.{sheet-refused, sheet-ticket}
 
 -- the parts of a packed answer
@@ -52,7 +52,7 @@ fault-placed s input limit f h g b =
     })
 
 pub book-placed : (s : List ℕ) (input : ℕ) → input < 2 ^ 4 → Placed s (blaming input (bookOf s .fault))
-book-placed s input h = fault-placed s input 5164 (bookOf s .fault) h (omega arith) (λ n. book-refused s n .blamed)
+book-placed s input h = fault-placed s input farthestBook (bookOf s .fault) h (omega arith) (λ n. book-refused s n .blamed)
 
 -- an answer packs with a count that fits
 pub packs-with : {a : Answer} {n : ℕ} (count : ℕ) → Packs a n → count < 2 ^ 32 → Packs a count

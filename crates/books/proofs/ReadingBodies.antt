@@ -13,7 +13,7 @@ use Rattle.names.specs.declared.number.Read.the-variants.{Value}
 use Rattle.names.proofs.Picking.{pick-ind}
 use Rattle.names.proofs.Onwards.{onward-ind}
 use Rattle.names.proofs.ReadingNumbers.{Blamed, blamed-later, number-below, number-below-refused}
-use Rattle.names.proofs.SpellingNumbers.{Bytes}
+use Rattle.names.specs.Bytes.{Bytes}
 use Rattle.books.specs.Keeps.{BodyFits}
 use Rattle.books.specs.Rules.{colourNumberAt, joinBody, joinAt, bodyAt}
 use Rattle.books.specs.SpellBook.{spellBody}

@@ -16,13 +16,13 @@ use Rattle.names.specs.declared.number.Fault.{Fault}
 use Rattle.names.proofs.Picking.{pick-ind}
 use Rattle.names.proofs.Listing.{getD-mem}
 use Rattle.names.proofs.ReadingNumbers.{Blamed, blamed-later}
-use Rattle.names.proofs.SpellingNumbers.{Bytes}
-use Rattle.names.proofs.ReadingColours.{Places, places-none, names-count, colours-lie, colours-refused}
+use Rattle.names.specs.Bytes.{Bytes}
+use Rattle.names.proofs.ReadingColours.{listSpan, Places, places-none, names-count, colours-lie, colours-refused}
 use Rattle.names.proofs.SpellingColours.{colours-accepted}
 use Rattle.books.specs.Contents.{Contents}
 use Rattle.books.specs.Lent.{contentsOf}
 use Rattle.books.specs.ContentsIn.{contentsIn}
-use Rattle.books.specs.Keeps.{RuleFits, Keeps}
+use Rattle.books.specs.Keeps.{RuleFits, Keeps, mostMotifs, mostRules}
 use Rattle.books.specs.Rules.{noRule, rulesAt}
 use Rattle.books.specs.Book.{noFamily, refusedBook, figuresAt, familyOf, ruledAt, figuredAt, bookOf}
 use Rattle.books.specs.SpellBook.{spellBook}
@@ -34,17 +34,21 @@ use Rattle.books.proofs.Onwards.{after-figures-ind}
 use Rattle.books.proofs.ReadingFigures.{FiguresLie, figures-lie, figures-refused}
 use Rattle.books.proofs.ReadingRules.{RulesLie, rules-lie, rules-refused}
 
+-- as far as a book can reach: its colour list, three numbers, and four for each rule, of at most three bytes each
+abbrev pub farthestBook : ℕ
+farthestBook = listSpan + 9 + 12 * mostRules
+
 -- what an accepted book gives
 pub record BookLies (s : List ℕ) (r : BookRead) : Type 0 where
   pub fine : r .fault ≡ fault 0 0
   pub places : Places s (r .family .colours)
   pub colours-some : 1 ≤ r .family .colours .count
   pub motifs-some : 1 ≤ r .family .motifs
-  pub motifs-few : r .family .motifs ≤ 32
+  pub motifs-few : r .family .motifs ≤ mostMotifs
   pub start-fits : r .family .start < r .family .motifs
   pub rules-some : 1 ≤ r .family .count
-  pub rules-few : r .family .count ≤ 200
-  pub rules-size : length (r .family .rules) ≡ 200
+  pub rules-few : r .family .count ≤ mostRules
+  pub rules-size : length (r .family .rules) ≡ mostRules
   pub rules-fit : (i : ℕ) → i < r .family .count → RuleFits (r .family .motifs) (r .family .colours .count) (getD (r .family .rules) i noRule)
   pub rules-fixed : (i : ℕ) → r .family .count ≤ i → getD (r .family .rules) i noRule ≡ noRule
 
@@ -63,7 +67,7 @@ record Accepted (s : List ℕ) (r : BookRead) : Type 0 where
   spells : Bytes s → BookSpelled s (contentsIn s (r .family))
 
 abbrev Ended : List ℕ → BookRead → Type 0
-Ended s r = Accepted s r ⊎ BookRefused s 5164 r
+Ended s r = Accepted s r ⊎ BookRefused s farthestBook r
 
 module _ (s : List ℕ) (z : coloursOf s .fault .number ≡ 0) where
   abbrev rulesOf : Figures → ℕ → RulesRead
@@ -125,7 +129,9 @@ module _ (s : List ℕ) (z : coloursOf s .fault .number ≡ 0) where
       pick-ind (Ended s) (ltb (rulesOf g at .next) (length s)) _ _
       (λ e. inr (record { blamed = record { some = omega arith; known = omega arith; inside = k .inside; near = omega (arith, k .near, h .near, h .rules-few, l .near) }; empty = refl }))
       (λ e. inl (record { lies = book-found g at h k; spells = book-spells g at h k (ltb-false _ _ e) })))
-      (λ t. inr (record { blamed = blamed-later (omega (arith, h .near, h .rules-few, l .near)) (rules-refused s at (g .motifs) colours count (h .rules-few) (h .inside) (eqb-false _ 0 t)); empty = refl }))
+      (λ t.
+      let refused = rules-refused s at (g .motifs) colours count (h .rules-few) (h .inside) (eqb-false _ 0 t) in
+      inr (record { blamed = blamed-later (omega (arith, h .near, h .rules-few, l .near)) refused; empty = refl }))
 
   figured-ended : Ended s (figuredAt s (coloursOf s .colours) (coloursOf s .next))
   unfolding figuredAt
@@ -146,7 +152,7 @@ book-ended s =
 pub book-lies : (s : List ℕ) → bookOf s .fault .number ≡ 0 → BookLies s (bookOf s)
 book-lies s z = ⊎-elim (λ a. a .lies) (λ r. absurd (omega (arith, r .blamed .some))) (book-ended s)
 
-pub book-refused : (s : List ℕ) → (bookOf s .fault .number ≡ 0 → ⊥) → BookRefused s 5164 (bookOf s)
+pub book-refused : (s : List ℕ) → (bookOf s .fault .number ≡ 0 → ⊥) → BookRefused s farthestBook (bookOf s)
 book-refused s z = ⊎-elim (λ a. absurd (z (ap (λ (f : Fault). f .number) (a .lies .fine)))) (λ r. r) (book-ended s)
 
 -- an accepted book keeps the rules, and is the spelling of its contents
@@ -157,5 +163,13 @@ book-accepted s bytes z = ⊎-elim (λ a. a .spells bytes) (λ r. absurd (omega 
 pub book-places : (s : List ℕ) → Places s (bookOf s .family .colours)
 book-places s = ⊎-elim (λ a. a .lies .places) (λ r. rw (r .empty) (places-none s)) (book-ended s)
 
-pub book-size : (s : List ℕ) → length (bookOf s .family .rules) ≡ 200
+pub book-size : (s : List ℕ) → length (bookOf s .family .rules) ≡ mostRules
 book-size s = ⊎-elim (λ a. a .lies .rules-size) (λ r. rw (r .empty)) (book-ended s)
+
+-- ... of which no more are counted
+pub book-count : (s : List ℕ) → bookOf s .family .count ≤ mostRules
+book-count s = ⊎-elim (λ a. a .lies .rules-few) (λ r. rw (r .empty) (omega arith)) (book-ended s)
+
+-- ... and the start motif is few
+pub book-start : (s : List ℕ) → bookOf s .family .start < mostMotifs
+book-start s = ⊎-elim (λ a. omega (arith, a .lies .start-fits, a .lies .motifs-few)) (λ r. rw (r .empty) (omega arith)) (book-ended s)

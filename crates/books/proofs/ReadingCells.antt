@@ -5,19 +5,20 @@ use mathlib.Core.Path.{_≡_, refl, ap, _∙_}
 use mathlib.Core.List.{List, [], _∷_, _++_, append-assoc}
 use mathlib.Core.Logic.{_⊎_, inl, inr, ⊎-elim}
 use native.Mathlib.Omega.{arith}
+use native.Mathlib.Nat.{zero-add}
 use native.Mathlib.Numerals.{add-one}
 use lib.ListN.{length, getD, take, drop, set}
-use lib.Seq.{sets, sets-eq, take-append-seam}
+use lib.Seq.{sets, sets-eq, take-append-seam, drop-append-seam}
 use Rattle.names.specs.Pick.{fault}
 use Rattle.names.specs.Number.{numberBelow}
 use Rattle.names.specs.declared.number.Fault.{Fault}
 use Rattle.names.specs.declared.number.Read.the-variants.{Value}
 use Rattle.names.proofs.Onwards.{onward-ind}
 use Rattle.names.proofs.ReadingNumbers.{Blamed, blamed-later, number-below, number-below-there, number-below-refused}
-use Rattle.names.proofs.SpellingNumbers.{Bytes, number-spelled}
-use Rattle.books.specs.Cells.{noCells, refusedCells, cellsFrom, cellsOf}
+use Rattle.names.specs.Bytes.{Bytes}
+use Rattle.names.proofs.SpellingNumbers.{number-spelled}
+use Rattle.books.specs.Cells.{CellsRead, noCells, refusedCells, cellsOnward, cellsAt}
 use Rattle.books.specs.SpellSheet.{spellCells}
-use Rattle.books.specs.declared.cells.CellsRead.{CellsRead}
 
 -- each of these numbers is a colour's
 abbrev pub Fit : ℕ → List ℕ → Type 0
@@ -27,9 +28,13 @@ pub fit-cons : (colours v : ℕ) (vs : List ℕ) → v < colours → Fit colours
 fit-cons colours v vs h f zero l = h
 fit-cons colours v vs h f (suc i) l = f i (omega arith)
 
--- numbers that are stored from the front on stand first
-pub stored-first : (l new : List ℕ) → length new ≤ length l → take (length new) (sets l 0 new) ≡ new
-stored-first l new h = ap (take (length new)) (sets-eq new l 0 (omega arith)) ∙ take-append-seam new (drop (0 + length new) l)
+-- numbers that are stored from the front on stand first, and what they do not reach stands after them
+module _ (l new : List ℕ) (h : length new ≤ length l) where
+  pub stored-first : take (length new) (sets l 0 new) ≡ new
+  stored-first = ap (take (length new)) (sets-eq new l 0 (omega arith)) ∙ take-append-seam new (drop (0 + length new) l)
+
+  pub stored-end : drop (length new) (sets l 0 new) ≡ drop (length new) l
+  stored-end = ap (drop (length new)) (sets-eq new l 0 (omega arith)) ∙ (drop-append-seam new (drop (0 + length new) l) ∙ rw zero-add)
 
 -- so many numbers were read from a place on and stored from the i-th cell on
 pub record CellsLie (s : List ℕ) (colours limit : ℕ) (cells : List ℕ) (i at k : ℕ) (r : CellsRead) : Type 0 where
@@ -61,7 +66,7 @@ module _ (s : List ℕ) (colours limit : ℕ) where
         spelled = λ bytes. rw (append-assoc, ← t .spelled bytes) (number-spelled s bytes at v next (number-below-there s at colours 6 v next e));
       }
 
-  from-ended : (k : ℕ) (cells : List ℕ) (i at : ℕ) → at ≤ length s → at + 3 * k ≤ limit → Ended cells i at k (cellsFrom s colours cells i at k)
+  from-ended : (k : ℕ) (cells : List ℕ) (i at : ℕ) → at ≤ length s → at + 3 * k ≤ limit → Ended cells i at k (cellsOnward s colours cells i at k)
   from-ended zero cells i at h l =
       inl (record {
         fine = refl;
@@ -83,12 +88,12 @@ module _ (s : List ℕ) (colours limit : ℕ) where
 
 -- the two laws of the cells of a sheet: they lie within the input, or the refusal names what it blames
 module _ (s : List ℕ) (colours limit at count : ℕ) (h : at ≤ length s) (l : at + 3 * count ≤ limit) where
-  cells-ended : Ended s colours limit noCells 0 at count (cellsOf s colours at count)
-  unfolding cellsOf
+  cells-ended : Ended s colours limit noCells 0 at count (cellsAt s colours at count)
+  unfolding cellsAt
   cells-ended = from-ended s colours limit count noCells 0 at h l
 
-  pub cells-lie : cellsOf s colours at count .fault .number ≡ 0 → CellsLie s colours limit noCells 0 at count (cellsOf s colours at count)
+  pub cells-lie : cellsAt s colours at count .fault .number ≡ 0 → CellsLie s colours limit noCells 0 at count (cellsAt s colours at count)
   cells-lie z = ⊎-elim (λ t. t) (λ b. absurd (omega (arith, b .some))) cells-ended
 
-  pub cells-refused : (cellsOf s colours at count .fault .number ≡ 0 → ⊥) → Blamed s limit (cellsOf s colours at count .fault)
+  pub cells-refused : (cellsAt s colours at count .fault .number ≡ 0 → ⊥) → Blamed s limit (cellsAt s colours at count .fault)
   cells-refused z = ⊎-elim (λ t. absurd (z (ap (λ (f : Fault). f .number) (t .fine)))) (λ b. b) cells-ended

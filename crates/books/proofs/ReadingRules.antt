@@ -12,8 +12,8 @@ use Rattle.names.specs.Number.{numberBelow}
 use Rattle.names.specs.declared.number.Fault.{Fault}
 use Rattle.names.proofs.Onwards.{onward-ind}
 use Rattle.names.proofs.ReadingNumbers.{Blamed, blamed-later, number-below, number-below-refused}
-use Rattle.names.proofs.SpellingNumbers.{Bytes}
-use Rattle.books.specs.Keeps.{RuleFits}
+use Rattle.names.specs.Bytes.{Bytes}
+use Rattle.books.specs.Keeps.{RuleFits, mostRules}
 use Rattle.books.specs.Rules.{bodyAt, ruleAt, noRule, noRules, refusedRules, rulesFrom, rulesAt}
 use Rattle.books.specs.SpellBook.{spellRule, spellRules}
 use Rattle.books.specs.declared.rule.Rule.{Rule}
@@ -122,7 +122,7 @@ module _ (s : List ℕ) (motifs colours limit spare : ℕ) where
 -- rules that were accepted: they fit, the other places are fixed, and they stand in the input as they are spelled
 pub record RulesLie (s : List ℕ) (at motifs colours count limit : ℕ) (r : RulesRead) : Type 0 where
   pub fine : r .fault ≡ fault 0 0
-  pub size : length (r .rules) ≡ 200
+  pub size : length (r .rules) ≡ mostRules
   pub fit : (x : Rule) → List·Memᴰ x (take count (r .rules)) → RuleFits motifs colours x
   pub fixed : (i : ℕ) → count ≤ i → getD (r .rules) i noRule ≡ noRule
   pub inside : r .next ≤ length s
@@ -137,27 +137,27 @@ fixed-after (x ∷ l) n zero h = absurd (omega arith)
 fixed-after (x ∷ l) n (suc i) h = fixed-after l n i (omega arith)
 
 -- the fixed rules, split at a count
-pub no-rules-split : (count : ℕ) → count ≤ 200 → noRules ≡ replicate count noRule ++ replicate (200 - count) noRule
+pub no-rules-split : (count : ℕ) → count ≤ mostRules → noRules ≡ replicate count noRule ++ replicate (mostRules - count) noRule
 no-rules-split count few =
-    let all : count + (200 - count) ≡ 200 = omega arith in
-    rw all at (sym (replicate-append-replicate count (200 - count) noRule))
+    let all : count + (mostRules - count) ≡ mostRules = omega arith in
+    rw all at (sym (replicate-append-replicate count (mostRules - count) noRule))
 
-module _ (s : List ℕ) (at motifs colours count : ℕ) (few : count ≤ 200) (inside : at ≤ length s) where
-  rules-ended : Ended s motifs colours (at + 12 * count) (200 - count) [] at count (rulesAt s at motifs colours count)
+module _ (s : List ℕ) (at motifs colours count : ℕ) (few : count ≤ mostRules) (inside : at ≤ length s) where
+  rules-ended : Ended s motifs colours (at + 12 * count) (mostRules - count) [] at count (rulesAt s at motifs colours count)
   unfolding rulesAt
-  rules-ended = ended s motifs colours (at + 12 * count) (200 - count) count noRules [] 0 at (no-rules-split count few) refl inside (omega arith)
+  rules-ended = ended s motifs colours (at + 12 * count) (mostRules - count) count noRules [] 0 at (no-rules-split count few) refl inside (omega arith)
 
   pub rules-lie : rulesAt s at motifs colours count .fault .number ≡ 0 → RulesLie s at motifs colours count (at + 12 * count) (rulesAt s at motifs colours count)
   rules-lie z =
       ⊎-elim
       (λ t.
       let r = rulesAt s at motifs colours count in
-      let first : take count (r .rules) ≡ t .new = rw (t .stand) (take-at (t .new) (replicate (200 - count) noRule) count (t .count)) in
+      let first : take count (r .rules) ≡ t .new = rw (t .stand) (take-at (t .new) (replicate (mostRules - count) noRule) count (t .count)) in
       record {
         fine = t .fine;
-        size = ap length (t .stand) ∙ (length-append (t .new) (replicate (200 - count) noRule) ∙ omega (arith, t .count, length-replicate (200 - count) noRule));
+        size = ap length (t .stand) ∙ (length-append (t .new) (replicate (mostRules - count) noRule) ∙ omega (arith, t .count, length-replicate (mostRules - count) noRule));
         fit = rw first (t .fit);
-        fixed = λ i h. rw (t .stand) (fixed-after (t .new) (200 - count) i (omega (arith, t .count)));
+        fixed = λ i h. rw (t .stand) (fixed-after (t .new) (mostRules - count) i (omega (arith, t .count)));
         inside = t .inside;
         near = t .near;
         spelled = λ bytes. rw first (t .spelled bytes);

@@ -7,7 +7,7 @@ use mathlib.Core.Logic.{_⊎_, inl, inr, ⊎-elim}
 use native.Mathlib.Omega.{arith}
 use borrow.Author.Tests.{eqb-true, eqb-false, ltb-false}
 use lib.Dec.{eqb, ltb}
-use lib.ListN.{length, getD, take}
+use lib.ListN.{length, getD, take, drop}
 use lib.Seq.{length-sets, getD-take}
 use Rattle.names.specs.Pick.{fault}
 use Rattle.names.specs.Number.{greatestNumber, numberAt}
@@ -15,36 +15,37 @@ use Rattle.names.specs.Colours.{coloursOf}
 use Rattle.names.specs.declared.number.Fault.{Fault}
 use Rattle.names.specs.declared.number.Read.the-variants.{Value}
 use Rattle.names.proofs.Picking.{pick-ind}
+use Rattle.names.proofs.Tests.{true-or-false}
 use Rattle.names.proofs.Onwards.{onward-ind}
 use Rattle.names.proofs.ReadingNumbers.{Blamed, blamed-later, number-lies, number-most, number-refused}
-use Rattle.names.proofs.ReadingColours.{Places, ListLies, colours-lie, colours-refused}
-use Rattle.books.specs.Size.{greatest, room, sizeAt}
-use Rattle.books.specs.Cells.{noCells, cellsOf}
+use Rattle.names.proofs.ReadingColours.{listSpan, Places, places-none, ListLies, colours-lie, colours-refused}
+use Rattle.books.specs.Size.{greatest, room, Within, sizeAt}
+use Rattle.books.specs.Cells.{CellsRead, noCells, cellsAt}
 use Rattle.books.specs.Sheet.{noSheet, refusedSheet, filledAt, sheetOf}
-use Rattle.books.specs.declared.cells.CellsRead.{CellsRead}
+use Rattle.books.specs.declared.size.Size.{Size}
 use Rattle.books.specs.declared.sheet.SheetRead.{SheetRead}
-use Rattle.books.proofs.Area.{area}
+use Rattle.books.proofs.Area.{within-area, within-room}
 use Rattle.books.proofs.Onwards.{after-size-ind}
 use Rattle.books.proofs.ReadingSizes.{SizeLies, size-lies, size-refused}
-use Rattle.books.proofs.ReadingCells.{CellsLie, stored-first, cells-lie, cells-refused}
+use Rattle.books.proofs.ReadingCells.{CellsLie, stored-first, stored-end, cells-lie, cells-refused}
 
 -- as far as a sheet can reach: its colour list, three numbers, and a number for each cell
 abbrev pub farthest : ℕ
-farthest = 2764 + 3 * room
+farthest = listSpan + 9 + 3 * (greatest * greatest)
 
 -- ── The stages of a sheet ──
 
 -- an accepted sheet is what its stages found: a colour list, a ticket, a size, and cells up to the end of the input
 pub record Staged (s : List ℕ) (r : SheetRead) : Type 0 where
   pub fine : r .fault ≡ fault 0 0
-  pub listed : ListLies s 2755 1 (coloursOf s)
+  pub listed : ListLies s listSpan 1 (coloursOf s)
   pub colours : r .sheet .colours ≡ coloursOf s .colours
   pub then : ℕ
   pub ticketed : numberAt s (coloursOf s .next) ≡ Value (r .sheet .ticket) then
   pub at : ℕ
-  pub sized : SizeLies s then greatest (r .sheet .rows) (r .sheet .cols) at
+  pub sized : SizeLies s then greatest (r .sheet .size) at
   pub read : CellsRead
-  pub filled : CellsLie s (coloursOf s .colours .count) farthest noCells 0 at (r .sheet .rows * r .sheet .cols) read
+  pub filled : CellsLie s (coloursOf s .colours .count) farthest noCells 0 at (r .sheet .size .rows * r .sheet .size .cols) read
   pub cells : r .sheet .cells ≡ read .cells
   pub ended : length s ≤ read .next
 
@@ -57,16 +58,17 @@ module _ (s : List ℕ) where
   abbrev Ended : SheetRead → Type 0
   Ended r = Staged s r ⊎ SheetRefused s r
 
-  filled-ended : (ticket then rows cols at : ℕ) → ListLies s 2755 1 (coloursOf s) → numberAt s (coloursOf s .next) ≡ Value ticket then
-      → SizeLies s then greatest rows cols at
-      → Ended (filledAt s (coloursOf s .colours) ticket rows cols (cellsOf s (coloursOf s .colours .count) at (rows * cols)))
+  filled-ended : (ticket then : ℕ) (size : Size) (at : ℕ) → ListLies s listSpan 1 (coloursOf s) → numberAt s (coloursOf s .next) ≡ Value ticket then
+      → SizeLies s then greatest size at
+      → Ended (filledAt s (coloursOf s .colours) ticket size (cellsAt s (coloursOf s .colours .count) at (size .rows * size .cols)))
   unfolding filledAt
-  filled-ended ticket then rows cols at l e z =
+  filled-ended ticket then size at l e z =
       let n = coloursOf s .colours .count in
-      let q = cellsOf s n at (rows * cols) in
-      let near : at + 3 * (rows * cols) ≤ farthest = omega (arith, area rows cols greatest (z .rows-few) (z .cols-few), z .near, number-lies s _ ticket then e .near, l .near) in
+      let count = size .rows * size .cols in
+      let q = cellsAt s n at count in
+      let near : at + 3 * count ≤ farthest = omega (arith, within-area (z .within), z .near, number-lies s _ ticket then e .near, l .near) in
       pick-ind Ended (eqb (q .fault .number) 0) _ _
-      (λ t. let f = cells-lie s n farthest at (rows * cols) (z .inside) near (eqb-true _ _ t) in
+      (λ t. let f = cells-lie s n farthest at count (z .inside) near (eqb-true _ _ t) in
       pick-ind Ended (ltb (q .next) (length s)) _ _
       (λ _. inr (record { blamed = record { some = omega arith; known = omega arith; inside = f .inside; near = f .near }; none = refl }))
       (λ u. inl (record {
@@ -82,7 +84,7 @@ module _ (s : List ℕ) where
         cells = refl;
         ended = ltb-false _ _ u;
       })))
-      (λ t. inr (record { blamed = cells-refused s n farthest at (rows * cols) (z .inside) near (eqb-false _ _ t); none = refl }))
+      (λ t. inr (record { blamed = cells-refused s n farthest at count (z .inside) near (eqb-false _ _ t); none = refl }))
 
   sheet-ended : Ended (sheetOf s)
   unfolding sheetOf
@@ -96,7 +98,7 @@ module _ (s : List ℕ) where
       (λ ticket then e.
       after-size-ind Ended refusedSheet (sizeAt s then greatest) _
       (λ f d. inr (record { blamed = blamed-later (omega (arith, l .near, number-lies s at ticket then e .near)) (size-refused s then greatest f d); none = refl }))
-      (λ rows cols next d. filled-ended ticket then rows cols next l e (size-lies s then greatest rows cols next d))))
+      (λ size next d. filled-ended ticket then size next l e (size-lies s then greatest size next d))))
       (λ t. inr (record { blamed = blamed-later (omega arith) (colours-refused s (eqb-false _ _ t) .blamed); none = refl }))
 
   pub sheet-staged : sheetOf s .fault .number ≡ 0 → Staged s (sheetOf s)
@@ -112,20 +114,22 @@ pub record SheetLies (s : List ℕ) (r : SheetRead) : Type 0 where
   pub places : Places s (r .sheet .colours)
   pub some : 1 ≤ r .sheet .colours .count
   pub ticket-few : r .sheet .ticket ≤ greatestNumber
-  pub rows-some : 1 ≤ r .sheet .rows
-  pub rows-few : r .sheet .rows ≤ greatest
-  pub cols-some : 1 ≤ r .sheet .cols
-  pub cols-few : r .sheet .cols ≤ greatest
-  pub area-few : r .sheet .rows * r .sheet .cols ≤ room
+  pub within : Within greatest (r .sheet .size .rows) (r .sheet .size .cols)
+  pub area-few : r .sheet .size .rows * r .sheet .size .cols ≤ room
   pub cells-all : length (r .sheet .cells) ≡ room
-  pub cells-fit : (i : ℕ) → i < r .sheet .rows * r .sheet .cols → getD (r .sheet .cells) i 0 < r .sheet .colours .count
+  pub cells-end : drop (r .sheet .size .rows * r .sheet .size .cols) (r .sheet .cells) ≡ drop (r .sheet .size .rows * r .sheet .size .cols) noCells
+  pub cells-fit : (i : ℕ) → i < r .sheet .size .rows * r .sheet .size .cols → getD (r .sheet .cells) i 0 < r .sheet .colours .count
 
--- the cells that stand are the numbers that were read
-pub staged-cells : (s : List ℕ) (r : SheetRead) (g : Staged s r) → take (r .sheet .rows * r .sheet .cols) (r .sheet .cells) ≡ g .filled .new
-staged-cells s r g =
-    let new = g .filled .new in
-    let few : length new ≤ length noCells = omega (arith, g .filled .count, area (r .sheet .rows) (r .sheet .cols) greatest (g .sized .rows-few) (g .sized .cols-few)) in
-    rw (g .cells, g .filled .stored, ← g .filled .count) (stored-first noCells new few)
+-- the cells that stand are the numbers that were read, and the others are none
+module _ (s : List ℕ) (r : SheetRead) (g : Staged s r) where
+  few-cells : length (g .filled .new) ≤ length noCells
+  few-cells = omega (arith, g .filled .count, within-room (g .sized .within))
+
+  pub staged-cells : take (r .sheet .size .rows * r .sheet .size .cols) (r .sheet .cells) ≡ g .filled .new
+  staged-cells = rw (g .cells, g .filled .stored, ← g .filled .count) (stored-first noCells (g .filled .new) few-cells)
+
+  staged-end : drop (r .sheet .size .rows * r .sheet .size .cols) (r .sheet .cells) ≡ drop (r .sheet .size .rows * r .sheet .size .cols) noCells
+  staged-end = rw (g .cells, g .filled .stored, ← g .filled .count) (stored-end noCells (g .filled .new) few-cells)
 
 pub sheet-lies : (s : List ℕ) → sheetOf s .fault .number ≡ 0 → SheetLies s (sheetOf s)
 sheet-lies s z =
@@ -136,16 +140,22 @@ sheet-lies s z =
       places = rw (g .colours) (g .listed .places);
       some = rw (g .colours) (g .listed .some);
       ticket-few = number-most s _ _ _ (g .ticketed);
-      rows-some = g .sized .rows-some;
-      rows-few = g .sized .rows-few;
-      cols-some = g .sized .cols-some;
-      cols-few = g .sized .cols-few;
-      area-few = area (r .sheet .rows) (r .sheet .cols) greatest (g .sized .rows-few) (g .sized .cols-few);
+      within = g .sized .within;
+      area-few = within-room (g .sized .within);
       cells-all = rw (g .cells, g .filled .stored) (length-sets noCells 0 (g .filled .new));
+      cells-end = staged-end s r g;
       cells-fit = λ i h.
-          rw (g .colours, ← getD-take (r .sheet .rows * r .sheet .cols) (r .sheet .cells) i 0 h, staged-cells s r g)
+          rw (g .colours, ← getD-take (r .sheet .size .rows * r .sheet .size .cols) (r .sheet .cells) i 0 h, staged-cells s r g)
           (g .filled .fit i (omega (arith, g .filled .count)));
     }
+
+-- refused or not, every place of a name of a sheet lies within the input
+pub sheet-places : (s : List ℕ) → Places s (sheetOf s .sheet .colours)
+sheet-places s =
+    ⊎-elim
+    (λ t. sheet-lies s (eqb-true (sheetOf s .fault .number) 0 t) .places)
+    (λ t. rw (sheet-refused s (eqb-false (sheetOf s .fault .number) 0 t) .none) (places-none s))
+    (true-or-false (eqb (sheetOf s .fault .number) 0))
 
 -- refused or not, the ticket is a number
 pub sheet-ticket : (s : List ℕ) → sheetOf s .sheet .ticket ≤ greatestNumber

@@ -10,25 +10,23 @@ use Rattle.names.specs.declared.number.Fault.{Fault}
 use Rattle.names.specs.declared.number.Read.the-variants.{Value}
 use Rattle.names.proofs.Onwards.{onward-ind}
 use Rattle.names.proofs.ReadingNumbers.{Blamed, blamed-later, number-in, number-in-refused}
-use Rattle.books.specs.Size.{sizeAt}
+use Rattle.books.specs.Size.{Within, sizeAt}
+use Rattle.books.specs.declared.size.Size.{Size}
 use Rattle.books.specs.declared.size.SizeRead.{SizeRead}
 use Rattle.books.specs.declared.size.SizeRead.the-variants.{By, Refused as RefusedSize}
 
 -- rows at a place, columns between them and the place after both
-pub record SizeLies (s : List ℕ) (at most rows cols next : ℕ) : Type 0 where
+pub record SizeLies (s : List ℕ) (at most : ℕ) (z : Size) (next : ℕ) : Type 0 where
   pub between : ℕ
-  pub rows-there : numberIn s at 1 most ≡ Value rows between
-  pub cols-there : numberIn s between 1 most ≡ Value cols next
-  pub rows-some : 1 ≤ rows
-  pub rows-few : rows ≤ most
-  pub cols-some : 1 ≤ cols
-  pub cols-few : cols ≤ most
+  pub rows-there : numberIn s at 1 most ≡ Value (z .rows) between
+  pub cols-there : numberIn s between 1 most ≡ Value (z .cols) next
+  pub within : Within most (z .rows) (z .cols)
   pub inside : next ≤ length s
   pub near : next ≤ at + 6
 
 module _ (s : List ℕ) (at most : ℕ) where
   abbrev Found : SizeRead → Type 0
-  Found (By rows cols next) = SizeLies s at most rows cols next
+  Found (By z next) = SizeLies s at most z next
   Found (RefusedSize f) = Blamed s (at + 5) f
 
   found : Found (sizeAt s at most)
@@ -46,16 +44,13 @@ module _ (s : List ℕ) (at most : ℕ) where
         between = between;
         rows-there = e;
         cols-there = d;
-        rows-some = g .low;
-        rows-few = g .high;
-        cols-some = h .low;
-        cols-few = h .high;
+        within = record { rows-some = g .low; rows-few = g .high; cols-some = h .low; cols-few = h .high };
         inside = h .inside;
         near = omega (arith, g .near, h .near);
       }))
 
-  pub size-lies : (rows cols next : ℕ) → sizeAt s at most ≡ By rows cols next → SizeLies s at most rows cols next
-  size-lies rows cols next e = subst Found e found
+  pub size-lies : (z : Size) (next : ℕ) → sizeAt s at most ≡ By z next → SizeLies s at most z next
+  size-lies z next e = subst Found e found
 
   pub size-refused : (f : Fault) → sizeAt s at most ≡ RefusedSize f → Blamed s (at + 5) f
   size-refused f e = subst Found e found

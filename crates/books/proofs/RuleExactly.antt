@@ -16,7 +16,8 @@ use Rattle.names.proofs.Onwards.{onward-ind}
 use Rattle.names.proofs.ReadingNumbers.{number-below}
 use Rattle.names.proofs.Exactly.{number-below-exactly}
 use Rattle.books.specs.Rules.{colourNumberAt, joinBody, joinAt, bodyAt, afterBody, ruleAt}
-use Rattle.books.specs.ReadsBook.{HeadRead, KindRead, kind-read, FirstRead, first-read, ruled, RuleStands, a-colour, an-across, a-down, RuleFault, no-head, no-kind, no-colour, no-first, no-second}
+use Rattle.books.specs.ReadsBook.{HeadRead, KindRead, kind-read, FirstRead, first-read, ruled, RuleStands, a-colour, an-across, a-down}
+use Rattle.books.specs.ReadsBook.{RuleFault, no-head, no-kind, no-colour, no-first, no-second}
 use Rattle.books.specs.declared.rule.Rule.{Rule}
 use Rattle.books.specs.declared.rule.Body.{Body}
 use Rattle.books.specs.declared.bodies.BodyRead.{BodyRead}

@@ -9,15 +9,19 @@ use Rattle.names.specs.declared.number.Fault.{Fault}
 use Rattle.names.proofs.Settled.{Settles, settles, SettlesPart, part-settles}
 pub use Rattle.names.proofs.Settled.{settled}
 use Rattle.books.specs.Book.{noFamily, bookOf}
-use Rattle.books.specs.Sheet.{sheetOf}
-use Rattle.books.specs.RuleBytes.{lentRules, kindDir}
-use Rattle.books.specs.Order.{numberedSheet, orderOf}
+use Rattle.books.specs.Size.{within?}
+use Rattle.books.specs.Sheet.{sheetOf, sheetFigures, SheetInto}
+use Rattle.books.specs.Numbering.{Numbers}
+use Rattle.books.specs.RuleBytes.{lentRules, BookInto, kindDir}
 use Rattle.books.specs.Answer.{plain, blaming, packed}
 use Rattle.books.specs.Calls.{bookAnswer, sheetAnswer, ticketOf, shown, shownStart, shownPlace}
 use Rattle.books.specs.Draft.{WroteDraft}
 use Rattle.books.specs.declared.answer.Answer.{Answer}
 use Rattle.books.specs.declared.draft.Draft.{Draft}
+use Rattle.books.specs.declared.lent.BookFigures.{BookFigures}
 use Rattle.books.specs.declared.rule.Rule.{Rule}
+use Rattle.books.specs.declared.sheet.SheetFigures.{SheetFigures}
+use Rattle.books.specs.declared.size.Size.{Size}
 use Rattle.books.specs.declared.writing.Written.{Written}
 
 -- ── Answers ──
@@ -31,6 +35,9 @@ blame-settled input f = settles _
 pub pack-settled : (a : Answer) (count : ℕ) → Settles (packed a count)
 pack-settled a count = settles _
 
+pub within-settled : (most : ℕ) (z : Size) → Settles (within? most (z .rows) (z .cols))
+within-settled most z = settles _
+
 -- ── Readers ──
 
 pub no-family-settled : Settles noFamily
@@ -42,14 +49,24 @@ read-book-settled s = settles _
 pub read-sheet-settled : (s : List ℕ) → Settles (sheetOf s)
 read-sheet-settled s = settles _
 
-pub number-sheet-settled : (book : List ℕ) (c : Colours) (sheet : List ℕ) → Settles (numberedSheet book c sheet)
-number-sheet-settled book c sheet = settles _
+pub sheet-figures-settled : (s : List ℕ) → Settles (sheetFigures (sheetOf s))
+sheet-figures-settled s = settles _
 
-pub read-order-settled : (book sheet : List ℕ) → Settles (orderOf book sheet)
-read-order-settled book sheet = settles _
+pub read-sheet-into-settled : (s : List ℕ) (r q : SheetFigures) (starts lens cells places sizes numbers : List ℕ)
+    → SheetInto (sheetOf s) r starts lens cells → SheetInto (sheetOf s) q places sizes numbers
+    → (r ≡ q) × (starts ≡ places) × (lens ≡ sizes) × (cells ≡ numbers)
+read-sheet-into-settled s r q starts lens cells places sizes numbers x y =
+    (settled (x .figures) (y .figures), settled (x .starts) (y .starts), settled (x .lens) (y .lens), settled (x .cells) (y .cells))
+
+pub number-sheet-settled : (book : List ℕ) (c : Colours) (sheet : List ℕ) (r q : SheetFigures) (cells numbers : List ℕ)
+    → Numbers book c sheet r cells → Numbers book c sheet q numbers → (r ≡ q) × (cells ≡ numbers)
+number-sheet-settled book c sheet r q cells numbers x y = (settled (x .figures) (y .figures), settled (x .cells) (y .cells))
 
 pub lend-settled : (rules : List Rule) (count : ℕ) → Settles (lentRules rules count)
 lend-settled rules count = settles _
+
+pub read-rules-settled : (book : List ℕ) (r q : BookFigures) (rows others : List (List ℕ)) → BookInto book r rows → BookInto book q others → (r ≡ q) × (rows ≡ others)
+read-rules-settled book r q rows others x y = (settled (x .figures) (y .figures), settled (x .lent) (y .lent))
 
 pub direction-settled : (kind : ℕ) → Settles (kindDir kind)
 direction-settled kind = settles _

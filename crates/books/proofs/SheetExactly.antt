@@ -19,20 +19,20 @@ use Rattle.names.specs.declared.colours.Colours.{Colours}
 use Rattle.names.proofs.Picking.{pick-ind}
 use Rattle.names.proofs.Onwards.{onward-ind}
 use Rattle.names.proofs.ReadingNumbers.{number-below-refused}
-use Rattle.names.proofs.SpellingNumbers.{Bytes}
+use Rattle.names.specs.Bytes.{Bytes}
 use Rattle.names.proofs.Exactly.{number-exactly, number-in-exactly, number-below-exactly}
 use Rattle.names.proofs.FirstFault.{FirstFault, first-fault}
 use Rattle.names.proofs.ListExactly.{list-first, list-read-exactly}
 use Rattle.books.specs.Grid.{Grid, GridKeeps}
 use Rattle.books.specs.ContentsIn.{gridIn}
 use Rattle.books.specs.SpellSheet.{spellSheet}
-use Rattle.books.specs.Size.{greatest, sizeAt, afterSize}
-use Rattle.books.specs.Cells.{noCells, refusedCells, cellsFrom, cellsOf}
+use Rattle.books.specs.Size.{greatest, sizeBy, sizeAt, afterSize}
+use Rattle.books.specs.Cells.{CellsRead, noCells, refusedCells, cellsOnward, cellsAt}
 use Rattle.books.specs.Sheet.{refusedSheet, filledAt, sheetOf}
 use Rattle.books.specs.ReadsSheet.{TicketRead, ticket-read, RowsRead, rows-read, CellStands, CellsSoFar, cells-so-far, SheetFault, no-list, no-ticket, no-rows, no-columns, no-cell, more-bytes}
+use Rattle.books.specs.declared.size.Size.{Size}
 use Rattle.books.specs.declared.size.SizeRead.{SizeRead}
 use Rattle.books.specs.declared.size.SizeRead.the-variants.{By, Refused as RefusedSize}
-use Rattle.books.specs.declared.cells.CellsRead.{CellsRead}
 use Rattle.books.specs.declared.sheet.SheetRead.{SheetRead}
 use Rattle.books.proofs.ReadingSheets.{sheet-lies}
 use Rattle.books.proofs.SpellingSheets.{sheet-accepted, sheet-read-back}
@@ -42,21 +42,21 @@ use Rattle.books.proofs.OneByOne.{in-turn-on, in-turn-out}
 
 -- the columns, and what stands before them
 abbrev columnsAt : List ℕ → ℕ → ℕ → SizeRead
-columnsAt s rows at = onward RefusedSize (numberIn s at 1 greatest) (λ cols end. By rows cols end)
+columnsAt s rows at = onward RefusedSize (numberIn s at 1 greatest) (λ cols next. By (sizeBy rows cols) next)
 
 abbrev sized : List ℕ → Colours → ℕ → SizeRead → SheetRead
-sized s c ticket r = afterSize refusedSheet r (λ rows cols next. filledAt s c ticket rows cols (cellsOf s (c .count) next (rows * cols)))
+sized s c ticket r = afterSize refusedSheet r (λ size next. filledAt s c ticket size (cellsAt s (c .count) next (size .rows * size .cols)))
 
 abbrev ticketAt : List ℕ → Colours → ℕ → SheetRead
 ticketAt s c at = onward refusedSheet (numberAt s at) (λ ticket then. sized s c ticket (sizeAt s then greatest))
 
 -- so many cells, of so many colours, after those that were read
-abbrev cellsLeft : List ℕ → Colours → ℕ → ℕ → ℕ → ℕ → List ℕ → ℕ → ℕ → ℕ → SheetRead
-cellsLeft s c ticket rows cols colours cells i at k = filledAt s c ticket rows cols (cellsFrom s colours cells i at k)
+abbrev cellsLeft : List ℕ → Colours → ℕ → Size → ℕ → List ℕ → ℕ → ℕ → ℕ → SheetRead
+cellsLeft s c ticket size colours cells i at k = filledAt s c ticket size (cellsOnward s colours cells i at k)
 
-filled-refused : (s : List ℕ) (c : Colours) (ticket rows cols : ℕ) (f : Fault) → 1 ≤ f .number → filledAt s c ticket rows cols (refusedCells f) ≡ refusedSheet f
+filled-refused : (s : List ℕ) (c : Colours) (ticket : ℕ) (size : Size) (f : Fault) → 1 ≤ f .number → filledAt s c ticket size (refusedCells f) ≡ refusedSheet f
 unfolding filledAt
-filled-refused s c ticket rows cols f some = rw (ne-eqb (f .number) 0 (λ q. omega arith))
+filled-refused s c ticket size f some = rw (ne-eqb (f .number) 0 (λ q. omega arith))
 
 -- ── What stands there is read ──
 
@@ -68,10 +68,9 @@ record On (s : List ℕ) (colours : ℕ) (left : SheetRead) : Type 0 where
 -- ... from the i-th cell on
 record CellsOn (s : List ℕ) (colours i at k : ℕ) : Type 0 where
   ticket : ℕ
-  rows : ℕ
-  cols : ℕ
+  size : Size
   cells : List ℕ
-  on : sheetOf s ≡ cellsLeft s (coloursOf s .colours) ticket rows cols colours cells i at k
+  on : sheetOf s ≡ cellsLeft s (coloursOf s .colours) ticket size colours cells i at k
 
 module _ (s : List ℕ) (colours : ℕ) where
   abbrev c : Colours
@@ -96,13 +95,14 @@ module _ (s : List ℕ) (colours : ℕ) where
 
   cells-on : (count at : ℕ) (cells : List ℕ) → CellsSoFar s colours count cells at → length cells ≤ count
       → CellsOn s colours (length cells) at (count - length cells)
-  unfolding cellsOf
+  unfolding cellsAt
   cells-on count at cells (cells-so-far from rows cols first t h area r) few =
       let o = rows-on rows from t in
-      let whole : sheetOf s ≡ cellsLeft s c (o .0) rows cols colours noCells 0 first count = rw (o .1 .on, number-in-exactly s from 1 greatest _ .1 h, o .1 .many, area) in
-      let left = in-turn-on (CellStands s colours) (cellsLeft s c (o .0) rows cols colours)
+      let size = sizeBy rows cols in
+      let whole : sheetOf s ≡ cellsLeft s c (o .0) size colours noCells 0 first count = rw (o .1 .on, number-in-exactly s from 1 greatest _ .1 h, o .1 .many, area) in
+      let left = in-turn-on (CellStands s colours) (cellsLeft s c (o .0) size colours)
       (λ ys i p k x next w. rw (number-below-exactly s p colours 6 _ .1 w)) (sheetOf s) noCells count first whole r few in
-      record { ticket = o .0; rows = rows; cols = cols; cells = left .0; on = left .1 }
+      record { ticket = o .0; size = size; cells = left .0; on = left .1 }
 
 fault-is : (s : List ℕ) (f : Fault) → SheetFault s f → sheetOf s ≡ refusedSheet f
 unfolding sheetOf sizeAt filledAt
@@ -117,7 +117,7 @@ fault-is s f (no-cell colours count at before r more h) =
     let left : count - length before ≡ suc (count - length before - 1) = omega arith in
     let e = number-below-exactly s at colours 6 _ .1 h in
     let some = number-below-refused s at colours 6 f e (omega arith) (omega arith) .some in
-    o .on ∙ rw (left, e) (filled-refused s (coloursOf s .colours) (o .ticket) (o .rows) (o .cols) f some)
+    o .on ∙ rw (left, e) (filled-refused s (coloursOf s .colours) (o .ticket) (o .size) f some)
 fault-is s f (more-bytes colours count at cells r all more e) =
     let none : count - length cells ≡ 0 = omega arith in
     cells-on s colours count at cells r (omega arith) .on ∙ rw (none, lt-ltb at (length s) more, e)
@@ -130,19 +130,20 @@ Out s r = (r .fault ≡ fault 0 0) ⊎ SheetFault s (r .fault)
 
 module _ (s : List ℕ) (c : Colours) where
   cells-out : (ticket rows cols from at : ℕ) → RowsRead s (c .count) rows from → numberIn s from 1 greatest ≡ Value cols at
-      → Out s (filledAt s c ticket rows cols (cellsOf s (c .count) at (rows * cols)))
-  unfolding cellsOf filledAt
+      → Out s (filledAt s c ticket (sizeBy rows cols) (cellsAt s (c .count) at (rows * cols)))
+  unfolding cellsAt filledAt
   cells-out ticket rows cols from first t e =
       let n = c .count in
+      let size = sizeBy rows cols in
       let count = rows * cols in
       let h = number-in-exactly s from 1 greatest _ .0 e in
-      in-turn-out (CellStands s n) (cellsLeft s c ticket rows cols n) (Out s) count first
+      in-turn-out (CellStands s n) (cellsLeft s c ticket size n) (Out s) count first
       (λ xs ys at r all.
       pick-ind (Out s) (ltb at (length s)) _ _
       (λ b. inr (more-bytes n count at xs (cells-so-far from rows cols first t h refl r) all (ltb-true _ _ b) refl)) (λ _. inl refl))
       (λ xs ys i at k r more rest.
-      onward-ind (λ (x : CellsRead). Out s (filledAt s c ticket rows cols x)) refusedCells (numberBelow s at n 6) _
-      (λ f d. rw (filled-refused s c ticket rows cols f (number-below-refused s at n 6 f d (omega arith) (omega arith) .some))
+      onward-ind (λ (x : CellsRead). Out s (filledAt s c ticket size x)) refusedCells (numberBelow s at n 6) _
+      (λ f d. rw (filled-refused s c ticket size f (number-below-refused s at n 6 f d (omega arith) (omega arith) .some))
       (inr (no-cell n count at xs (cells-so-far from rows cols first t h refl r) more (number-below-exactly s at n 6 _ .0 d))))
       (λ v next d. rest v next (number-below-exactly s at n 6 _ .0 d)))
       noCells

@@ -14,7 +14,7 @@ use Rattle.names.specs.Part.{Part}
 use Rattle.names.specs.Colours.{nameIn, namesIn}
 use Rattle.names.specs.Spelling.{NameOk}
 use Rattle.names.proofs.Listing.{getD-mem}
-use Rattle.names.proofs.SpellingNumbers.{Bytes}
+use Rattle.names.specs.Bytes.{Bytes}
 use Rattle.names.proofs.Tests.{true-or-false, lt-or-le}
 use Rattle.names.proofs.ReadingColours.{name-at, names-count}
 use Rattle.books.specs.Lent.{contentsOf}

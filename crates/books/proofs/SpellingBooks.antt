@@ -13,12 +13,12 @@ use Rattle.names.specs.Number.{spellNumber}
 use Rattle.names.specs.Spelling.{spellColours}
 use Rattle.names.specs.Colours.{coloursOf}
 use Rattle.names.specs.declared.colours.Colours.{Colours}
-use Rattle.names.proofs.SpellingNumbers.{Bytes}
+use Rattle.names.specs.Bytes.{Bytes}
 use Rattle.names.proofs.ReadingColours.{names-count}
 use Rattle.names.proofs.SpellingColours.{colours-read-back}
 use Rattle.books.specs.Contents.{Contents}
 use Rattle.books.specs.Lent.{contentsOf}
-use Rattle.books.specs.Keeps.{Keeps}
+use Rattle.books.specs.Keeps.{Keeps, mostMotifs, mostRules}
 use Rattle.books.specs.Rules.{noRule}
 use Rattle.books.specs.Book.{figuresAt, familyOf, ruledAt, figuredAt, bookOf}
 use Rattle.books.specs.SpellBook.{spellRules, spellBook}
@@ -37,7 +37,7 @@ abbrev spellFigures : Contents → List ℕ
 spellFigures b = spellNumber (b .motifs) ++ (spellNumber (b .start) ++ spellNumber (length (b .rules)))
 
 abbrev lying : Contents → List Rule
-lying b = b .rules ++ replicate (200 - length (b .rules)) noRule
+lying b = b .rules ++ replicate (mostRules - length (b .rules)) noRule
 
 figures-first : (b : Contents) → spellFigures b ++ spellRules (b .rules)
     ≡ spellNumber (b .motifs) ++ (spellNumber (b .start) ++ (spellNumber (length (b .rules)) ++ spellRules (b .rules)))
@@ -55,9 +55,9 @@ module _ (b : Contents) (keeps : Keeps b) (s : List ℕ) where
       let q = past-stands start (count ++ rest) d in
       let fits = keeps .sound .start-fits in
       simp (
-        in-read 1 32 (b .motifs) (start ++ (count ++ rest)) k (keeps .motifs-some) (keeps .motifs-few) (omega (arith, keeps .motifs-few)),
+        in-read 1 mostMotifs (b .motifs) (start ++ (count ++ rest)) k (keeps .motifs-some) (keeps .motifs-few) (omega (arith, keeps .motifs-few)),
         below-read (b .motifs) 6 (b .start) (count ++ rest) d fits (omega (arith, fits, keeps .motifs-few)),
-        in-read 1 200 (length (b .rules)) rest q (keeps .rules-some) (keeps .rules-few) (omega (arith, keeps .rules-few)),
+        in-read 1 mostRules (length (b .rules)) rest q (keeps .rules-some) (keeps .rules-few) (omega (arith, keeps .rules-few)),
       )
       (simp (length-append, add-assoc))
 
@@ -90,7 +90,7 @@ book-read-back b keeps =
     let place : coloursOf s .next ≡ 0 + length (spellColours names) = omega (arith, c .next) in
     let after : Stands s (coloursOf s .next) (spellFigures b ++ spellRules (b .rules)) = rw (place, figures-first b) (past-stands (spellColours names) rest whole) in
     let read = coloured-read b keeps s (coloursOf s .colours) (coloursOf s .next) size after in
-    let rules : take (length (b .rules)) (b .rules ++ replicate (200 - length (b .rules)) noRule) ≡ b .rules = take-append-seam (b .rules) (replicate (200 - length (b .rules)) noRule) in
+    let rules : take (length (b .rules)) (b .rules ++ replicate (mostRules - length (b .rules)) noRule) ≡ b .rules = take-append-seam (b .rules) (replicate (mostRules - length (b .rules)) noRule) in
     let book : bookOf s ≡ record { fault = fault 0 0; family = familyOf (coloursOf s .colours) (figuresOf b) (lying b) } = simp (c .fine) read in
     (rw book, rw (book, c .names, rules))
 

@@ -10,11 +10,12 @@ use lib.ListN.{length, take, length-append}
 use lib.Seq.{length-take-le}
 use Rattle.names.specs.Number.{spellNumber}
 use Rattle.names.specs.Colours.{namesIn}
-use Rattle.names.specs.Spelling.{spellNames, spellColours}
+use Rattle.names.specs.Spelling.{spellNames, spellColours, mostColours}
 use Rattle.names.proofs.Picking.{pick-ind}
 use Rattle.names.proofs.ReadingColours.{names-count}
 use Rattle.books.specs.SpellBook.{spellRules, spellThree, spellBook}
-use Rattle.books.specs.Draft.{draftIn, DraftFits, few?, fits?, WroteBook, WroteDraft}
+use Rattle.books.specs.Draft.{draftIn, DraftFits, countsFit?, fits?, WroteBook, WroteDraft}
+use Rattle.books.specs.Keeps.{mostRules}
 use Rattle.names.specs.declared.colours.Colours.{Colours}
 use Rattle.books.specs.declared.draft.Draft.{Draft}
 use Rattle.books.specs.declared.writing.Written.{Written}
@@ -29,18 +30,18 @@ colours-spelled a b c e =
     simp (all, spell-names-append)
 
 -- a draft of which the test holds
-pub draft-few : (d : Draft) → fits? d ≡ true → length (d .family .rules) ≡ 200 → DraftFits d
-unfolding few?
+pub draft-few : (d : Draft) → fits? d ≡ true → length (d .family .rules) ≡ mostRules → DraftFits d
+unfolding countsFit?
 draft-few d =
-    pick-ind (λ (t : Bool). t ≡ true → length (d .family .rules) ≡ 200 → DraftFits d) (ltb 64 (d .family .colours .count)) _ _
+    pick-ind (λ (t : Bool). t ≡ true → length (d .family .rules) ≡ mostRules → DraftFits d) (ltb mostColours (d .family .colours .count)) _ _
     (λ _ e _. absurd (true≢false (sym e)))
-    (λ own. pick-ind (λ (t : Bool). t ≡ true → length (d .family .rules) ≡ 200 → DraftFits d) (ltb 64 (d .more .count)) _ _
+    (λ own. pick-ind (λ (t : Bool). t ≡ true → length (d .family .rules) ≡ mostRules → DraftFits d) (ltb mostColours (d .more .count)) _ _
     (λ _ e _. absurd (true≢false (sym e)))
     (λ more e all. record { colours-few = ltb-false _ _ own; more-few = ltb-false _ _ more; rules-few = leb-true _ _ e; rules-all = all }))
 
 -- ... and a draft that fits meets it
 pub draft-fits : (d : Draft) → DraftFits d → fits? d ≡ true
-unfolding few?
+unfolding countsFit?
 draft-fits d f = simp (le-ltb _ _ (f .colours-few), le-ltb _ _ (f .more-few)) (le-leb _ _ (f .rules-few))
 
 -- so that writing it is writing its book

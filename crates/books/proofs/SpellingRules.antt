@@ -9,7 +9,8 @@ use lib.ListN.{length, set, replicate, length-append}
 use lib.Seq.{set-at}
 use Rattle.names.specs.Pick.{fault}
 use Rattle.names.specs.Number.{spellNumber}
-use Rattle.books.specs.Keeps.{BodyFits, RuleFits}
+use Rattle.names.specs.Spelling.{mostColours}
+use Rattle.books.specs.Keeps.{BodyFits, RuleFits, mostMotifs, mostRules}
 use Rattle.books.specs.Rules.{colourNumberAt, joinBody, joinAt, bodyAt, ruleAt, noRule, noRules, rulesFrom, rulesAt}
 use Rattle.books.specs.SpellBook.{spellBody, spellRule, spellRules}
 use Rattle.books.specs.declared.rule.Rule.{Rule}
@@ -20,7 +21,7 @@ use Rattle.books.specs.declared.rules.RuleRead.the-variants.{Whole as Wh
 use Rattle.books.proofs.ReadingRules.{no-rules-split}
 use Rattle.books.proofs.StandingNumbers.{Stands, past-stands, below-read}
 
-module _ (s : List ℕ) (motifs colours : ℕ) (few-motifs : motifs ≤ 32) (few-colours : colours ≤ 64) where
+module _ (s : List ℕ) (motifs colours : ℕ) (few-motifs : motifs ≤ mostMotifs) (few-colours : colours ≤ mostColours) where
   colour-read : (at c : ℕ) (rest : List ℕ) → c < colours → Stands s at (spellBody (Colour c) ++ rest)
       → bodyAt s at motifs colours ≡ WholeBody (Colour c) (at + length (spellBody (Colour c)))
   unfolding bodyAt colourNumberAt
@@ -81,9 +82,9 @@ module _ (s : List ℕ) (motifs colours : ℕ) (few-motifs : motifs ≤ 32) (few
       simp (rule-read at r (spellRules rs ++ rest) (f r (List·Memᴰ·head refl)) k) (t ∙ simp (append-assoc, length-append, add-assoc))
 
   -- rules that fit are read back into the first places, the others fixed, with the place after them
-  pub rules-read : (rs : List Rule) (at : ℕ) (rest : List ℕ) → length rs ≤ 200 → ((r : Rule) → List·Memᴰ r rs → RuleFits motifs colours r)
+  pub rules-read : (rs : List Rule) (at : ℕ) (rest : List ℕ) → length rs ≤ mostRules → ((r : Rule) → List·Memᴰ r rs → RuleFits motifs colours r)
       → Stands s at (spellRules rs ++ rest)
       → rulesAt s at motifs colours (length rs)
-      ≡ record { fault = fault 0 0; rules = rs ++ replicate (200 - length rs) noRule; next = at + length (spellRules rs) }
+      ≡ record { fault = fault 0 0; rules = rs ++ replicate (mostRules - length rs) noRule; next = at + length (spellRules rs) }
   unfolding rulesAt
-  rules-read rs at rest few f e = rules-read-from rs [] noRules 0 (200 - length rs) at rest (no-rules-split (length rs) few) refl f e
+  rules-read rs at rest few f e = rules-read-from rs [] noRules 0 (mostRules - length rs) at rest (no-rules-split (length rs) few) refl f e

@@ -17,18 +17,19 @@ use Rattle.names.specs.Spelling.{spellColours}
 use Rattle.names.specs.declared.number.Fault.{Fault}
 use Rattle.names.specs.declared.number.Read.the-variants.{Value}
 use Rattle.names.proofs.ReadingNumbers.{number-there, number-most, number-in-range, number-below-count}
-use Rattle.names.proofs.SpellingNumbers.{Bytes, number-spelled, number-reads-at}
+use Rattle.names.specs.Bytes.{Bytes}
+use Rattle.names.proofs.SpellingNumbers.{number-spelled, number-reads-at}
 use Rattle.names.proofs.ReadingColours.{names-count}
 use Rattle.names.proofs.SpellingColours.{colours-accepted, colours-read-back, drop-past, past-inside}
 use Rattle.books.specs.Grid.{Grid, GridKeeps}
 use Rattle.books.specs.ContentsIn.{gridIn}
-use Rattle.books.specs.Size.{greatest, sizeAt}
-use Rattle.books.specs.Cells.{noCells, cellsFrom, cellsOf}
+use Rattle.books.specs.Size.{greatest, sizeBy, Within, sizeAt}
+use Rattle.books.specs.Cells.{noCells, cellsOnward, cellsAt}
 use Rattle.books.specs.Sheet.{filledAt, sheetOf}
 use Rattle.books.specs.SpellSheet.{spellCells, spellSheet}
 use Rattle.books.specs.declared.size.SizeRead.the-variants.{By}
 use Rattle.books.specs.declared.sheet.Sheet.{Sheet}
-use Rattle.books.proofs.Area.{area}
+use Rattle.books.proofs.Area.{within-room}
 use Rattle.books.proofs.ReadingCells.{Fit, stored-first}
 use Rattle.books.proofs.ReadingSheets.{sheet-staged, staged-cells}
 
@@ -54,10 +55,7 @@ module _ (s : List ℕ) (bytes : Bytes s) (z : sheetOf s .fault .number ≡ 0) w
         keeps = record {
           colours-ok = rw (g .colours) (c .ok);
           ticket-few = number-most s _ _ _ (g .ticketed);
-          rows-some = size .rows-some;
-          rows-few = size .rows-few;
-          cols-some = size .cols-some;
-          cols-few = size .cols-few;
+          within = size .within;
           cells-all = rw stand (g .filled .count);
           cells-fit = rw (stand, g .colours, names-count s (coloursOf s .colours)) (g .filled .fit);
         };
@@ -78,19 +76,22 @@ module _ (s : List ℕ) where
   range-read most at n b small h low high e =
       number-in-range s at 1 most n _ (number-reads-at s b at n h (omega arith) e) low high
 
-  size-read : (most at rows cols : ℕ) (b : List ℕ) → most ≤ greatestNumber → at ≤ length s → 1 ≤ rows → rows ≤ most → 1 ≤ cols → cols ≤ most
+  size-read : (most at rows cols : ℕ) (b : List ℕ) → most ≤ greatestNumber → at ≤ length s → Within most rows cols
       → drop at s ≡ spellNumber rows ++ (spellNumber cols ++ b)
-      → sizeAt s at most ≡ By rows cols ((at + length (spellNumber rows)) + length (spellNumber cols))
+      → sizeAt s at most ≡ By (sizeBy rows cols) ((at + length (spellNumber rows)) + length (spellNumber cols))
   unfolding sizeAt
-  size-read most at rows cols b small h rl rh cl ch e =
+  size-read most at rows cols b small h w e =
       let next = drop-past s (spellNumber rows) (spellNumber cols ++ b) at e in
       let inside = past-inside s (spellNumber rows) (spellNumber cols ++ b) at h e in
-      simp (range-read most at rows (spellNumber cols ++ b) small h rl rh e, range-read most (at + length (spellNumber rows)) cols b small inside cl ch next)
+      simp (
+        range-read most at rows (spellNumber cols ++ b) small h (w .rows-some) (w .rows-few) e,
+        range-read most (at + length (spellNumber rows)) cols b small inside (w .cols-some) (w .cols-few) next,
+      )
 
   -- so many numbers, stored from the i-th cell on
   cells-read : (colours : ℕ) → colours ≤ greatestNumber → (vs cells : List ℕ) (i at : ℕ) (b : List ℕ) → at ≤ length s → Fit colours vs
       → drop at s ≡ spellCells vs ++ b
-      → cellsFrom s colours cells i at (length vs) ≡ record { fault = fault 0 0; cells = sets cells i vs; next = at + length (spellCells vs) }
+      → cellsOnward s colours cells i at (length vs) ≡ record { fault = fault 0 0; cells = sets cells i vs; next = at + length (spellCells vs) }
   cells-read colours small [] cells i at b h fit e = rw add-zero
   cells-read colours small (v ∷ vs) cells i at b h fit e =
       let e' : drop at s ≡ spellNumber v ++ (spellCells vs ++ b) = e ∙ append-assoc (spellNumber v) (spellCells vs) b in
@@ -104,11 +105,11 @@ module _ (s : List ℕ) where
 
 -- the sheet that contents are read back as
 abbrev pub sheetFor : Grid → Sheet
-sheetFor g = record { colours = coloursOf (spellSheet g) .colours; ticket = g .ticket; rows = g .rows; cols = g .cols; cells = sets noCells 0 (g .cells) }
+sheetFor g = record { colours = coloursOf (spellSheet g) .colours; ticket = g .ticket; size = sizeBy (g .rows) (g .cols); cells = sets noCells 0 (g .cells) }
 
 module _ (g : Grid) (k : GridKeeps g) where
   sheet-read : sheetOf (spellSheet g) ≡ record { fault = fault 0 0; sheet = sheetFor g }
-  unfolding sheetOf filledAt cellsOf
+  unfolding sheetOf filledAt cellsAt
   sheet-read =
       let s = spellSheet g in
       let colours = spellColours (g .colours) in
@@ -132,7 +133,7 @@ module _ (g : Grid) (k : GridKeeps g) where
       let cols-inside = past-inside s rows (cols ++ cells) at-rows rows-inside rows-there in
       let cells-inside = past-inside s cols cells at-cols cols-inside cols-there in
       let job = number-reads-at s (rows ++ (cols ++ cells)) at-ticket (g .ticket) ticket-inside (k .ticket-few) ticket-there in
-      let size = size-read s greatest at-rows (g .rows) (g .cols) cells (omega arith) rows-inside (k .rows-some) (k .rows-few) (k .cols-some) (k .cols-few) rows-there in
+      let size = size-read s greatest at-rows (g .rows) (g .cols) cells (omega arith) rows-inside (k .within) rows-there in
       let filled = cells-read s (length (g .colours)) few (g .cells) noCells 0 at-cells [] cells-inside (k .cells-fit) cells-there in
       let end : length s ≤ at-cells + length cells =
       omega (arith, length-drop (at-cells + length cells) s, ap (λ (x : List ℕ). length x) (drop-past s cells [] at-cells cells-there)) in
@@ -142,7 +143,7 @@ module _ (g : Grid) (k : GridKeeps g) where
   sheet-contents : gridIn (spellSheet g) (sheetFor g) ≡ g
   sheet-contents =
       let names = colours-read-back (g .colours) (spellNumber (g .ticket) ++ (spellNumber (g .rows) ++ (spellNumber (g .cols) ++ spellCells (g .cells)))) (k .colours-ok) in
-      let few : length (g .cells) ≤ length noCells = omega (arith, k .cells-all, area (g .rows) (g .cols) greatest (k .rows-few) (k .cols-few)) in
+      let few : length (g .cells) ≤ length noCells = omega (arith, k .cells-all, within-room (k .within)) in
       ap₂ (λ (x : List Name) (y : List ℕ). record { colours = x; ticket = g .ticket; rows = g .rows; cols = g .cols; cells = y })
       (names .names) (rw (← k .cells-all) (stored-first noCells (g .cells) few))
 

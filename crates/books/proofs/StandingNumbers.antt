@@ -7,7 +7,8 @@ use lib.ListN.{length, drop}
 use Rattle.names.specs.Number.{greatestNumber, numberIn, numberBelow, spellNumber}
 use Rattle.names.specs.declared.number.Read.the-variants.{Value}
 use Rattle.names.proofs.ReadingNumbers.{number-there, number-in-range, number-below-there, number-below-count}
-use Rattle.names.proofs.SpellingNumbers.{Bytes, number-spelled, number-reads-at}
+use Rattle.names.specs.Bytes.{Bytes}
+use Rattle.names.proofs.SpellingNumbers.{number-spelled, number-reads-at}
 use Rattle.names.proofs.SpellingColours.{drop-past, past-inside}
 
 -- ── Accepted numbers ──

@@ -5,20 +5,15 @@ use mathlib.Core.List.{List}
 use mathlib.Core.Logic.{_↔_}
 use borrow.Author.Tests.{eq-eqb}
 use Rattle.names.specs.Number.{greatestNumber}
-use Rattle.books.specs.Calls.{ticketOf}
 use Rattle.books.specs.Contents.{Contents}
-use Rattle.books.specs.ContentsIn.{gridIn}
 use Rattle.books.specs.Grid.{Grid, GridKeeps, picture}
 use Rattle.books.specs.Derives.{Derives}
 use Rattle.books.specs.Lent.{pictureOf, lentBook, lentBoth}
 use Rattle.books.specs.Picture.{Picture}
 use Rattle.books.specs.Sheet.{sheetOf}
+use Rattle.books.specs.Tickets.{withTicket, SameButTicket}
 use Rattle.books.specs.declared.answer.Answer.{Answer}
 use Rattle.books.proofs.SamePictures.{same-refl, same-derives}
-
--- the sheet with another ticket
-abbrev pub withTicket : ℕ → Grid → Grid
-withTicket n g = record { colours = g .colours; ticket = n; rows = g .rows; cols = g .cols; cells = g .cells }
 
 pub same-picture : (n : ℕ) (g : Grid) → picture (withTicket n g) ≡ picture g
 same-picture n g = refl
@@ -31,21 +26,12 @@ ticket-keeps n g h k =
     record {
       colours-ok = k .colours-ok;
       ticket-few = h;
-      rows-some = k .rows-some;
-      rows-few = k .rows-few;
-      cols-some = k .cols-some;
-      cols-few = k .cols-few;
+      within = k .within;
       cells-all = k .cells-all;
       cells-fit = k .cells-fit;
     }
 
 -- ── As bytes ──
-
--- two sheets as bytes, both accepted, whose contents are the same but for the ticket
-pub record SameButTicket (s t : List ℕ) : Type 0 where
-  pub first-fine : sheetOf s .fault .number ≡ 0
-  pub second-fine : sheetOf t .fault .number ≡ 0
-  pub else-same : gridIn t (sheetOf t .sheet) ≡ withTicket (ticketOf t) (gridIn s (sheetOf s .sheet))
 
 -- what a call makes of a book and an accepted sheet, it makes of the sheet's picture
 by-picture : {A : Type 0} (book sheet : List ℕ) (refuse : Answer → A) (go : Contents → Picture → A) → sheetOf sheet .fault .number ≡ 0

@@ -8,6 +8,7 @@ use Rattle.names.specs.Colours.{noColours, coloursOf, afterColours}
 use Rattle.names.specs.declared.number.Fault.{Fault}
 use Rattle.names.specs.declared.colours.Colours.{Colours}
 use Rattle.books.specs.Rules.{noRules, rulesAt, afterRules}
+use Rattle.books.specs.Keeps.{mostMotifs, mostRules}
 use Rattle.books.specs.declared.rule.Rule.{Rule}
 use Rattle.books.specs.declared.family.Family.{Family}
 use Rattle.books.specs.declared.rules.RulesRead.{RulesRead}
@@ -23,12 +24,12 @@ noFamily = record { colours = noColours; motifs = 0; start = 0; count = 0; rules
 abbrev pub refusedBook : Fault → BookRead
 refusedBook f = record { fault = f; family = noFamily }
 
--- the motif count 1 to 32, the start motif, the rule count 1 to 200
+-- the motif count, the start motif, the rule count: each count from 1 to its greatest
 unfoldable pub figuresAt : List ℕ → ℕ → FiguresRead
 figuresAt s at =
-    onward Refused (numberIn s at 1 32) (λ motifs next.
+    onward Refused (numberIn s at 1 mostMotifs) (λ motifs next.
     onward Refused (numberBelow s next motifs 6) (λ start then.
-    onward Refused (numberIn s then 1 200) (λ count end.
+    onward Refused (numberIn s then 1 mostRules) (λ count end.
     Whole (record { motifs = motifs; start = start; count = count }) end)))
 
 abbrev pub afterFigures {ℓ} : {A : Type ℓ} → (Fault → A) → FiguresRead → (Figures → ℕ → A) → A

@@ -12,4 +12,11 @@ abbrev pub contentsIn : List ℕ → Family → Contents
 contentsIn s f = record { colours = namesIn s (f .colours); motifs = f .motifs; start = f .start; rules = take (f .count) (f .rules) }
 
 abbrev pub gridIn : List ℕ → Sheet → Grid
-gridIn s g = record { colours = namesIn s (g .colours); ticket = g .ticket; rows = g .rows; cols = g .cols; cells = take (g .rows * g .cols) (g .cells) }
+gridIn s g =
+    record {
+      colours = namesIn s (g .colours);
+      ticket = g .ticket;
+      rows = g .size .rows;
+      cols = g .size .cols;
+      cells = take (g .size .rows * g .size .cols) (g .cells);
+    }

@@ -9,9 +9,11 @@ use Rattle.names.specs.Pick.{pick}
 use Rattle.names.specs.Put.{put}
 use Rattle.names.specs.Name.{Name}
 use Rattle.names.specs.Colours.{namesIn}
+use Rattle.names.specs.Spelling.{mostColours}
 use Rattle.names.specs.declared.colours.Colours.{Colours}
 use Rattle.books.specs.Contents.{Contents}
 use Rattle.books.specs.SpellBook.{spellBook}
+use Rattle.books.specs.Keeps.{mostRules}
 use Rattle.books.specs.declared.draft.Draft.{Draft}
 use Rattle.books.specs.declared.writing.Written.{Written}
 
@@ -30,17 +32,17 @@ draftIn first second d =
 
 -- the counts are within the arrays
 pub record DraftFits (d : Draft) : Type 0 where
-  pub colours-few : d .family .colours .count ≤ 64
-  pub more-few : d .more .count ≤ 64
-  pub rules-few : d .family .count ≤ 200
-  pub rules-all : length (d .family .rules) ≡ 200
+  pub colours-few : d .family .colours .count ≤ mostColours
+  pub more-few : d .more .count ≤ mostColours
+  pub rules-few : d .family .count ≤ mostRules
+  pub rules-all : length (d .family .rules) ≡ mostRules
 
 -- the test for that, of the counts of colours, of more colours and of rules
-unfoldable pub few? : ℕ → ℕ → ℕ → Bool
-few? own more rules = pick (ltb 64 own) false (pick (ltb 64 more) false (leb rules 200))
+unfoldable pub countsFit? : ℕ → ℕ → ℕ → Bool
+countsFit? own more rules = pick (ltb mostColours own) false (pick (ltb mostColours more) false (leb rules mostRules))
 
 abbrev pub fits? : Draft → Bool
-fits? d = few? (d .family .colours .count) (d .more .count) (d .family .count)
+fits? d = countsFit? (d .family .colours .count) (d .more .count) (d .family .count)
 
 -- 13 and nothing where the slice is shorter than the spelling
 abbrev pub writtenBook : Contents → List ℕ → Written

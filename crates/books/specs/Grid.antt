@@ -7,7 +7,7 @@ use Rattle.names.specs.Number.{greatestNumber}
 use Rattle.names.specs.Name.{Name}
 use Rattle.names.specs.Spelling.{ColoursOk}
 use Rattle.books.specs.Picture.{Picture}
-use Rattle.books.specs.Size.{greatest}
+use Rattle.books.specs.Size.{greatest, Within}
 
 -- colour names in order, the job ticket, rows, columns, and a colour number for each cell, row by row
 pub record Grid : Type 0 where
@@ -20,10 +20,7 @@ pub record Grid : Type 0 where
 pub record GridKeeps (g : Grid) : Type 0 where
   pub colours-ok : ColoursOk (g .colours)
   pub ticket-few : g .ticket ≤ greatestNumber
-  pub rows-some : 1 ≤ g .rows
-  pub rows-few : g .rows ≤ greatest
-  pub cols-some : 1 ≤ g .cols
-  pub cols-few : g .cols ≤ greatest
+  pub within : Within greatest (g .rows) (g .cols)
   pub cells-all : length (g .cells) ≡ g .rows * g .cols
   pub cells-fit : (i : ℕ) → i < length (g .cells) → getD (g .cells) i 0 < length (g .colours)
 

@@ -8,6 +8,13 @@ use Rattle.books.specs.declared.rule.Rule.{Rule}
 use Rattle.books.specs.declared.rule.Body.{Body}
 use Rattle.books.specs.declared.rule.Body.the-variants.{Colour, Across, Down}
 
+-- the greatest counts of motifs and of rules
+abbrev pub mostMotifs : ℕ
+mostMotifs = 32
+
+abbrev pub mostRules : ℕ
+mostRules = 200
+
 -- a body's numbers stand below the counts of motifs and colours
 abbrev pub BodyFits : ℕ → ℕ → Body → Type 0
 BodyFits m n (Colour c) = c < n
@@ -23,11 +30,11 @@ pub record Sound (b : Contents) : Type 0 where
   pub start-fits : b .start < b .motifs
   pub rules-fit : (r : Rule) → List·Memᴰ r (b .rules) → RuleFits (b .motifs) (length (b .colours)) r
 
--- ... and the counts stand in their ranges: 1 to 64 colours, 1 to 32 motifs, 1 to 200 rules
+-- ... and the counts stand in their ranges, each from 1 to its greatest
 pub record Keeps (b : Contents) : Type 0 where
   pub colours-ok : ColoursOk (b .colours)
   pub motifs-some : 1 ≤ b .motifs
-  pub motifs-few : b .motifs ≤ 32
+  pub motifs-few : b .motifs ≤ mostMotifs
   pub rules-some : 1 ≤ length (b .rules)
-  pub rules-few : length (b .rules) ≤ 200
+  pub rules-few : length (b .rules) ≤ mostRules
   pub sound : Sound b

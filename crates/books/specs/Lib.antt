@@ -23,6 +23,7 @@ pub mod Answer
 pub mod Lent
 pub mod Calls
 pub mod Lookups
-pub mod Order
+pub mod Numbering
 pub mod Draft
 pub mod inner
+pub mod Tickets

@@ -9,6 +9,7 @@ use Rattle.names.specs.ReadsList.{ListRead, ListFault}
 use Rattle.names.specs.declared.number.Fault.{Fault}
 use Rattle.names.specs.declared.number.Read.the-variants.{Value, Refused}
 use Rattle.books.specs.InTurn.{InTurn}
+use Rattle.books.specs.Keeps.{mostMotifs, mostRules}
 use Rattle.books.specs.declared.rule.Rule.{Rule}
 use Rattle.books.specs.declared.rule.Body.{Body}
 use Rattle.books.specs.declared.rule.Body.the-variants.{Colour, Across, Down}
@@ -54,7 +55,7 @@ pub data RuleFault (s : List ℕ) (motifs colours at : ℕ) (f : Fault) : Type 0
 
 -- the colours and the count of motifs were read, and the start motif is due
 pub data MotifsRead (s : List ℕ) (colours motifs at : ℕ) : Type 0 where
-  motifs-read : (from : ℕ) → ListRead s colours from → ReadsIn s from 1 32 (Value motifs at) → MotifsRead s colours motifs at
+  motifs-read : (from : ℕ) → ListRead s colours from → ReadsIn s from 1 mostMotifs (Value motifs at) → MotifsRead s colours motifs at
 
 -- ... the start motif too, and the count of rules is due
 pub data StartRead (s : List ℕ) (colours motifs at : ℕ) : Type 0 where
@@ -62,15 +63,15 @@ pub data StartRead (s : List ℕ) (colours motifs at : ℕ) : Type 0 where
 
 -- ... the count of rules and these rules too, and the next is due, or the end
 pub data RulesSoFar (s : List ℕ) (colours motifs count : ℕ) (rules : List Rule) (at : ℕ) : Type 0 where
-  rules-so-far : (from first : ℕ) → StartRead s colours motifs from → ReadsIn s from 1 200 (Value count first)
+  rules-so-far : (from first : ℕ) → StartRead s colours motifs from → ReadsIn s from 1 mostRules (Value count first)
       → InTurn (RuleStands s motifs colours) first rules at → RulesSoFar s colours motifs count rules at
 
 -- what refuses a book: its colours, a count outside its range (3), a start motif not below its count (6), a rule, or bytes after its last rule (8)
 pub data BookFault (s : List ℕ) (f : Fault) : Type 0 where
   no-list : ListFault s f → BookFault s f
-  no-motifs : (colours at : ℕ) → ListRead s colours at → ReadsIn s at 1 32 (Refused f) → BookFault s f
+  no-motifs : (colours at : ℕ) → ListRead s colours at → ReadsIn s at 1 mostMotifs (Refused f) → BookFault s f
   no-start : (colours motifs at : ℕ) → MotifsRead s colours motifs at → ReadsBelow s at motifs 6 (Refused f) → BookFault s f
-  no-count : (colours motifs at : ℕ) → StartRead s colours motifs at → ReadsIn s at 1 200 (Refused f) → BookFault s f
+  no-count : (colours motifs at : ℕ) → StartRead s colours motifs at → ReadsIn s at 1 mostRules (Refused f) → BookFault s f
   no-rule : (colours motifs count at : ℕ) (before : List Rule) → RulesSoFar s colours motifs count before at → length before < count
       → RuleFault s motifs colours at f → BookFault s f
   more-bytes : (colours motifs count at : ℕ) (rules : List Rule) → RulesSoFar s colours motifs count rules at → length rules ≡ count

@@ -28,7 +28,8 @@ pub data CellsSoFar (s : List ℕ) (colours count : ℕ) (cells : List ℕ) (at 
   cells-so-far : (from rows cols first : ℕ) → RowsRead s colours rows from → ReadsIn s from 1 greatest (Value cols first) → count ≡ rows * cols
       → InTurn (CellStands s colours) first cells at → CellsSoFar s colours count cells at
 
--- what refuses a sheet: its colours, its ticket, rows or columns outside their range (3), a cell's colour not below its count (6), or bytes after its last cell (8)
+-- what refuses a sheet: its colours, its ticket, rows or columns outside their range (3), a cell's colour not below its count (6), or bytes after its
+-- last cell (8)
 pub data SheetFault (s : List ℕ) (f : Fault) : Type 0 where
   no-list : ListFault s f → SheetFault s f
   no-ticket : (colours at : ℕ) → ListRead s colours at → Reads s at (Refused f) → SheetFault s f

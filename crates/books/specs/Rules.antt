@@ -7,6 +7,7 @@ use Rattle.names.specs.Pick.{pick, fault}
 use Rattle.names.specs.Onward.{onward, faultless}
 use Rattle.names.specs.Number.{numberBelow}
 use Rattle.names.specs.declared.number.Fault.{Fault}
+use Rattle.books.specs.Keeps.{mostRules}
 use Rattle.books.specs.declared.rule.Rule.{Rule}
 use Rattle.books.specs.declared.rule.Body.{Body}
 use Rattle.books.specs.declared.rule.Body.the-variants.{Colour, Across, Down}
@@ -56,7 +57,7 @@ abbrev pub noRule : Rule
 noRule = record { head = 0; body = Colour 0 }
 
 abbrev pub noRules : List Rule
-noRules = replicate 200 noRule
+noRules = replicate mostRules noRule
 
 abbrev pub refusedRules : Fault → RulesRead
 refusedRules f = record { fault = f; rules = noRules; next = 0 }

@@ -5,7 +5,9 @@ use names::number::Fault;
 use names::number::Read;
 ghost use mathlib.Core.Path.{_≡_};
 ghost use Prim.Native.Nat.{_≤_};
+ghost use Rattle.names.specs.Spelling.{mostColours};
 ghost use Rattle.books.specs.Rules.{colourNumberAt, joinAt, bodyAt};
+ghost use Rattle.books.specs.Keeps.{mostMotifs};
 
 // A body and the place after it, or the fault.
 pub(crate) enum BodyRead {
@@ -15,7 +17,7 @@ pub(crate) enum BodyRead {
 
 // A colour number.
 fn read_colour_number(s: &[u8], at: usize, colours: usize) -> BodyRead
-    requires { ⌜ colours ≤ 64 ⌝ }
+    requires { ⌜ colours ≤ mostColours ⌝ }
     ensures { λ r. ⌜ r ≡ colourNumberAt (now (s .entry)) at colours ⌝ }
 {
     let r = number::read_below(s, at, colours, 6);
@@ -27,7 +29,7 @@ fn read_colour_number(s: &[u8], at: usize, colours: usize) -> BodyRead
 
 // Two motifs: left and right for kind 1, upper and lower for kind 2.
 fn read_join(s: &[u8], at: usize, kind: usize, motifs: usize) -> BodyRead
-    requires { ⌜ motifs ≤ 32 ⌝ }
+    requires { ⌜ motifs ≤ mostMotifs ⌝ }
     ensures { λ r. ⌜ r ≡ joinAt (now (s .entry)) at kind motifs ⌝ }
 {
     let r = number::read_below(s, at, motifs, 6);
@@ -51,7 +53,7 @@ fn read_join(s: &[u8], at: usize, kind: usize, motifs: usize) -> BodyRead
 
 // A kind, and what it carries.
 pub(crate) fn read_body(s: &[u8], at: usize, motifs: usize, colours: usize) -> BodyRead
-    requires { ⌜ (motifs ≤ 32) × (colours ≤ 64) ⌝ }
+    requires { ⌜ (motifs ≤ mostMotifs) × (colours ≤ mostColours) ⌝ }
     ensures { λ r. ⌜ r ≡ bodyAt (now (s .entry)) at motifs colours ⌝ }
 {
     let r = number::read_below(s, at, 3, 7);

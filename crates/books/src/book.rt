@@ -1,15 +1,19 @@
 // A book: a colour list, the motif count, the start motif, the rule count, and the rules.
 use crate::family;
 use crate::family::Family;
+use crate::rule::MOST_MOTIFS;
+use crate::rule::MOST_RULES;
 use crate::rules;
 use crate::rules::RulesRead;
 use names::colours;
 use names::colours::Colours;
+use names::fault::fault;
 use names::number;
 use names::number::Fault;
 use names::number::Read;
 ghost use mathlib.Core.Path.{_≡_};
 ghost use Prim.Native.Nat.{_≤_};
+ghost use Rattle.names.specs.Spelling.{mostColours};
 ghost use Rattle.books.specs.Book.{refusedBook, figuresAt, ruledAt, figuredAt, bookOf};
 
 // The numbers between the colours and the rules.
@@ -39,11 +43,11 @@ fn refused_book(f: Fault) -> BookRead
     BookRead { fault: f, family }
 }
 
-// The motif count 1 to 32, the start motif, the rule count 1 to 200.
+// The motif count, the start motif, the rule count: each count from 1 to its greatest.
 fn read_figures(s: &[u8], at: usize) -> FiguresRead
     ensures { λ r. ⌜ r ≡ figuresAt (now (s .entry)) at ⌝ }
 {
-    let r = number::read_in(s, at, 1, 32);
+    let r = number::read_in(s, at, 1, MOST_MOTIFS);
     match r {
         Read::Refused(f) => FiguresRead::Refused(f),
         Read::Value(motifs, next) => {
@@ -51,7 +55,7 @@ fn read_figures(s: &[u8], at: usize) -> FiguresRead
             match q {
                 Read::Refused(f) => FiguresRead::Refused(f),
                 Read::Value(start, then) => {
-                    let p = number::read_in(s, then, 1, 200);
+                    let p = number::read_in(s, then, 1, MOST_RULES);
                     match p {
                         Read::Refused(f) => FiguresRead::Refused(f),
                         Read::Value(count, end) => FiguresRead::Whole(
@@ -79,17 +83,11 @@ fn with_rules(s: &[u8], c: Colours, g: Figures, r: RulesRead) -> BookRead
         return refused_book(f);
     }
     if next < s.len() {
-        return refused_book(Fault {
-            number: 8,
-            place: next,
-        });
+        return refused_book(fault(8, next));
     }
     let rules = r.rules;
     BookRead {
-        fault: Fault {
-            number: 0,
-            place: 0,
-        },
+        fault: fault(0, 0),
         family: Family {
             colours: c,
             motifs: g.motifs,
@@ -102,7 +100,7 @@ fn with_rules(s: &[u8], c: Colours, g: Figures, r: RulesRead) -> BookRead
 
 // What follows the colours of a book.
 fn with_colours(s: &[u8], c: Colours, at: usize) -> BookRead
-    requires { ⌜ c .count ≤ 64 ⌝ }
+    requires { ⌜ c .count ≤ mostColours ⌝ }
     ensures { λ b. ⌜ b ≡ figuredAt (now (s .entry)) c at ⌝ }
 {
     let r = read_figures(s, at);

@@ -22,9 +22,8 @@ pub extern "C" fn dv_read_book(book: &[u8]) -> u64
 pub extern "C" fn dv_read_sheet(sheet: &[u8]) -> u64
     ensures { λ r. ⌜ r ≡ packed (sheetAnswer (now (sheet .entry))) (ticketOf (now (sheet .entry))) ⌝ }
 {
-    let r = sheet::read_sheet(sheet);
-    let f = r.fault;
-    answer::pack(answer::blame(1, f), r.sheet.ticket)
+    let g = sheet::sheet_figures(sheet);
+    answer::pack(answer::blame(1, g.fault), g.ticket)
 }
 
 // A colour's name, as the part of the lent book that holds it. A refused book has no colours, so that it shows an empty part too.

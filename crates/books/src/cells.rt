@@ -1,53 +1,55 @@
 // The cells of a sheet: a colour number each, row by row.
 use crate::size::ROOM;
+use names::fault::fault;
 use names::number;
 use names::number::Fault;
 use names::number::Read;
-ghost use mathlib.Core.Path.{_≡_};
 ghost use Prim.Native.Nat.{_≤_};
+ghost use Rattle.names.specs.Spelling.{mostColours};
 ghost use Rattle.books.specs.Size.{room};
-ghost use Rattle.books.specs.Cells.{refusedCells, cellsOf};
+ghost use Rattle.books.specs.Cells.{refusedCells, cellsAt};
+ghost use Rattle.books.specs.inner.Parts.{CellsInto};
 
-// Cells that were read, 0 past the last, with the place after them; refused ones are all 0 and have the place 0.
-pub(crate) struct CellsRead {
+// Cells that went into a lent array: the place after them, 0 where they are refused.
+pub(crate) struct CellsEnd {
     pub(crate) fault: Fault,
-    pub(crate) cells: [u8; ROOM],
     pub(crate) next: usize,
 }
 
-fn refused_cells(f: Fault) -> CellsRead
-    ensures { λ r. ⌜ r ≡ refusedCells f ⌝ }
+// Refused cells leave nothing in the array.
+fn refuse_cells(f: Fault, cells: &mut [u8; ROOM]) -> CellsEnd
+    ensures { λ r. ⌜ CellsInto (refusedCells f) r (now (cells .exit)) ⌝ }
 {
-    CellsRead {
-        fault: f,
-        cells: [0; ROOM],
-        next: 0,
-    }
+    *cells = [0; ROOM];
+    CellsEnd { fault: f, next: 0 }
 }
 
-// So many cells from a place on, each the number of one of so many colours.
-pub(crate) fn read_cells(s: &[u8], from: usize, colours: usize, count: usize) -> CellsRead
-    requires { ⌜ (colours ≤ 64) × (count ≤ room) ⌝ }
-    ensures { λ r. ⌜ r ≡ cellsOf (now (s .entry)) colours from count ⌝ }
+// So many cells from a place on, each the number of one of so many colours, read into a lent array: whatever it held, it ends with the cells and
+// 0 past the last.
+pub(crate) fn read_cells(
+    s: &[u8],
+    from: usize,
+    colours: usize,
+    count: usize,
+    cells: &mut [u8; ROOM],
+) -> CellsEnd
+    requires { ⌜ (colours ≤ mostColours) × (count ≤ room) ⌝ }
+    ensures { λ r. ⌜ CellsInto (cellsAt (now (s .entry)) colours from count) r (now (cells .exit)) ⌝ }
 {
-    let mut cells = [0u8; ROOM];
+    *cells = [0; ROOM];
     let mut at = from;
     for i in 0..count {
         let r = number::read_below(s, at, colours, 6);
         match r {
-            Read::Refused(f) => return refused_cells(f),
+            Read::Refused(f) => return refuse_cells(f, cells),
             Read::Value(v, next) => {
                 cells[i] = v as u8;
                 at = next;
             }
         }
     }
-    CellsRead {
-        fault: Fault {
-            number: 0,
-            place: 0,
-        },
-        cells,
+    CellsEnd {
+        fault: fault(0, 0),
         next: at,
     }
 }

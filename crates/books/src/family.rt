@@ -1,4 +1,5 @@
 // A family as it is read from a book.
+use crate::rule::MOST_RULES;
 use crate::rule::Rule;
 use crate::rules;
 use names::colours;
@@ -12,7 +13,7 @@ pub struct Family {
     pub motifs: usize,
     pub start: usize,
     pub count: usize,
-    pub rules: [Rule; 200],
+    pub rules: [Rule; MOST_RULES],
 }
 
 // The family of a refused book.

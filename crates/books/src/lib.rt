@@ -9,7 +9,7 @@ pub mod family;
 pub mod lent;
 pub mod lookups;
 mod measuring;
-pub mod order;
+pub mod numbering;
 pub mod rule;
 mod rules;
 pub mod sheet;

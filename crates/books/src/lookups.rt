@@ -2,7 +2,8 @@
 use crate::book::read_book;
 use crate::rule::Body;
 use crate::rule::Rule;
-use crate::sheet::read_sheet;
+use crate::sheet::sheet_figures;
+use crate::size::Size;
 ghost use mathlib.Core.Path.{_≡_};
 ghost use Prim.Native.Nat.{_+_, _*_, _^_};
 ghost use Rattle.books.specs.Lookups.{ruleOf, sizeOf, ruleShown, sizeShown, version};
@@ -11,11 +12,6 @@ ghost use Rattle.books.specs.Lookups.{ruleOf, sizeOf, ruleShown, sizeSho
 pub enum RuleFound {
     There(Rule),
     Missing,
-}
-
-pub struct SheetSize {
-    pub rows: usize,
-    pub columns: usize,
 }
 
 // The rule with a number. A refused book has no rules.
@@ -32,14 +28,11 @@ pub fn rule(book: &[u8], number: usize) -> RuleFound
 }
 
 // Rows and columns of a sheet. A refused one has none.
-pub fn sheet_size(sheet: &[u8]) -> SheetSize
+pub fn sheet_size(sheet: &[u8]) -> Size
     ensures { λ r. ⌜ r ≡ sizeOf (now (sheet .entry)) ⌝ }
 {
-    let r = read_sheet(sheet);
-    SheetSize {
-        rows: r.sheet.rows,
-        columns: r.sheet.cols,
-    }
+    let g = sheet_figures(sheet);
+    g.size
 }
 
 // A byte for each part of a rule, and 1 above them, so that no rule is 0.
@@ -78,7 +71,7 @@ pub extern "C" fn dv_sheet_size(sheet: &[u8]) -> u64
     ensures { λ r. ⌜ r ≡ sizeShown (now (sheet .entry)) ⌝ }
 {
     let size = sheet_size(sheet);
-    size.rows as u64 + 4294967296 * (size.columns as u64)
+    size.rows as u64 + 4294967296 * (size.cols as u64)
 }
 
 // How many of the customer's requests have landed, as `DV_VERSION` of the header says: a host sees by it that header and archive belong together.

@@ -1,23 +1,24 @@
 // How many bytes a book will have, before any of it is written.
 use crate::draft::Draft;
 use crate::rule::Body;
+use crate::rule::MOST_RULES;
 use crate::rule::Rule;
 use names::colours::Colours;
 use names::name;
 use names::number;
 ghost use mathlib.Core.Path.{_≡_};
-ghost use Prim.Native.Nat.{_+_, _≤_};
+ghost use Prim.Native.Nat.{_+_, _*_, _≤_};
 ghost use lib.ListN.{length, take};
-ghost use Rattle.names.specs.Number.{spellNumber};
 ghost use Rattle.names.specs.Colours.{namesIn};
-ghost use Rattle.names.specs.Spelling.{spellNames, spellColours};
+ghost use Rattle.names.specs.Spelling.{spellNames, spellColours, mostColours};
 ghost use Rattle.books.specs.SpellBook.{spellThree, spellBody, spellRule, spellRules, spellBook};
 ghost use Rattle.books.specs.Draft.{bothNames, draftIn, DraftFits};
+ghost use Rattle.books.specs.Keeps.{mostRules};
 
 // The names of a list, each with its length before it.
 fn names_len(s: &[u8], c: Colours) -> usize
-    requires { ⌜ c .count ≤ 64 ⌝ }
-    ensures { λ r. ⌜ (r ≡ length (spellNames (namesIn (now (s .entry)) c))) × (r ≤ 16512) ⌝ }
+    requires { ⌜ c .count ≤ mostColours ⌝ }
+    ensures { λ r. ⌜ (r ≡ length (spellNames (namesIn (now (s .entry)) c))) × (r ≤ 258 * mostColours) ⌝ }
 {
     let n = c.count;
     let mut sum = 0;
@@ -58,9 +59,9 @@ fn rule_len(r: Rule) -> usize
 }
 
 // The first so many rules.
-fn rules_len(rules: [Rule; 200], count: usize) -> usize
-    requires { ⌜ count ≤ 200 ⌝ }
-    ensures { λ r. ⌜ (r ≡ length (spellRules (take count rules))) × (r ≤ 2400) ⌝ }
+fn rules_len(rules: [Rule; MOST_RULES], count: usize) -> usize
+    requires { ⌜ count ≤ mostRules ⌝ }
+    ensures { λ r. ⌜ (r ≡ length (spellRules (take count rules))) × (r ≤ 12 * mostRules) ⌝ }
 {
     let mut sum = 0;
     let mut i = 0;
@@ -74,8 +75,8 @@ fn rules_len(rules: [Rule; 200], count: usize) -> usize
 
 // The colours of both lists, in one list after their count.
 fn colours_len(first: &[u8], c: Colours, second: &[u8], more: Colours) -> usize
-    requires { ⌜ (c .count ≤ 64) × (more .count ≤ 64) ⌝ }
-    ensures { λ r. ⌜ (r ≡ length (spellColours (bothNames (now (first .entry)) c (now (second .entry)) more))) × (r ≤ 33027) ⌝ }
+    requires { ⌜ (c .count ≤ mostColours) × (more .count ≤ mostColours) ⌝ }
+    ensures { λ r. ⌜ (r ≡ length (spellColours (bothNames (now (first .entry)) c (now (second .entry)) more))) × (r ≤ 3 + 516 * mostColours) ⌝ }
 {
     number::spelled_len(c.count + more.count) + (names_len(first, c) + names_len(second, more))
 }

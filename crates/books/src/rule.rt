@@ -1,5 +1,10 @@
 // A rule is a head motif with one of three bodies.
 
+// The greatest count of motifs, and of rules, in a book.
+pub const MOST_MOTIFS: usize = 32;
+
+pub const MOST_RULES: usize = 200;
+
 // The two ways of joining: side by side, or one above the other.
 pub enum Dir {
     Across,

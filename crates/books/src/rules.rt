@@ -2,13 +2,17 @@
 use crate::bodies;
 use crate::bodies::BodyRead;
 use crate::rule::Body;
+use crate::rule::MOST_RULES;
 use crate::rule::Rule;
+use names::fault::fault;
 use names::number;
 use names::number::Fault;
 use names::number::Read;
 ghost use mathlib.Core.Path.{_≡_};
 ghost use Prim.Native.Nat.{_≤_};
+ghost use Rattle.names.specs.Spelling.{mostColours};
 ghost use Rattle.books.specs.Rules.{ruleAt, noRule, noRules, refusedRules, rulesAt};
+ghost use Rattle.books.specs.Keeps.{mostMotifs, mostRules};
 
 // A rule and the place after it, or the fault.
 enum RuleRead {
@@ -19,7 +23,7 @@ enum RuleRead {
 // The rules with the place after them; refused ones are the fixed rules and the place 0.
 pub(crate) struct RulesRead {
     pub(crate) fault: Fault,
-    pub(crate) rules: [Rule; 200],
+    pub(crate) rules: [Rule; MOST_RULES],
     pub(crate) next: usize,
 }
 
@@ -34,11 +38,11 @@ fn no_rule() -> Rule
 }
 
 // The rules of a family that has none.
-pub(crate) fn no_rules() -> [Rule; 200]
+pub(crate) fn no_rules() -> [Rule; MOST_RULES]
     ensures { λ r. ⌜ r ≡ noRules ⌝ }
 {
     let rule = no_rule();
-    [rule; 200]
+    [rule; MOST_RULES]
 }
 
 // Rules at the first fault in them.
@@ -55,7 +59,7 @@ fn refused_rules(f: Fault) -> RulesRead
 
 // A head, and its body.
 fn read_rule(s: &[u8], at: usize, motifs: usize, colours: usize) -> RuleRead
-    requires { ⌜ (motifs ≤ 32) × (colours ≤ 64) ⌝ }
+    requires { ⌜ (motifs ≤ mostMotifs) × (colours ≤ mostColours) ⌝ }
     ensures { λ r. ⌜ r ≡ ruleAt (now (s .entry)) at motifs colours ⌝ }
 {
     let r = number::read_below(s, at, motifs, 6);
@@ -85,7 +89,7 @@ pub(crate) fn read_rules(
     colours: usize,
     count: usize,
 ) -> RulesRead
-    requires { ⌜ (motifs ≤ 32) × (colours ≤ 64) × (count ≤ 200) ⌝ }
+    requires { ⌜ (motifs ≤ mostMotifs) × (colours ≤ mostColours) × (count ≤ mostRules) ⌝ }
     ensures { λ r. ⌜ r ≡ rulesAt (now (s .entry)) from motifs colours count ⌝ }
 {
     let mut rules = no_rules();
@@ -101,10 +105,7 @@ pub(crate) fn read_rules(
         }
     }
     RulesRead {
-        fault: Fault {
-            number: 0,
-            place: 0,
-        },
+        fault: fault(0, 0),
         rules,
         next: at,
     }

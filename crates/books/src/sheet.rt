@@ -1,24 +1,30 @@
 // A sheet as it is read: a colour list, the job ticket, rows and columns, then one colour number per cell, row by row.
 use crate::cells;
-use crate::cells::CellsRead;
 use crate::size;
 use crate::size::GREATEST;
 use crate::size::ROOM;
+use crate::size::Size;
 use crate::size::SizeRead;
 use names::colours;
 use names::colours::Colours;
+use names::colours::MOST_COLOURS;
+use names::fault::fault;
 use names::number;
 use names::number::Fault;
 use names::number::Read;
 ghost use mathlib.Core.Path.{_≡_};
-ghost use Rattle.books.specs.Sheet.{refusedSheet, filledAt, sheetOf};
+ghost use Prim.Native.Nat.{_*_};
+ghost use Rattle.names.specs.Colours.{listOf};
+ghost use Rattle.books.specs.Cells.{cellsAt};
+ghost use Rattle.books.specs.Sheet.{refusedSheet, filledAt, sheetOf, sheetFigures, SheetInto};
+ghost use Rattle.books.specs.inner.Parts.{Fillable};
 
-// The colours are places in the lent sheet; the ticket has no part in what is derived; the first rows times columns cells stand, row by row, and the others are 0.
+// The colours are places in the lent sheet; the ticket has no part in what is derived; the first rows times columns cells stand, row by row, and
+// the others are 0.
 pub struct Sheet {
     pub colours: Colours,
     pub ticket: usize,
-    pub rows: usize,
-    pub cols: usize,
+    pub size: Size,
     pub cells: [u8; ROOM],
 }
 
@@ -28,83 +34,125 @@ pub struct SheetRead {
     pub sheet: Sheet,
 }
 
-fn refused_sheet(f: Fault) -> SheetRead
-    ensures { λ r. ⌜ r ≡ refusedSheet f ⌝ }
+// The same of a sheet whose colours and cells went into lent arrays: how many colours it has, and what is told besides.
+pub struct SheetFigures {
+    pub fault: Fault,
+    pub colours: usize,
+    pub ticket: usize,
+    pub size: Size,
+}
+
+// A refused sheet leaves nothing in the arrays.
+fn refuse_sheet(
+    f: Fault,
+    starts: &mut [u16; MOST_COLOURS],
+    lens: &mut [u8; MOST_COLOURS],
+    cells: &mut [u8; ROOM],
+) -> SheetFigures
+    ensures { λ r. ⌜ SheetInto (refusedSheet f) r (now (starts .exit)) (now (lens .exit)) (now (cells .exit)) ⌝ }
 {
-    let c = colours::no_colours();
-    SheetRead {
+    *starts = [0; MOST_COLOURS];
+    *lens = [0; MOST_COLOURS];
+    *cells = [0; ROOM];
+    SheetFigures {
         fault: f,
-        sheet: Sheet {
-            colours: c,
-            ticket: 0,
-            rows: 0,
-            cols: 0,
-            cells: [0; ROOM],
-        },
+        colours: 0,
+        ticket: 0,
+        size: Size { rows: 0, cols: 0 },
     }
 }
 
-// The sheet of these colours, this ticket, rows, columns and cells, with which the input ends.
-fn with_cells(
+// The cells of a sheet whose figures and colours were read: the input ends with them.
+fn fill_sheet(
     s: &[u8],
-    c: Colours,
-    ticket: usize,
-    rows: usize,
-    cols: usize,
-    r: CellsRead,
-) -> SheetRead
-    ensures { λ q. ⌜ q ≡ filledAt (now (s .entry)) c ticket rows cols r ⌝ }
+    g: SheetFigures,
+    from: usize,
+    starts: &mut [u16; MOST_COLOURS],
+    lens: &mut [u8; MOST_COLOURS],
+    cells: &mut [u8; ROOM],
+) -> SheetFigures
+    requires { ⌜ Fillable g ⌝ }
+    ensures { λ r. ⌜ SheetInto (filledAt (now (s .entry)) (listOf (g .colours) (now (starts .entry)) (now (lens .entry))) (g .ticket) (g .size)
+        (cellsAt (now (s .entry)) (g .colours) from (g .size .rows * g .size .cols))) r (now (starts .exit)) (now (lens .exit)) (now (cells .exit)) ⌝ }
 {
-    let f = r.fault;
-    let next = r.next;
+    let end = cells::read_cells(s, from, g.colours, g.size.rows * g.size.cols, cells);
+    let f = end.fault;
     if f.number != 0 {
-        return refused_sheet(f);
+        return refuse_sheet(f, starts, lens, cells);
     }
-    if next < s.len() {
-        return refused_sheet(Fault {
-            number: 8,
-            place: next,
-        });
+    if end.next < s.len() {
+        return refuse_sheet(fault(8, end.next), starts, lens, cells);
     }
-    let cells = r.cells;
-    SheetRead {
-        fault: Fault {
-            number: 0,
-            place: 0,
-        },
-        sheet: Sheet {
-            colours: c,
-            ticket,
-            rows,
-            cols,
-            cells,
-        },
-    }
+    g
 }
 
-// The sheet that the input is.
-pub fn read_sheet(s: &[u8]) -> SheetRead
-    ensures { λ r. ⌜ r ≡ sheetOf (now (s .entry)) ⌝ }
+// The sheet that the input is, read into lent arrays: whatever they held, they end with the places and lengths of its colours' names and with its
+// cells, and 0 past them.
+pub fn read_sheet_into(
+    s: &[u8],
+    starts: &mut [u16; MOST_COLOURS],
+    lens: &mut [u8; MOST_COLOURS],
+    cells: &mut [u8; ROOM],
+) -> SheetFigures
+    ensures { λ r. ⌜ SheetInto (sheetOf (now (s .entry))) r (now (starts .exit)) (now (lens .exit)) (now (cells .exit)) ⌝ }
 {
-    let r = colours::read_colours(s);
-    let f = r.fault;
+    let list = colours::read_list(s, starts, lens);
+    let f = list.fault;
     if f.number != 0 {
-        return refused_sheet(f);
+        return refuse_sheet(f, starts, lens, cells);
     }
-    let c = r.colours;
-    let job = number::read_number(s, r.next);
+    let job = number::read_number(s, list.next);
     match job {
-        Read::Refused(e) => refused_sheet(e),
+        Read::Refused(e) => refuse_sheet(e, starts, lens, cells),
         Read::Value(ticket, then) => {
-            let size = size::read_size(s, then, GREATEST);
-            match size {
-                SizeRead::Refused(g) => refused_sheet(g),
-                SizeRead::By(rows, cols, at) => {
-                    let count = c.count;
-                    let cells = cells::read_cells(s, at, count, rows * cols);
-                    with_cells(s, c, ticket, rows, cols, cells)
+            let read = size::read_size(s, then, GREATEST);
+            match read {
+                SizeRead::Refused(e) => refuse_sheet(e, starts, lens, cells),
+                SizeRead::By { size, next } => {
+                    let g = SheetFigures {
+                        fault: f,
+                        colours: list.count,
+                        ticket,
+                        size,
+                    };
+                    fill_sheet(s, g, next, starts, lens, cells)
                 }
             }
         }
+    }
+}
+
+// The figures alone.
+pub fn sheet_figures(s: &[u8]) -> SheetFigures
+    ensures { λ r. ⌜ r ≡ sheetFigures (sheetOf (now (s .entry))) ⌝ }
+{
+    let mut starts = [0u16; MOST_COLOURS];
+    let mut lens = [0u8; MOST_COLOURS];
+    let mut cells = [0u8; ROOM];
+    read_sheet_into(s, &mut starts, &mut lens, &mut cells)
+}
+
+// The same sheet as a value.
+pub fn read_sheet(s: &[u8]) -> SheetRead
+    ensures { λ r. ⌜ r ≡ sheetOf (now (s .entry)) ⌝ }
+{
+    let mut starts = [0u16; MOST_COLOURS];
+    let mut lens = [0u8; MOST_COLOURS];
+    let mut cells = [0u8; ROOM];
+    let g = read_sheet_into(s, &mut starts, &mut lens, &mut cells);
+    let fault = g.fault;
+    let size = g.size;
+    SheetRead {
+        fault,
+        sheet: Sheet {
+            colours: Colours {
+                count: g.colours,
+                starts,
+                lens,
+            },
+            ticket: g.ticket,
+            size,
+            cells,
+        },
     }
 }

@@ -2,18 +2,21 @@
 use crate::draft::Draft;
 use crate::measuring;
 use crate::rule::Body;
+use crate::rule::MOST_RULES;
 use crate::rule::Rule;
 use names::colours::Colours;
+use names::colours::MOST_COLOURS;
 use names::name;
 use names::number;
 ghost use mathlib.Core.Path.{_≡_};
 ghost use Prim.Native.Nat.{_+_, _≤_};
 ghost use lib.ListN.{length, take};
 ghost use Rattle.names.specs.Colours.{namesIn};
-ghost use Rattle.names.specs.Spelling.{spellNames, spellColours};
+ghost use Rattle.names.specs.Spelling.{spellNames, spellColours, mostColours};
 ghost use Rattle.books.specs.SpellBook.{spellThree, spellBody, spellRule, spellRules};
 ghost use Rattle.books.specs.inner.Wrote.{Wrote};
-ghost use Rattle.books.specs.Draft.{bothNames, draftIn, DraftFits, few?, WroteBook, WroteDraft};
+ghost use Rattle.books.specs.Draft.{bothNames, draftIn, DraftFits, countsFit?, WroteBook, WroteDraft};
+ghost use Rattle.books.specs.Keeps.{mostRules};
 
 // Answer 0 with the bytes written, or 12 or 13 with 0.
 pub struct Written {
@@ -23,7 +26,7 @@ pub struct Written {
 
 // The names of a list, each with its length before it.
 fn write_names(s: &[u8], c: Colours, out: &mut [u8], at: usize) -> usize
-    requires { ⌜ (c .count ≤ 64) × (at + length (spellNames (namesIn (now s) c)) ≤ length (now out)) ⌝ }
+    requires { ⌜ (c .count ≤ mostColours) × (at + length (spellNames (namesIn (now s) c)) ≤ length (now out)) ⌝ }
     ensures { λ r. ⌜ Wrote (now (out .entry)) at (spellNames (namesIn (now (s .entry)) c)) r (now (out .exit)) ⌝ }
 {
     let n = c.count;
@@ -75,8 +78,8 @@ fn write_rule(r: Rule, out: &mut [u8], at: usize) -> usize
 }
 
 // The first so many rules.
-fn write_rules(rules: [Rule; 200], count: usize, out: &mut [u8], at: usize) -> usize
-    requires { ⌜ (count ≤ 200) × (at + length (spellRules (take count rules)) ≤ length (now out)) ⌝ }
+fn write_rules(rules: [Rule; MOST_RULES], count: usize, out: &mut [u8], at: usize) -> usize
+    requires { ⌜ (count ≤ mostRules) × (at + length (spellRules (take count rules)) ≤ length (now out)) ⌝ }
     ensures { λ r. ⌜ Wrote (now (out .entry)) at (spellRules (take count rules)) r (now (out .exit)) ⌝ }
 {
     let mut next = at;
@@ -91,7 +94,8 @@ fn write_rules(rules: [Rule; 200], count: usize, out: &mut [u8], at: usize) -> u
 
 // The colours of both lists, in one list after their count, at the front of the slice.
 fn write_colours(first: &[u8], c: Colours, second: &[u8], more: Colours, out: &mut [u8]) -> usize
-    requires { ⌜ (c .count ≤ 64) × (more .count ≤ 64) × (length (spellColours (bothNames (now first) c (now second) more)) ≤ length (now out)) ⌝ }
+    requires { ⌜ (c .count ≤ mostColours) × (more .count ≤ mostColours)
+        × (length (spellColours (bothNames (now first) c (now second) more)) ≤ length (now out)) ⌝ }
     ensures { λ r. ⌜ Wrote (now (out .entry)) 0 (spellColours (bothNames (now (first .entry)) c (now (second .entry)) more)) r (now (out .exit)) ⌝ }
 {
     let at = number::write_number(out, 0, c.count + more.count);
@@ -125,16 +129,16 @@ fn write_whole(first: &[u8], second: &[u8], d: Draft, out: &mut [u8]) -> Written
 }
 
 // Whether so many colours, more colours and rules are within their arrays. An array that is handed over by itself is known to have its length.
-fn few(own: usize, more: usize, count: usize, rules: [Rule; 200]) -> bool
-    ensures { λ r. ⌜ (r ≡ few? own more count) × (length rules ≡ 200) ⌝ }
+fn counts_fit(own: usize, more: usize, count: usize, rules: [Rule; MOST_RULES]) -> bool
+    ensures { λ r. ⌜ (r ≡ countsFit? own more count) × (length rules ≡ mostRules) ⌝ }
 {
-    if 64 < own {
+    if MOST_COLOURS < own {
         return false;
     }
-    if 64 < more {
+    if MOST_COLOURS < more {
         return false;
     }
-    count <= 200
+    count <= MOST_RULES
 }
 
 // The same for every draft: one with a count past its array is answered 12, and nothing is written.
@@ -145,7 +149,7 @@ pub fn write_book(first: &[u8], second: &[u8], d: Draft, out: &mut [u8]) -> Writ
     let c = f.colours;
     let more = d.more;
     let rules = f.rules;
-    if few(c.count, more.count, f.count, rules) {
+    if counts_fit(c.count, more.count, f.count, rules) {
         write_whole(first, second, d, out)
     } else {
         Written {

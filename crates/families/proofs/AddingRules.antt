@@ -2,16 +2,19 @@
 -- those that stood before.
 use Prim.Native.Nat.{ℕ, suc, _+_, _≤_, _<_}
 use mathlib.Core.Path.{_≡_, refl, sym, _∙_, ap}
+use mathlib.Core.Bool.{Bool}
 use mathlib.Core.List.{List, [], _∷_, _++_, map, List·Memᴰ, Memᴰ·cast}
 use native.Mathlib.Omega.{arith}
 use native.Mathlib.Numerals.{add-one}
-use borrow.Author.Tests.{eq-eqb, ne-eqb}
+use lib.Dec.{eqb}
 use lib.ListN.{length, getD, take, drop, set, length-append, length-map, drop-of-length-le}
 use lib.Seq.{sets, sets-eq, length-sets, length-take-le, take-at, drop-cons, getD-take}
+use Rattle.names.specs.Pick.{pick}
 use Rattle.names.proofs.Listing.{getD-mem}
+use Rattle.books.specs.Keeps.{mostRules}
+use Rattle.books.specs.Rules.{noRule}
 use Rattle.books.specs.declared.family.Family.{Family}
 use Rattle.books.specs.declared.rule.Rule.{Rule}
-use Rattle.books.specs.declared.rule.Body.the-variants.{Colour}
 use Rattle.families.specs.Combine.{copies}
 use Rattle.families.specs.inner.Counts.{headed}
 use Rattle.families.specs.inner.Gathered.{standing, followed, raisedBy, changed, Rows}
@@ -20,15 +23,12 @@ use Rattle.families.specs.inner.Combined.{addedBy}
 use Rattle.families.specs.declared.asked.Pairing.{Pairing}
 use Rattle.families.specs.declared.asked.Pairing.the-variants.{EitherOf, Joined}
 use Rattle.families.specs.declared.gathering.Rules.{Rules}
-use Rattle.families.proofs.Copying.{copies-taken, copies-left, copies-raised}
+use Rattle.families.proofs.Copying.{copies-next, copies-raised}
 use Rattle.families.proofs.Counting.{copies-length, headed-few}
 
--- the rule at a place, and what a place past the last one has
-abbrev noRule : Rule
-noRule = record { head = 0; body = Colour 0 }
-
-abbrev pub ruleAt : Rules → ℕ → Rule
-ruleAt k i = getD (k .rules) i noRule
+-- the rule on a place of the row
+abbrev pub ruleOn : Rules → ℕ → Rule
+ruleOn k i = getD (k .rules) i noRule
 
 pub next-place : (at i : ℕ) → at + (i + 1) ≡ at + i + 1
 next-place at i = omega arith
@@ -46,44 +46,37 @@ module _ (k : Rules) (rows : Rows k) where
   standing-length = length-take-le (k .count) (k .rules) (omega (arith, rows .few, rows .places-all))
 
   -- one rule less is left
-  pub left-next : (i : ℕ) → i < k .count → drop i (standing k) ≡ ruleAt k i ∷ drop (i + 1) (standing k)
+  pub left-next : (i : ℕ) → i < k .count → drop i (standing k) ≡ ruleOn k i ∷ drop (i + 1) (standing k)
   left-next i h =
       drop-cons (standing k) i noRule (omega (arith, standing-length))
       ∙ ap (λ (r : Rule). r ∷ drop (suc i) (standing k)) (getD-take (k .count) (k .rules) i noRule h)
-      ∙ ap (λ (n : ℕ). ruleAt k i ∷ drop n (standing k)) (sym (add-one i))
+      ∙ ap (λ (n : ℕ). ruleOn k i ∷ drop n (standing k)) (sym (add-one i))
 
   pub left-none : (i : ℕ) → k .count ≤ i → drop i (standing k) ≡ []
   left-none i h = drop-of-length-le (standing k) {i = i} (omega (arith, standing-length))
 
   -- one rule less is left to be changed
   pub change-next : (t : Rule → Rule) (rules : List Rule) (i : ℕ) → i < k .count
-      → sets (set rules i (t (ruleAt k i))) (i + 1) (map t (drop (i + 1) (standing k))) ≡ sets rules i (map t (drop i (standing k)))
+      → sets (set rules i (t (ruleOn k i))) (i + 1) (map t (drop (i + 1) (standing k))) ≡ sets rules i (map t (drop i (standing k)))
   change-next t rules i h =
-      one-written rules i (t (ruleAt k i)) (map t (drop (i + 1) (standing k)))
+      one-written rules i (t (ruleOn k i)) (map t (drop (i + 1) (standing k)))
       ∙ ap (λ (l : List Rule). sets rules i (map t l)) (sym (left-next i h))
 
   pub change-none : (t : Rule → Rule) (rules : List Rule) (i : ℕ) → k .count ≤ i → sets rules i (map t (drop i (standing k))) ≡ rules
   change-none t rules i h = ap (λ (l : List Rule). sets rules i (map t l)) (left-none i h)
 
-  pub rule-stands : (i : ℕ) → i < k .count → List·Memᴰ (ruleAt k i) (standing k)
+  pub rule-stands : (i : ℕ) → i < k .count → List·Memᴰ (ruleOn k i) (standing k)
   rule-stands i h = Memᴰ·cast (sym (getD-take (k .count) (k .rules) i noRule h)) (getD-mem (standing k) i noRule (omega (arith, standing-length)))
 
-  -- the next rule has the head, and is counted and copied, or it has another
-  module _ (s : ℕ) (i : ℕ) (h : i < k .count) where
-    pub headed-here : (ruleAt k i) .head ≡ s → headed s (drop i (standing k)) ≡ suc (headed s (drop (i + 1) (standing k)))
+  -- the head of the next rule decides whether it is counted and copied
+  module _ (s : ℕ) (i : ℕ) (h : i < k .count) {t : Bool} (test : eqb (ruleOn k i .head) s ≡ t) where
+    pub headed-next : headed s (drop i (standing k)) ≡ pick t (suc (headed s (drop (i + 1) (standing k)))) (headed s (drop (i + 1) (standing k)))
     unfolding headed
-    headed-here e = ap (headed s) (left-next i h) ∙ simp (eq-eqb _ _ e)
+    headed-next = ap (headed s) (left-next i h) ∙ simp test
 
-    pub headed-elsewhere : ((ruleAt k i) .head ≡ s → ⊥) → headed s (drop i (standing k)) ≡ headed s (drop (i + 1) (standing k))
-    unfolding headed
-    headed-elsewhere e = ap (headed s) (left-next i h) ∙ simp (ne-eqb _ _ e)
-
-    pub copies-here : (n : ℕ) → (ruleAt k i) .head ≡ s
-        → copies n s (drop i (standing k)) ≡ record { head = n; body = (ruleAt k i) .body } ∷ copies n s (drop (i + 1) (standing k))
-    copies-here n e = ap (copies n s) (left-next i h) ∙ copies-taken n s _ _ (eq-eqb _ _ e)
-
-    pub copies-elsewhere : (n : ℕ) → ((ruleAt k i) .head ≡ s → ⊥) → copies n s (drop i (standing k)) ≡ copies n s (drop (i + 1) (standing k))
-    copies-elsewhere n e = ap (copies n s) (left-next i h) ∙ copies-left n s _ _ (ne-eqb _ _ e)
+    pub copied-next : (n : ℕ) → copies n s (drop i (standing k))
+        ≡ pick t (record { head = n; body = ruleOn k i .body } ∷ copies n s (drop (i + 1) (standing k))) (copies n s (drop (i + 1) (standing k)))
+    copied-next n = ap (copies n s) (left-next i h) ∙ copies-next n s _ _ test
 
 -- Rules that stand in a list, in its row of places.
 pub record Stands (l : Rules) (xs : List Rule) : Type 0 where
@@ -95,10 +88,10 @@ module _ (l : Rules) (xs : List Rule) (st : Stands l xs) where
   stands-count = sym (standing-length l (st .rows)) ∙ ap length (st .are)
 
   -- what was added stands after what stood before
-  pub followed-stands : (ys : List Rule) → length xs + length ys ≤ 200 → Stands (followed l ys) (xs ++ ys)
+  pub followed-stands : (ys : List Rule) → length xs + length ys ≤ mostRules → Stands (followed l ys) (xs ++ ys)
   followed-stands ys room =
       let places = st .rows .places-all in
-      let fits : l .count + length ys ≤ 200 = omega (arith, stands-count) in
+      let fits : l .count + length ys ≤ mostRules = omega (arith, stands-count) in
       let before : length (standing l ++ ys) ≡ l .count + length ys =
       length-append (standing l) ys ∙ ap (λ (n : ℕ). n + length ys) (standing-length l (st .rows)) in
       record {
@@ -139,11 +132,11 @@ headed-raised k rows by s numbers =
     ∙ copies-length 0 s (standing k)
 
 -- No more rules are copied from a start than the family has.
-pub copied-few : (f : Family) → Sized f → headed (f .start) (standing (rulesOf f)) ≤ 200
+pub copied-few : (f : Family) → Sized f → headed (f .start) (standing (rulesOf f)) ≤ mostRules
 copied-few f sized =
     let few = headed-few (f .start) (standing (rulesOf f)) in
     omega (arith, sized .rows .few, standing-length (rulesOf f) (sized .rows))
 
-pub added-few : (p : Pairing) (f g : Family) → Sized f → Sized g → addedBy p f g ≤ 400
+pub added-few : (p : Pairing) (f g : Family) → Sized f → Sized g → addedBy p f g ≤ mostRules + mostRules
 added-few EitherOf f g sf sg = omega (arith, copied-few f sf, copied-few g sg)
 added-few (Joined way) f g sf sg = omega arith

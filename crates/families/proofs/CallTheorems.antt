@@ -1,19 +1,17 @@
 -- What each of the eight calls makes, from the bytes of the lent books to the bytes written: where it answers 0, so many bytes of the slice are a book that holds
 -- exactly what the combination of the lent books should hold. Its contents are the combination's, and its spelling is read back.
 use Prim.Native.Nat.{ℕ, _≤_}
-use mathlib.Core.Path.{_≡_, sym, _∙_, ap, subst}
+use mathlib.Core.Path.{_≡_, sym, _∙_, ap, subst⁻¹}
 use mathlib.Core.List.{List}
 use mathlib.Core.Logic.{_↔_, _⊎_}
 use lib.ListN.{length, take}
-use Rattle.names.specs.declared.number.Fault.{Fault}
-use Rattle.names.proofs.SpellingNumbers.{Bytes}
+use Rattle.names.specs.Bytes.{Bytes}
 use Rattle.books.specs.Contents.{Contents}
 use Rattle.books.specs.Derives.{Member}
 use Rattle.books.specs.Keeps.{Sound, Keeps}
 use Rattle.books.specs.Picture.{Picture}
 use Rattle.books.specs.declared.rule.Dir.the-variants.{Across as across, Down as down}
 use Rattle.books.specs.SpellBook.{spellBook}
-use Rattle.books.proofs.ReadingBooks.{BookSpelled, book-accepted}
 use Rattle.books.proofs.LongestBook.{spelling-bytes}
 use Rattle.families.specs.Joined.{Both, Run}
 use Rattle.families.specs.Images.{reversed, transpose, Image}
@@ -22,12 +20,13 @@ use Rattle.families.specs.Outcome.{Outcome, made, onOne, onSecond, onTwo
 use Rattle.books.specs.Lent.{contentsOf}
 use Rattle.families.specs.NewBook.{IsBook, Held, NewBook}
 use Rattle.families.specs.Answers.{answerOf, countOf}
-use Rattle.families.proofs.Keeping.{KeptTwo, KeptOne, joined-keeps, either-of-keeps, repeated-keeps, transposed-keeps, swapping-keeps, keeps-within}
-use Rattle.families.proofs.Outcomes.{lent-went}
+use Rattle.families.specs.declared.asked.Change.the-variants.{Mirrored, Flipped, Transposed}
+use Rattle.families.proofs.Keeping.{KeptTwo, KeptOne, joined-keeps, either-of-keeps, repeated-keeps, changed-keeps, keeps-within}
+use Rattle.families.proofs.Outcomes.{lent-ends, accepted-spelled}
 use Rattle.families.proofs.ReadingOff.{one-read, two-read}
 use Rattle.families.proofs.Refusing.{one-verdict}
-use Rattle.families.proofs.NewBooks.{Spelled, spelled-accepted, spelled-contents, new-book, zero-is, made-spelled}
-use Rattle.families.proofs.Lengths.{swapping-as-long, transposed-as-long}
+use Rattle.families.proofs.NewBooks.{Spelled, spelled-accepted, spelled-contents, new-book, made-spelled}
+use Rattle.families.proofs.Lengths.{changed-as-long}
 use Rattle.families.proofs.Theorems.{either-of-holds, beside-holds, above-holds, run-holds, stack-holds, mirrored-holds, flipped-holds, transposed-holds}
 use Rattle.families.proofs.Theorems.{mirrored-again, flipped-again, transposed-again}
 
@@ -51,27 +50,27 @@ GivesBack op = (book out left out′ left′ : List ℕ) (r r′ : ℕ) → Byte
 -- Two lent books.
 two-new : (op : Contents → Contents → Contents) (X : (Picture → Type 0) → (Picture → Type 0) → Picture → Type 0) → KeptTwo op
     → ((f g : Contents) → Sound f → Sound g → (p : Picture) → Member (op f g) p ↔ X (Member f) (Member g) p) → HoldsTwo op X
-two-new op X keeps holds first second out left r bf bs leaves z =
-    let o : Outcome = onTwo op first second out in
-    let read = two-read op keeps first second out left r bf bs leaves in
-    let zero = zero-is o left r read z in
-    let (zf, ef) = lent-went 1 first out (λ f. onSecond (op f) second out) zero in
-    let (zs, es) = lent-went 2 second out (λ g. made (op (contentsOf first) g) out) (sym (ap (λ (p : Outcome). p .answer .number) ef) ∙ zero) in
-    let kf = book-accepted first bf zf .keeps in
-    let ks = book-accepted second bs zs .keeps in
-    new-book (op (contentsOf first) (contentsOf second)) (X (Held first) (Held second)) out left (countOf r)
-    (holds (contentsOf first) (contentsOf second) (kf .sound) (ks .sound))
-    (made-spelled (op (contentsOf first) (contentsOf second)) out o left r (keeps (contentsOf first) (contentsOf second) kf ks) (ef ∙ es) read z)
+two-new op X keeps holds first second out left r bf bs leaves =
+    let New : Outcome → Type 0 = λ o. o .answer .number ≡ 0 → NewBook out (o .out) (o .count) (X (Held first) (Held second)) in
+    subst⁻¹ New (two-read op keeps first second out left r bf bs leaves)
+    (lent-ends New out 1 first (λ f. onSecond (op f) second out)
+    (λ a. lent-ends New out 2 second (λ g. made (op (contentsOf first) g) out)
+    (λ b z.
+    let k = accepted-spelled first bf a .keeps in
+    let l = accepted-spelled second bs b .keeps in
+    new-book _ _ out _ _ (holds _ _ (k .sound) (l .sound)) (made-spelled _ out (keeps _ _ k l) z))
+    (λ some z. absurd (some z)))
+    (λ some z. absurd (some z)))
 
 -- One lent book: it was accepted, and that of the combination is written.
 one-spelled : (op : Contents → Contents) → KeptOne op → (book out left : List ℕ) (r : ℕ) → Bytes book → Leaves (onOne op book out) r left → answerOf r .number ≡ 0
     → Keeps (contentsOf book) × Spelled (op (contentsOf book)) out left (countOf r)
-one-spelled op keeps book out left r bytes leaves z =
-    let o : Outcome = onOne op book out in
-    let read = one-read op keeps book out left r bytes leaves in
-    let (zb, eb) = lent-went 1 book out (λ f. made (op f) out) (zero-is o left r read z) in
-    let k = book-accepted book bytes zb .keeps in
-    (k, made-spelled (op (contentsOf book)) out o left r (keeps (contentsOf book) k) eb read z)
+one-spelled op keeps book out left r bytes leaves =
+    let Spells : Outcome → Type 0 = λ o. o .answer .number ≡ 0 → Keeps (contentsOf book) × Spelled (op (contentsOf book)) out (o .out) (o .count) in
+    subst⁻¹ Spells (one-read op keeps book out left r bytes leaves)
+    (lent-ends Spells out 1 book (λ f. made (op f) out)
+    (λ a z. let k = accepted-spelled book bytes a .keeps in (k, made-spelled _ out (keeps _ k) z))
+    (λ some z. absurd (some z)))
 
 one-new : (op : Contents → Contents) (X : (Picture → Type 0) → Picture → Type 0) → KeptOne op
     → ((f : Contents) → Sound f → (p : Picture) → Member (op f) p ↔ X (Member f) p) → HoldsOne op X
@@ -85,17 +84,14 @@ module _ (op : Contents → Contents) (keeps : (f : Contents) → Keeps f → Ke
   kept : KeptOne op
   kept f k _ = keeps f k
 
-  spelled : (book : List ℕ) → Bytes book → IsBook book → BookSpelled book (contentsOf book)
-  spelled book bytes accepted = book-accepted book bytes (ap (λ (f : Fault). f .number) accepted)
-
   changed-length : (book : List ℕ) → Bytes book → IsBook book → length (spellBook (op (contentsOf book))) ≡ length book
-  changed-length book bytes accepted = as-long (contentsOf book) ∙ sym (ap length (spelled book bytes accepted .spelled))
+  changed-length book bytes accepted = as-long (contentsOf book) ∙ sym (ap length (accepted-spelled book bytes accepted .spelled))
 
   -- a slice as long as the book has room
   one-zero : (book out left : List ℕ) (r : ℕ) → Bytes book → IsBook book → length book ≤ length out → Leaves (onOne op book out) r left → answerOf r .number ≡ 0
   one-zero book out left r bytes accepted room leaves =
       one-verdict op kept book out left r bytes accepted leaves .zero .1
-      (keeps-within _ (keeps _ (spelled book bytes accepted .keeps)), rw (changed-length book bytes accepted) room)
+      (keeps-within _ (keeps _ (accepted-spelled book bytes accepted .keeps)), rw (changed-length book bytes accepted) room)
 
   given-back : GivesBack op
   given-back book out left out′ left′ r r′ bytes accepted room leaves room′ leaves′ =
@@ -103,13 +99,13 @@ module _ (op : Contents → Contents) (keeps : (f : Contents) → Keeps f → Ke
       let new : List ℕ = take (countOf r) left in
       let z = one-zero book out left r bytes accepted room leaves in
       let (_, w) = one-spelled op kept book out left r bytes leaves z in
-      let new-bytes : Bytes new = subst Bytes (sym (w .front)) (spelling-bytes c (w .keeps)) in
+      let new-bytes : Bytes new = subst⁻¹ Bytes (w .front) (spelling-bytes c (w .keeps)) in
       let new-accepted : IsBook new = spelled-accepted c new (w .keeps) (w .front) in
       let size : length new ≡ length book = ap length (w .front) ∙ changed-length book bytes accepted in
       let z′ = one-zero new out′ left′ r′ new-bytes new-accepted (rw size room′) leaves′ in
       let (_, w′) = one-spelled op kept new out′ left′ r′ new-bytes leaves′ z′ in
       let back : op (contentsOf new) ≡ contentsOf book = ap op (spelled-contents c new (w .keeps) (w .front)) ∙ again (contentsOf book) in
-      (z, z′, w′ .front ∙ (ap spellBook back ∙ sym (spelled book bytes accepted .spelled)))
+      (z, z′, w′ .front ∙ (ap spellBook back ∙ sym (accepted-spelled book bytes accepted .spelled)))
 
 -- Either-of: what the first book or the second holds.
 pub dv-either-of-holds : HoldsTwo either-of (λ F G p. F p ⊎ G p)
@@ -133,20 +129,20 @@ dv-stack-holds = one-new stack (Run down) (repeated-keeps down) stack-holds
 
 -- Mirrored, flipped, transposed: the images of the book's pictures.
 pub dv-mirrored-holds : HoldsOne mirrored (Image (reversed across))
-dv-mirrored-holds = one-new mirrored (Image (reversed across)) (λ f k _. swapping-keeps across f k) (λ f _. mirrored-holds f)
+dv-mirrored-holds = one-new mirrored (Image (reversed across)) (λ f k _. changed-keeps Mirrored f k) (λ f _. mirrored-holds f)
 
 pub dv-flipped-holds : HoldsOne flipped (Image (reversed down))
-dv-flipped-holds = one-new flipped (Image (reversed down)) (λ f k _. swapping-keeps down f k) (λ f _. flipped-holds f)
+dv-flipped-holds = one-new flipped (Image (reversed down)) (λ f k _. changed-keeps Flipped f k) (λ f _. flipped-holds f)
 
 pub dv-transposed-holds : HoldsOne transposed (Image transpose)
-dv-transposed-holds = one-new transposed (Image transpose) (λ f k _. transposed-keeps f k) (λ f _. transposed-holds f)
+dv-transposed-holds = one-new transposed (Image transpose) (λ f k _. changed-keeps Transposed f k) (λ f _. transposed-holds f)
 
 -- Each of these twice, with room both times, gives the lent book back byte for byte.
 pub dv-mirrored-again : GivesBack mirrored
-dv-mirrored-again = given-back mirrored (swapping-keeps across) mirrored-again (swapping-as-long across)
+dv-mirrored-again = given-back mirrored (changed-keeps Mirrored) mirrored-again (changed-as-long Mirrored)
 
 pub dv-flipped-again : GivesBack flipped
-dv-flipped-again = given-back flipped (swapping-keeps down) flipped-again (swapping-as-long down)
+dv-flipped-again = given-back flipped (changed-keeps Flipped) flipped-again (changed-as-long Flipped)
 
 pub dv-transposed-again : GivesBack transposed
-dv-transposed-again = given-back transposed transposed-keeps transposed-again transposed-as-long
+dv-transposed-again = given-back transposed (changed-keeps Transposed) transposed-again (changed-as-long Transposed)

@@ -1,13 +1,11 @@
 -- Copies have the new head, and exactly the bodies of the rules with the old one: each rule is copied where its head is the old, and left out elsewhere.
-use Prim.Native.Nat.{ℕ, suc, _+_, _<_}
+use Prim.Native.Nat.{ℕ, _+_}
 use mathlib.Core.Path.{_≡_, refl, sym, _∙_, ap}
 use mathlib.Core.Bool.{Bool, true, false}
-use mathlib.Core.List.{List, [], _∷_, _++_, append-nil, map, List·Memᴰ, List·Memᴰ·head, List·Memᴰ·tail, List·Memᴰ·cases-cons, List·Memᴰ·not-nil}
+use mathlib.Core.List.{List, [], _∷_, map, List·Memᴰ, List·Memᴰ·head, List·Memᴰ·tail, List·Memᴰ·cases-cons, List·Memᴰ·not-nil}
 use mathlib.Core.Logic.{⊎-elim}
 use native.Mathlib.Omega.{arith}
 use lib.Dec.{eqb}
-use lib.ListN.{length, getD, take}
-use lib.Seq.{take-suc}
 use borrow.Author.Tests.{eqb-true, eqb-false, eq-eqb, ne-eqb}
 use Rattle.names.specs.Pick.{pick}
 use Rattle.names.proofs.Picking.{pick-ind}
@@ -44,39 +42,11 @@ copies-back n s a x (r ∷ rs) =
     (List·Memᴰ·cases-cons m))
     (λ e m. let (h, v) = copies-back n s a x rs m in (h, List·Memᴰ·tail v))
 
--- The first rule is copied or left out.
-pub copies-taken : (n s : ℕ) (r : Rule) (rs : List Rule) → eqb (r .head) s ≡ true
-    → copies n s (r ∷ rs) ≡ record { head = n; body = r .body } ∷ copies n s rs
+-- The head of the first rule decides whether it is copied.
+pub copies-next : (n s : ℕ) (r : Rule) (rs : List Rule) {t : Bool} → eqb (r .head) s ≡ t
+    → copies n s (r ∷ rs) ≡ pick t (record { head = n; body = r .body } ∷ copies n s rs) (copies n s rs)
 unfolding copies
-copies-taken n s r rs e = ap (λ (t : Bool). pick t (record { head = n; body = r .body } ∷ copies n s rs) (copies n s rs)) e
-
-pub copies-left : (n s : ℕ) (r : Rule) (rs : List Rule) → eqb (r .head) s ≡ false → copies n s (r ∷ rs) ≡ copies n s rs
-unfolding copies
-copies-left n s r rs e = ap (λ (t : Bool). pick t (record { head = n; body = r .body } ∷ copies n s rs) (copies n s rs)) e
-
-pub copies-append : (n s : ℕ) (xs ys : List Rule) → copies n s (xs ++ ys) ≡ copies n s xs ++ copies n s ys
-copies-append n s [] ys = unfold copies in refl
-copies-append n s (r ∷ xs) ys =
-    ⊎-elim
-    (λ e. copies-taken n s r (xs ++ ys) e
-    ∙ ap (λ (l : List Rule). record { head = n; body = r .body } ∷ l) (copies-append n s xs ys)
-    ∙ sym (ap (λ (l : List Rule). l ++ copies n s ys) (copies-taken n s r xs e)))
-    (λ e. copies-left n s r (xs ++ ys) e ∙ copies-append n s xs ys ∙ sym (ap (λ (l : List Rule). l ++ copies n s ys) (copies-left n s r xs e)))
-    (true-or-false (eqb (r .head) s))
-
--- One rule more, as they are copied in order.
-module _ (n s : ℕ) (rs : List Rule) (i : ℕ) (d : Rule) (h : i < length rs) where
-  more : copies n s (take (suc i) rs) ≡ copies n s (take i rs) ++ copies n s (getD rs i d ∷ [])
-  more = ap (copies n s) (take-suc rs i d h) ∙ copies-append n s (take i rs) (getD rs i d ∷ [])
-
-  pub copies-more : eqb ((getD rs i d) .head) s ≡ true
-      → copies n s (take (suc i) rs) ≡ copies n s (take i rs) ++ (record { head = n; body = (getD rs i d) .body } ∷ [])
-  unfolding copies
-  copies-more e = more ∙ ap (λ (l : List Rule). copies n s (take i rs) ++ l) (copies-taken n s (getD rs i d) [] e)
-
-  pub copies-same : eqb ((getD rs i d) .head) s ≡ false → copies n s (take (suc i) rs) ≡ copies n s (take i rs)
-  unfolding copies
-  copies-same e = more ∙ ap (λ (l : List Rule). copies n s (take i rs) ++ l) (copies-left n s (getD rs i d) [] e) ∙ append-nil _
+copies-next n s r rs e = ap (λ (t : Bool). pick t (record { head = n; body = r .body } ∷ copies n s rs) (copies n s rs)) e
 
 -- Copies of raised rules are the copies, raised: all heads are raised alike.
 raised-test : (m a s : ℕ) → eqb (m + a) (m + s) ≡ eqb a s
@@ -90,12 +60,10 @@ pub copies-raised : (n m s : ℕ) (c : ℕ → ℕ) (rs : List Rule) → copies 
     ≡ map (λ (r : Rule). record { head = n; body = moved (λ a. m + a) c (r .body) }) (copies n s rs)
 copies-raised n m s c [] = unfold copies in refl
 copies-raised n m s c (r ∷ rs) =
-    let up : Rule → Rule = λ (q : Rule). record { head = n; body = moved (λ a. m + a) c (q .body) } in
+    let rest = copies-raised n m s c rs in
+    let test = raised-test m (r .head) s in
+    let up : Rule → Rule = movedRule (λ a. m + a) c in
     ⊎-elim
-    (λ e. copies-taken n (m + s) _ _ (raised-test m (r .head) s ∙ e)
-    ∙ ap (λ (l : List Rule). up r ∷ l) (copies-raised n m s c rs)
-    ∙ sym (ap (map up) (copies-taken n s r rs e)))
-    (λ e. copies-left n (m + s) _ _ (raised-test m (r .head) s ∙ e)
-    ∙ copies-raised n m s c rs
-    ∙ sym (ap (map up) (copies-left n s r rs e)))
+    (λ (e : eqb (r .head) s ≡ true). simp (copies-next n (m + s) (up r) (map up rs) (test ∙ e), copies-next n s r rs e, rest))
+    (λ (e : eqb (r .head) s ≡ false). simp (copies-next n (m + s) (up r) (map up rs) (test ∙ e), copies-next n s r rs e, rest))
     (true-or-false (eqb (r .head) s))

@@ -12,6 +12,7 @@ use Rattle.names.specs.declared.colours.Colours.{Colours}
 use Rattle.names.proofs.ReadingColours.{names-count}
 use Rattle.books.specs.Contents.{Contents}
 use Rattle.books.specs.ContentsIn.{contentsIn}
+use Rattle.books.specs.Keeps.{mostRules}
 use Rattle.books.specs.Picture.{joins}
 use Rattle.books.specs.declared.rule.Dir.{Dir}
 use Rattle.books.specs.declared.family.Family.{Family}
@@ -21,17 +22,17 @@ use Rattle.families.specs.Combine.{copies, repeated, rebodied}
 use Rattle.families.specs.inner.Counts.{headed}
 use Rattle.families.specs.inner.Gathered.{standing, followed, changed, Rows}
 use Rattle.families.specs.inner.Lent.{rulesOf, Sized}
-use Rattle.families.specs.Within.{few?, within?}
+use Rattle.families.specs.Limits.{countsWithin?, withinLimits?}
 use Rattle.families.specs.inner.Combined.{repeatedRules}
 use Rattle.families.specs.inner.Made.{draftedAs, tooMuch, Makes}
 use Rattle.families.specs.declared.gathering.Rules.{Rules}
 use Rattle.families.proofs.Counting.{copies-length, repeated-length, rebodied-length}
 use Rattle.families.proofs.Testing.{within-limits, within-counts}
-use Rattle.families.proofs.AddingRules.{Stands, stands-count, followed-stands, changed-stands}
+use Rattle.families.proofs.AddingRules.{Stands, standing-length, followed-stands, changed-stands}
 
 -- Contents that are within the limits are drafted, and others are told.
 pub drafted-makes : (s t : List ℕ) (f : Family) (more : Colours) (l : Rules) (c : Contents) → Sized f → more .count ≤ mostColours → Rows l
-    → namesIn s (f .colours) ++ namesIn t more ≡ c .colours → standing l ≡ c .rules → within? c ≡ true
+    → namesIn s (f .colours) ++ namesIn t more ≡ c .colours → standing l ≡ c .rules → withinLimits? c ≡ true
     → Makes s t c (draftedAs f more (c .motifs) (c .start) l)
 drafted-makes s t f more l c sized few rows colours rules small =
     record {
@@ -40,7 +41,7 @@ drafted-makes s t f more l c sized few rows colours rules small =
       ready = record { colours-few = sized .colours-few; more-few = few; rules-few = rows .few; rules-all = rows .places-all };
     }
 
-pub exceeding-makes : (s t : List ℕ) (f : Family) (c : Contents) → Sized f → within? c ≡ false → Makes s t c (tooMuch f)
+pub exceeding-makes : (s t : List ℕ) (f : Family) (c : Contents) → Sized f → withinLimits? c ≡ false → Makes s t c (tooMuch f)
 exceeding-makes s t f c sized much =
     record {
       tested = sym much;
@@ -48,15 +49,17 @@ exceeding-makes s t f c sized much =
       ready = record { colours-few = sized .colours-few; more-few = omega arith; rules-few = sized .rows .few; rules-all = sized .rows .places-all };
     }
 
+-- A family's own rules stand in its row.
+module _ (s : List ℕ) (f : Family) (sized : Sized f) where
+  pub own-stand : Stands (rulesOf f) (contentsIn s f .rules)
+  own-stand = record { rows = sized .rows; are = refl }
+
+  pub own-count : length (contentsIn s f .rules) ≡ f .count
+  own-count = standing-length (rulesOf f) (sized .rows)
+
 module _ (s t : List ℕ) (f : Family) (sized : Sized f) where
   abbrev book : Contents
   book = contentsIn s f
-
-  own-stand : Stands (rulesOf f) (book .rules)
-  own-stand = record { rows = sized .rows; are = refl }
-
-  own-count : length (book .rules) ≡ f .count
-  own-count = sym (stands-count (rulesOf f) (book .rules) own-stand)
 
   -- Run and stack.
   module _ (d : Dir) where
@@ -66,19 +69,19 @@ module _ (s t : List ℕ) (f : Family) (sized : Sized f) where
     abbrev ownCopies : List Rule
     ownCopies = copies (f .motifs) (f .start) (book .rules)
 
-    pub repeated-test : within? (repeated d book) ≡ few? (f .colours .count) (f .motifs + 1) (f .count + headed (f .start) (book .rules) + 1)
+    pub repeated-test : withinLimits? (repeated d book) ≡ countsWithin? (f .colours .count) (f .motifs + 1) (f .count + headed (f .start) (book .rules) + 1)
     unfolding repeated
     repeated-test =
-        let rules : length (repeated d book .rules) ≡ f .count + headed (f .start) (book .rules) + 1 = repeated-length d book ∙ omega (arith, own-count) in
+        let rules : length (repeated d book .rules) ≡ f .count + headed (f .start) (book .rules) + 1 = repeated-length d book ∙ omega (arith, own-count s f sized) in
         within-counts (repeated d book) _ _ _ (names-count s (f .colours)) refl rules
 
-    pub repeated-makes : f .count + headed (f .start) (book .rules) + 1 ≤ 200 → within? (repeated d book) ≡ true
+    pub repeated-makes : f .count + headed (f .start) (book .rules) + 1 ≤ mostRules → withinLimits? (repeated d book) ≡ true
         → Makes s t (repeated d book) (draftedAs f noColours (f .motifs + 1) (f .motifs) (repeatedRules d f (f .motifs)))
     unfolding repeated repeatedRules
     repeated-makes room small =
         let copied = copies-length (f .motifs) (f .start) (book .rules) in
-        let longer = followed-stands (rulesOf f) (book .rules) own-stand ownCopies (omega (arith, own-count)) in
-        let last : length (book .rules ++ ownCopies) + 1 ≤ 200 = omega (arith, length-append (book .rules) ownCopies, own-count) in
+        let longer = followed-stands (rulesOf f) (book .rules) (own-stand s f sized) ownCopies (omega (arith, own-count s f sized)) in
+        let last : length (book .rules ++ ownCopies) + 1 ≤ mostRules = omega (arith, length-append (book .rules) ownCopies, own-count s f sized) in
         let st = followed-stands (followed (rulesOf f) ownCopies) (book .rules ++ ownCopies) longer (newRule ∷ []) last in
         drafted-makes s t f noColours _ (repeated d book) sized (omega arith) (st .rows)
         (append-nil (book .colours))
@@ -87,16 +90,16 @@ module _ (s t : List ℕ) (f : Family) (sized : Sized f) where
 
   -- Mirrored, flipped, transposed.
   module _ (x : Body → Body) where
-    rebodied-within : within? (rebodied x book) ≡ true
+    rebodied-within : withinLimits? (rebodied x book) ≡ true
     rebodied-within =
         within-limits (rebodied x book) .1
         (record {
           colours-few = omega (arith, names-count s (f .colours), sized .colours-few);
           motifs-few = sized .motifs-few;
-          rules-few = omega (arith, rebodied-length x book, own-count, sized .rows .few);
+          rules-few = omega (arith, rebodied-length x book, own-count s f sized, sized .rows .few);
         })
 
     pub rebodied-makes : Makes s t (rebodied x book) (draftedAs f noColours (f .motifs) (f .start) (changed (λ (r : Rule). record { head = r .head; body = x (r .body) }) (rulesOf f)))
     rebodied-makes =
-        let st = changed-stands (rulesOf f) (book .rules) own-stand (λ (r : Rule). record { head = r .head; body = x (r .body) }) in
+        let st = changed-stands (rulesOf f) (book .rules) (own-stand s f sized) (λ (r : Rule). record { head = r .head; body = x (r .body) }) in
         drafted-makes s t f noColours _ (rebodied x book) sized (omega arith) (st .rows) (append-nil (book .colours)) (st .are) rebodied-within

@@ -16,7 +16,10 @@ use Rattle.books.specs.declared.rule.Rule.{Rule}
 use Rattle.books.specs.declared.rule.Body.{Body}
 use Rattle.books.specs.declared.rule.Body.the-variants.{Colour, Across, Down}
 use Rattle.families.specs.Merged.{merged}
-use Rattle.families.specs.Combine.{moved, movedRule, renumbered, raised, copies, either-of, joined, repeated, rebodied, turned, swapped, transposed, swapping}
+use Rattle.families.specs.Combine.{moved, movedRule, renumbered, raised, copies, bothBooks, either-of, joined, repeated, rebodied}
+use Rattle.families.specs.inner.Asked.{changedBody}
+use Rattle.families.specs.declared.asked.Change.{Change}
+use Rattle.families.specs.declared.asked.Change.the-variants.{Mirrored, Flipped, Transposed}
 use Rattle.families.proofs.Merging.{merged-mem, merged-length}
 use Rattle.families.proofs.Copying.{copies-back}
 
@@ -67,27 +70,21 @@ module _ (f g : Contents) (sf : Sound f) (sg : Sound g) where
       let w = sg .rules-fit r m in
       subst (RuleFits _ _) e (record { head-fits = omega (arith, w .head-fits); body-fits = body-raised (r .body) (w .body-fits) })
 
-pub joined-sound : (d : Dir) (f g : Contents) → Sound f → Sound g → Sound (joined d f g)
-unfolding joined
-joined-sound d f g sf sg =
-    record {
-      start-fits = omega arith;
-      rules-fit = fit-append _ _ (f .rules) _ (fit-first f g sf sg)
-          (fit-append _ _ (raised f g) _ (fit-second f g sf sg)
-          (fit-one _ _ _ d _ _ (omega arith) (omega (arith, sf .start-fits)) (omega (arith, sg .start-fits))));
-    }
+  both-sound : (new : List Rule) → RulesFit (f .motifs + g .motifs + 1) (length (merged (f .colours) (g .colours))) new → Sound (bothBooks f g new)
+  both-sound new fits =
+      record { start-fits = omega arith; rules-fit = fit-append _ _ (f .rules) _ fit-first (fit-append _ _ (raised f g) new fit-second fits) }
 
-pub either-of-sound : (f g : Contents) → Sound f → Sound g → Sound (either-of f g)
-unfolding either-of
-either-of-sound f g sf sg =
-    record {
-      start-fits = omega arith;
-      rules-fit = fit-append _ _ (f .rules) _ (fit-first f g sf sg)
-          (fit-append _ _ (raised f g) _ (fit-second f g sf sg)
-          (fit-append _ _ (copies (f .motifs + g .motifs) (f .start) (f .rules)) _
-          (fit-copies _ _ _ _ (f .rules) (omega arith) (fit-first f g sf sg))
-          (fit-copies _ _ _ _ (raised f g) (omega arith) (fit-second f g sf sg))));
-    }
+  pub joined-sound : (d : Dir) → Sound (joined d f g)
+  unfolding joined
+  joined-sound d = both-sound _ (fit-one _ _ _ d _ _ (omega arith) (omega (arith, sf .start-fits)) (omega (arith, sg .start-fits)))
+
+  pub either-of-sound : Sound (either-of f g)
+  unfolding either-of
+  either-of-sound =
+      both-sound _
+      (fit-append _ _ (copies (f .motifs + g .motifs) (f .start) (f .rules)) _
+      (fit-copies _ _ _ _ (f .rules) (omega arith) fit-first)
+      (fit-copies _ _ _ _ (raised f g) (omega arith) fit-second))
 
 pub repeated-sound : (d : Dir) (f : Contents) → Sound f → Sound (repeated d f)
 unfolding repeated
@@ -102,31 +99,23 @@ repeated-sound d f sf =
           (fit-one _ _ _ d _ _ (omega arith) (omega (arith, sf .start-fits)) (omega arith)));
     }
 
-rebodied-sound : (t : Body → Body) → ((m n : ℕ) (x : Body) → BodyFits m n x → BodyFits m n (t x)) → (f : Contents) → Sound f → Sound (rebodied t f)
-rebodied-sound t h f sf =
+changed-fits : (k : Change) (m n : ℕ) (x : Body) → BodyFits m n x → BodyFits m n (changedBody k x)
+changed-fits Mirrored m n (Colour c) h = h
+changed-fits Mirrored m n (Across l r) h = (h .1, h .0)
+changed-fits Mirrored m n (Down u v) h = h
+changed-fits Flipped m n (Colour c) h = h
+changed-fits Flipped m n (Across l r) h = h
+changed-fits Flipped m n (Down u v) h = (h .1, h .0)
+changed-fits Transposed m n (Colour c) h = h
+changed-fits Transposed m n (Across l r) h = h
+changed-fits Transposed m n (Down u v) h = h
+
+pub changed-sound : (k : Change) (f : Contents) → Sound f → Sound (rebodied (changedBody k) f)
+changed-sound k f sf =
     record {
       start-fits = sf .start-fits;
       rules-fit = λ q u.
-          let (r, m, e) = Memᴰ·of-map (λ (r : Rule). record { head = r .head; body = t (r .body) }) (f .rules) u in
+          let (r, m, e) = Memᴰ·of-map (λ (r : Rule). record { head = r .head; body = changedBody k (r .body) }) (f .rules) u in
           let w = sf .rules-fit r m in
-          subst (RuleFits _ _) e (record { head-fits = w .head-fits; body-fits = h _ _ (r .body) (w .body-fits) });
+          subst (RuleFits _ _) e (record { head-fits = w .head-fits; body-fits = changed-fits k _ _ (r .body) (w .body-fits) });
     }
-
-turned-fits : (m n : ℕ) (x : Body) → BodyFits m n x → BodyFits m n (turned x)
-turned-fits m n (Colour c) h = h
-turned-fits m n (Across l r) h = h
-turned-fits m n (Down u v) h = h
-
-swapped-fits : (d : Dir) (m n : ℕ) (x : Body) → BodyFits m n x → BodyFits m n (swapped d x)
-swapped-fits across m n (Colour c) h = h
-swapped-fits across m n (Across l r) h = (h .1, h .0)
-swapped-fits across m n (Down u v) h = h
-swapped-fits down m n (Colour c) h = h
-swapped-fits down m n (Across l r) h = h
-swapped-fits down m n (Down u v) h = (h .1, h .0)
-
-pub transposed-sound : (f : Contents) → Sound f → Sound (transposed f)
-transposed-sound = rebodied-sound turned turned-fits
-
-pub swapping-sound : (d : Dir) (f : Contents) → Sound f → Sound (swapping d f)
-swapping-sound d = rebodied-sound (swapped d) (swapped-fits d)

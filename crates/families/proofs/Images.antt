@@ -8,14 +8,16 @@ use native.Mathlib.Omega.{arith}
 use Rattle.books.specs.Contents.{Contents}
 use Rattle.books.specs.Picture.{Picture, Same, first, rest}
 use Rattle.books.specs.declared.rule.Dir.the-variants.{Across as across, Down as down}
-use Rattle.books.specs.declared.rule.Dir.{Dir}
 use Rattle.books.specs.Derives.{Derives, paint, join, Member}
 use Rattle.books.specs.declared.rule.Rule.{Rule}
 use Rattle.books.specs.declared.rule.Body.{Body}
 use Rattle.books.specs.declared.rule.Body.the-variants.{Colour, Across, Down}
 use Rattle.books.proofs.SamePictures.{same-refl, derives-same}
 use Rattle.families.specs.Images.{reversed, transpose, Image}
-use Rattle.families.specs.Combine.{rebodied, turned, swapped, transposed, swapping, mirrored, flipped}
+use Rattle.families.specs.Combine.{rebodied, turned, swapped, transposed, mirrored, flipped}
+use Rattle.families.specs.inner.Asked.{changedBody}
+use Rattle.families.specs.declared.asked.Change.{Change}
+use Rattle.families.specs.declared.asked.Change.the-variants.{Mirrored, Flipped, Transposed}
 
 -- Two changes of every body are one.
 rebodied-as : (t u v : Body → Body) → ((x : Body) → t (u x) ≡ v x) → (b : Contents) → rebodied t (rebodied u b) ≡ rebodied v b
@@ -28,31 +30,26 @@ rebodied-twice t e b =
     rebodied-as t t (λ x. x) e b
     ∙ ap (λ (rs : List Rule). record { colours = b .colours; motifs = b .motifs; start = b .start; rules = rs }) (map-id (b .rules))
 
-turned-twice : (x : Body) → turned (turned x) ≡ x
-turned-twice (Colour c) = refl
-turned-twice (Across l r) = refl
-turned-twice (Down u v) = refl
+changed-body-twice : (k : Change) (x : Body) → changedBody k (changedBody k x) ≡ x
+changed-body-twice Mirrored (Colour c) = refl
+changed-body-twice Mirrored (Across l r) = refl
+changed-body-twice Mirrored (Down u v) = refl
+changed-body-twice Flipped (Colour c) = refl
+changed-body-twice Flipped (Across l r) = refl
+changed-body-twice Flipped (Down u v) = refl
+changed-body-twice Transposed (Colour c) = refl
+changed-body-twice Transposed (Across l r) = refl
+changed-body-twice Transposed (Down u v) = refl
 
-swapped-twice : (d : Dir) (x : Body) → swapped d (swapped d x) ≡ x
-swapped-twice across (Colour c) = refl
-swapped-twice across (Across l r) = refl
-swapped-twice across (Down u v) = refl
-swapped-twice down (Colour c) = refl
-swapped-twice down (Across l r) = refl
-swapped-twice down (Down u v) = refl
-
-pub transposed-twice : (b : Contents) → transposed (transposed b) ≡ b
-transposed-twice = rebodied-twice turned turned-twice
-
-pub swapping-twice : (d : Dir) (b : Contents) → swapping d (swapping d b) ≡ b
-swapping-twice d = rebodied-twice (swapped d) (swapped-twice d)
+pub changed-twice : (k : Change) (b : Contents) → rebodied (changedBody k) (rebodied (changedBody k) b) ≡ b
+changed-twice k = rebodied-twice (changedBody k) (changed-body-twice k)
 
 swapped-turned : (x : Body) → turned (swapped across (turned x)) ≡ swapped down x
 swapped-turned (Colour c) = refl
 swapped-turned (Across l r) = refl
 swapped-turned (Down u v) = refl
 
-pub flipped-turned : (b : Contents) → transposed (mirrored (transposed b)) ≡ flipped b
+flipped-turned : (b : Contents) → transposed (mirrored (transposed b)) ≡ flipped b
 flipped-turned b =
     ap transposed (rebodied-as (swapped across) turned (λ x. swapped across (turned x)) (λ x. refl) b)
     ∙ rebodied-as turned (λ x. swapped across (turned x)) (swapped down) swapped-turned b
@@ -64,9 +61,16 @@ same-turned s = record { same-rows = s .same-cols; same-cols = s .same-rows; sam
 mirrored-twice : (p : Picture) → Same (reversed across (reversed across p)) p
 mirrored-twice p = record { same-rows = refl; same-cols = refl; same-cell = λ i j hi hj. ap (p .cell i) (omega arith) }
 
-pub reversed-twice : (d : Dir) (p : Picture) → Same (reversed d (reversed d p)) p
-reversed-twice across p = mirrored-twice p
-reversed-twice down p = same-turned (mirrored-twice (transpose p))
+-- the image that a change makes of a picture
+abbrev pub imaged : Change → Picture → Picture
+imaged Mirrored = reversed across
+imaged Flipped = reversed down
+imaged Transposed = transpose
+
+imaged-twice : (k : Change) (p : Picture) → Same (imaged k (imaged k p)) p
+imaged-twice Mirrored p = mirrored-twice p
+imaged-twice Flipped p = same-turned (mirrored-twice (transpose p))
+imaged-twice Transposed p = same-refl p
 
 -- Transposed, a cut across is a cut down.
 transposed-forth : {b : Contents} {a : ℕ} {p : Picture} → Derives b a p → Derives (transposed b) a (transpose p)
@@ -91,32 +95,20 @@ mirrored-forth {p = p} (join across l r k h hk hs x y) =
     (derives-same (mirrored-first p k hs) (mirrored-forth x))
 mirrored-forth (join down u v k h hk hs x y) = join down u v k (Memᴰ·map _ h) hk hs (mirrored-forth x) (mirrored-forth y)
 
-swapping-forth : (d : Dir) {b : Contents} {a : ℕ} {p : Picture} → Derives b a p → Derives (swapping d b) a (reversed d p)
-swapping-forth across x = mirrored-forth x
-swapping-forth down {b} {a} {p} x =
+changed-forth : (k : Change) {b : Contents} {a : ℕ} {p : Picture} → Derives b a p → Derives (rebodied (changedBody k) b) a (imaged k p)
+changed-forth Mirrored x = mirrored-forth x
+changed-forth Flipped {b} {a} {p} x =
     subst (λ (c : Contents). Derives c a (reversed down p)) (flipped-turned b) (transposed-forth (mirrored-forth (transposed-forth x)))
+changed-forth Transposed x = transposed-forth x
 
 -- Forth and back.
-pub transposed-derives : (b : Contents) (a : ℕ) (p : Picture) → Derives (transposed b) a p ↔ Derives b a (transpose p)
-transposed-derives b a p = (
-  λ x. subst (λ (c : Contents). Derives c a (transpose p)) (transposed-twice b) (transposed-forth x),
-  λ x. transposed-forth x,
-)
-
-pub swapping-derives : (d : Dir) (b : Contents) (a : ℕ) (p : Picture) → Derives (swapping d b) a p ↔ Derives b a (reversed d p)
-swapping-derives d b a p = (
-  λ x. subst (λ (c : Contents). Derives c a (reversed d p)) (swapping-twice d b) (swapping-forth d x),
-  λ x. derives-same (reversed-twice d p) (swapping-forth d x),
-)
-
-pub transposed-image : (f : Contents) (p : Picture) → Member (transposed f) p ↔ Image transpose (Member f) p
-transposed-image f p = (
-  λ x. record { source = transpose p; source-in = transposed-derives f _ p .0 x; image = same-refl p },
-  λ y. derives-same (y .image) (transposed-forth (y .source-in)),
-)
-
-pub swapping-image : (d : Dir) (f : Contents) (p : Picture) → Member (swapping d f) p ↔ Image (reversed d) (Member f) p
-swapping-image d f p = (
-  λ x. record { source = reversed d p; source-in = swapping-derives d f _ p .0 x; image = reversed-twice d p },
-  λ y. derives-same (y .image) (swapping-forth d (y .source-in)),
+pub changed-image : (k : Change) (f : Contents) (p : Picture) → Member (rebodied (changedBody k) f) p ↔ Image (imaged k) (Member f) p
+changed-image k f p = (
+  λ x.
+      record {
+        source = imaged k p;
+        source-in = subst (λ (c : Contents). Derives c (f .start) (imaged k p)) (changed-twice k f) (changed-forth k x);
+        image = imaged-twice k p;
+      },
+  λ y. derives-same (y .image) (changed-forth k (y .source-in)),
 )

@@ -1,7 +1,7 @@
 -- `Joined` is the join: it holds of two pictures of one breadth and the picture that they make glued together, and of no other picture. What is shown
 -- across holds down, since a picture joined down is one joined across, transposed.
 use Prim.Native.Nat.{ℕ, _+_, _-_, _≤_, _<_}
-use mathlib.Core.Path.{_≡_, refl, sym, _∙_, ap}
+use mathlib.Core.Path.{_≡_, sym, _∙_, ap}
 use mathlib.Core.Logic.{⊎-elim, _↔_}
 use native.Mathlib.Omega.{arith}
 use Rattle.names.proofs.Tests.{lt-or-le}
@@ -17,9 +17,6 @@ use Rattle.families.proofs.Images.{same-turned}
 
 to-across : {p q r : Picture} → Joined down p q r → Joined across (transpose p) (transpose q) (transpose r)
 to-across j = record { sizes = j .sizes; front = same-turned (j .front); back = same-turned (j .back) }
-
-to-down : {p q r : Picture} → Joined across (transpose p) (transpose q) (transpose r) → Joined down p q r
-to-down j = record { sizes = j .sizes; front = same-turned (j .front); back = same-turned (j .back) }
 
 -- Two pictures that are joined are of one breadth.
 pub joined-level : (d : Dir) (p q r : Picture) → Joined d p q r → size (other d) p ≡ size (other d) q

@@ -1,6 +1,7 @@
 -- A combination of books that keep the rules of a book keeps them, where it is within the limits: it is sound, its colours are theirs, and it has at least
 -- the rules of the first. Images keep them without a limit, since they change no count. So what is shown of every combination that keeps the rules holds of each call.
 use Prim.Native.Nat.{_≤_}
+use mathlib.Core.List.{List}
 use native.Mathlib.Omega.{arith}
 use lib.ListN.{length, length-append}
 use Rattle.names.specs.Spelling.{ColoursOk}
@@ -8,13 +9,16 @@ use Rattle.books.specs.Contents.{Contents}
 use Rattle.books.specs.declared.rule.Dir.the-variants.{Across as across, Down as down}
 use Rattle.books.specs.declared.rule.Dir.{Dir}
 use Rattle.books.specs.Keeps.{Sound, Keeps}
-use Rattle.books.specs.declared.rule.Body.{Body}
-use Rattle.families.specs.Combine.{either-of, joined, repeated, rebodied, turned, swapped, transposed, swapping}
+use Rattle.books.specs.declared.rule.Rule.{Rule}
+use Rattle.families.specs.Combine.{bothBooks, either-of, joined, repeated, rebodied}
+use Rattle.families.specs.inner.Asked.{changedBody}
+use Rattle.families.specs.declared.asked.Change.{Change}
+use Rattle.families.specs.declared.asked.Change.the-variants.{Mirrored, Flipped, Transposed}
 use Rattle.families.specs.Limits.{WithinLimits}
 use Rattle.families.specs.EachCall.{EachCall}
 use Rattle.families.proofs.Merging.{merged-ok}
 use Rattle.families.proofs.Counting.{rebodied-length}
-use Rattle.families.proofs.Fitting.{joined-sound, either-of-sound, repeated-sound, transposed-sound, swapping-sound}
+use Rattle.families.proofs.Fitting.{joined-sound, either-of-sound, repeated-sound, changed-sound}
 
 -- What is sound and within the limits keeps the rules, where it begins with the rules of a book that keeps them.
 keeps-of : (f h : Contents) → Keeps f → ColoursOk (h .colours) → length (f .rules) ≤ length (h .rules) → WithinLimits h → Sound h → Keeps h
@@ -28,45 +32,37 @@ keeps-of f h kf colours long small sound =
       sound = sound;
     }
 
-pub joined-keeps : (d : Dir) (f g : Contents) → Keeps f → Keeps g → WithinLimits (joined d f g) → Keeps (joined d f g)
-unfolding joined
-joined-keeps d f g kf kg small =
-    keeps-of f (joined d f g) kf
+both-keeps : (f g : Contents) (new : List Rule) → Keeps f → Keeps g → Sound (bothBooks f g new) → WithinLimits (bothBooks f g new) → Keeps (bothBooks f g new)
+both-keeps f g new kf kg sound small =
+    keeps-of f (bothBooks f g new) kf
     (merged-ok (f .colours) (g .colours) (kf .colours-ok) (kg .colours-ok) (small .colours-few))
     (simp length-append (omega arith))
     small
-    (joined-sound d f g (kf .sound) (kg .sound))
+    sound
+
+pub joined-keeps : (d : Dir) (f g : Contents) → Keeps f → Keeps g → WithinLimits (joined d f g) → Keeps (joined d f g)
+unfolding joined
+joined-keeps d f g kf kg = both-keeps f g _ kf kg (joined-sound f g (kf .sound) (kg .sound) d)
 
 pub either-of-keeps : (f g : Contents) → Keeps f → Keeps g → WithinLimits (either-of f g) → Keeps (either-of f g)
 unfolding either-of
-either-of-keeps f g kf kg small =
-    keeps-of f (either-of f g) kf
-    (merged-ok (f .colours) (g .colours) (kf .colours-ok) (kg .colours-ok) (small .colours-few))
-    (simp length-append (omega arith))
-    small
-    (either-of-sound f g (kf .sound) (kg .sound))
+either-of-keeps f g kf kg = both-keeps f g _ kf kg (either-of-sound f g (kf .sound) (kg .sound))
 
 pub repeated-keeps : (d : Dir) (f : Contents) → Keeps f → WithinLimits (repeated d f) → Keeps (repeated d f)
 unfolding repeated
 repeated-keeps d f kf small =
     keeps-of f (repeated d f) kf (kf .colours-ok) (simp length-append (omega arith)) small (repeated-sound d f (kf .sound))
 
-rebodied-keeps : (t : Body → Body) (f : Contents) → Keeps f → Sound (rebodied t f) → Keeps (rebodied t f)
-rebodied-keeps t f kf sound =
+pub changed-keeps : (k : Change) (f : Contents) → Keeps f → Keeps (rebodied (changedBody k) f)
+changed-keeps k f kf =
     record {
       colours-ok = kf .colours-ok;
       motifs-some = kf .motifs-some;
       motifs-few = kf .motifs-few;
-      rules-some = rw (rebodied-length t f) (kf .rules-some);
-      rules-few = rw (rebodied-length t f) (kf .rules-few);
-      sound = sound;
+      rules-some = rw (rebodied-length (changedBody k) f) (kf .rules-some);
+      rules-few = rw (rebodied-length (changedBody k) f) (kf .rules-few);
+      sound = changed-sound k f (kf .sound);
     }
-
-pub transposed-keeps : (f : Contents) → Keeps f → Keeps (transposed f)
-transposed-keeps f kf = rebodied-keeps turned f kf (transposed-sound f (kf .sound))
-
-pub swapping-keeps : (d : Dir) (f : Contents) → Keeps f → Keeps (swapping d f)
-swapping-keeps d f kf = rebodied-keeps (swapped d) f kf (swapping-sound d f (kf .sound))
 
 -- What keeps the rules is within the limits, so that nothing is refused that could be written.
 pub keeps-within : (b : Contents) → Keeps b → WithinLimits b
@@ -88,7 +84,7 @@ each-call Two One two one =
       dv-above = two _ (joined-keeps down);
       dv-run = one _ (repeated-keeps across);
       dv-stack = one _ (repeated-keeps down);
-      dv-mirrored = one _ (λ f k _. swapping-keeps across f k);
-      dv-flipped = one _ (λ f k _. swapping-keeps down f k);
-      dv-transposed = one _ (λ f k _. transposed-keeps f k);
+      dv-mirrored = one _ (λ f k _. changed-keeps Mirrored f k);
+      dv-flipped = one _ (λ f k _. changed-keeps Flipped f k);
+      dv-transposed = one _ (λ f k _. changed-keeps Transposed f k);
     }

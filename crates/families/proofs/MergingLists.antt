@@ -18,7 +18,7 @@ use Rattle.names.proofs.Finding.{find-listed}
 use Rattle.names.proofs.ReadingColours.{Places, places-none, places-with, names-with, names-count, name-at}
 use Rattle.families.specs.Merged.{holds, merged}
 use Rattle.families.specs.inner.Merges.{Lists, Merges}
-use Rattle.families.proofs.MergingInOrder.{merged-nil, merged-held, merged-new, number-held, number-new}
+use Rattle.families.proofs.MergingInOrder.{merged-nil, merged-next, number-held, number-new}
 
 module _ (s : List ℕ) (f : Colours) (t : List ℕ) (g : Colours) where
   -- What the first i colours of the second list leave.
@@ -65,7 +65,7 @@ module _ (s : List ℕ) (f : Colours) (t : List ℕ) (g : Colours) (lf : Lists s
         record {
           within = omega arith;
           places = so .places;
-          names = rw (add-one i) (so .names ∙ sym (merged-held (namesIn s f) (namesIn t g) i (omega (arith, names-count t g)) held));
+          names = rw (add-one i) (so .names ∙ sym (merged-next (namesIn s f) (namesIn t g) i (omega (arith, names-count t g)) held ∙ append-nil _));
           numbered = more-numbered n (here ∙ sym (number-held (namesIn s f) (namesIn t g) _ held));
           few = omega (arith, so .few);
           numbers-all = length-set numbers _ _ ∙ so .numbers-all;
@@ -88,8 +88,8 @@ module _ (s : List ℕ) (f : Colours) (t : List ℕ) (g : Colours) (lf : Lists s
               ∙ sym (append-assoc (namesIn s f) (namesIn t more) (nameIn t g i ∷ []))
               ∙ ap (λ (l : List Name). l ++ (nameIn t g i ∷ [])) (so .names)
               ∙ ap (λ (n : Name). merged (namesIn s f) (take i (namesIn t g)) ++ (n ∷ [])) (sym named)
-              ∙ sym (merged-new (namesIn s f) (namesIn t g) i less lacked));
-          numbered = more-numbered _ (sym before ∙ sym (number-new (namesIn s f) (namesIn t g) i (lg .distinct) less lacked));
+              ∙ sym (merged-next (namesIn s f) (namesIn t g) i less lacked));
+          numbered = more-numbered _ (sym before ∙ sym (number-new (namesIn s f) (namesIn t g) i (lf .distinct) (lg .distinct) less lacked));
           few = omega (arith, so .few);
           numbers-all = length-set numbers _ _ ∙ so .numbers-all;
         }

@@ -1,19 +1,19 @@
 -- What a call does with a book that it read: the family of an accepted book is lent, and the fault of a refused one is blamed. The laws of reading say so.
-use Prim.Native.Nat.{ℕ, _<_, _^_}
-use mathlib.Core.Path.{_≡_, refl, sym, ap, subst}
+use Prim.Native.Nat.{ℕ}
+use mathlib.Core.Path.{_≡_, refl, ap, subst⁻¹}
 use mathlib.Core.Bool.{Bool}
 use mathlib.Core.List.{List}
 use borrow.Author.Tests.{eq-eqb, ne-eqb}
-use Rattle.names.proofs.SpellingNumbers.{Bytes}
+use Rattle.names.specs.Bytes.{Bytes}
 use Rattle.names.specs.Pick.{pick}
 use Rattle.names.specs.Spelling.{mostColours}
 use Rattle.books.specs.Contents.{Contents}
 use Rattle.books.specs.Lent.{contentsOf}
 use Rattle.books.specs.ContentsIn.{contentsIn}
-use Rattle.books.specs.Answer.{blaming, packed, Packs}
+use Rattle.books.specs.Answer.{blaming, packed}
+use Rattle.books.specs.Keeps.{mostMotifs}
 use Rattle.books.specs.declared.answer.Answer.{Answer}
 use Rattle.books.specs.declared.book.BookRead.{BookRead}
-use Rattle.books.proofs.Packing.{book-placed}
 use Rattle.books.specs.Book.{bookOf}
 use Rattle.books.specs.declared.family.Family.{Family}
 use Rattle.books.proofs.ReadingBooks.{book-lies, book-accepted}
@@ -36,7 +36,7 @@ book-lent s bytes z =
           start-fits = lies .start-fits;
           rows = record { few = lies .rules-few; places-all = lies .rules-size };
         };
-        fits = fit-more _ _ 32 mostColours (standing (rulesOf f)) (keeps .motifs-few) (keeps .colours-ok .few) (keeps .sound .rules-fit);
+        fits = fit-more _ _ mostMotifs mostColours (standing (rulesOf f)) (keeps .motifs-few) (keeps .colours-ok .few) (keeps .sound .rules-fit);
       };
       keeps = keeps;
       lists = record {
@@ -58,14 +58,10 @@ module _ (s : List ℕ) (b : BookRead) (read : b ≡ bookOf s) where
   read-accepted input out go z = rw read (simp (eq-eqb _ _ (rw read at z)))
 
   -- ... and a refused one is blamed
-  module _ (input : ℕ) (a : Answer) (blamed : a ≡ blaming input (b .fault)) where
-    pub blamed-packs : input < 2 ^ 4 → Packs a 0
-    blamed-packs few = rw (blamed, read) (book-placed s input few .packs)
-
-    pub blamed-leaves : (out : List ℕ) (go : Contents → Outcome) (r : ℕ) → (b .fault .number ≡ 0 → ⊥) → r ≡ packed a 0 → Leaves (lent input s out go) r out
-    unfolding lent
-    blamed-leaves out go r z e =
-        let o : Outcome = refused (blaming input (bookOf s .fault)) out in
-        let test = ne-eqb (bookOf s .fault .number) 0 (rw read at z) in
-        subst (λ (p : Outcome). Leaves p r out) (sym (ap (λ (t : Bool). pick t (go (contentsOf s)) o) test))
-        (record { answers = simp (blamed, read) at e; leaves = refl })
+  pub blamed-leaves : (input : ℕ) (a : Answer) → a ≡ blaming input (b .fault) → (out : List ℕ) (go : Contents → Outcome) (r : ℕ) → (b .fault .number ≡ 0 → ⊥)
+      → r ≡ packed a 0 → Leaves (lent input s out go) r out
+  unfolding lent
+  blamed-leaves input a blamed out go r z e =
+      let o : Outcome = refused (blaming input (bookOf s .fault)) out in
+      subst⁻¹ (λ (p : Outcome). Leaves p r out) (ap (λ (t : Bool). pick t (go (contentsOf s)) o) (ne-eqb (bookOf s .fault .number) 0 (rw read at z)))
+      (record { answers = simp (blamed, read) at e; leaves = refl })

@@ -16,7 +16,7 @@ use Rattle.books.specs.declared.rule.Rule.{Rule}
 use Rattle.books.specs.declared.rule.Body.{Body}
 use Rattle.books.specs.declared.rule.Body.the-variants.{Colour, Across, Down}
 use Rattle.families.specs.Merged.{without, merged}
-use Rattle.families.specs.Combine.{moved, renumbered, raised}
+use Rattle.families.specs.Combine.{moved, renumbered, raised, bothBooks}
 use Rattle.families.proofs.Merging.{merged-mem}
 use Rattle.families.proofs.Heads.{HeadsFrom, heads-own, heads-raised, heads-raised-below, heads-append, heads-more, in-first, in-rest}
 use Rattle.families.proofs.Inside.{Inside, has-cast, inside-forth, inside-back}
@@ -31,12 +31,6 @@ pub record After (f h : Contents) (rs : List Rule) (cs : List Name) : Type 0 whe
   pub rules-are : h .rules ≡ f .rules ++ rs
   pub colours-are : h .colours ≡ f .colours ++ cs
   pub heads-are : HeadsFrom (f .motifs) rs
-
--- h begins with f and then has g, under the heads after those of f.
-pub record AfterBoth (f g h : Contents) (rs : List Rule) : Type 0 where
-  pub rules-are : h .rules ≡ f .rules ++ (raised f g ++ rs)
-  pub colours-are : h .colours ≡ merged (f .colours) (g .colours)
-  pub heads-are : HeadsFrom (f .motifs + g .motifs) rs
 
 module _ (f h : Contents) (rs : List Rule) (cs : List Name) (sf : Sound f) (s : After f h rs cs) where
   pub first-rule : (a : ℕ) (x : Body) → a < f .motifs → Has h a x → Has f a x
@@ -59,38 +53,42 @@ module _ (f h : Contents) (rs : List Rule) (cs : List Name) (sf : Sound f) (s : 
   pub first-derives : (p : Picture) → Derives h (f .start) p ↔ Member f p
   first-derives p = (λ x. inside-back f h _ _ sf first-inside x (f .start) (sf .start-fits) refl, inside-forth f h _ _ sf first-inside)
 
-module _ (f g h : Contents) (rs : List Rule) (sf : Sound f) (sg : Sound g) (s : AfterBoth f g h rs) where
+-- Both books, and rules of a new start.
+module _ (f g : Contents) (rs : List Rule) (sf : Sound f) (sg : Sound g) (heads : HeadsFrom (f .motifs + g .motifs) rs) where
+  abbrev both : Contents
+  both = bothBooks f g rs
+
   -- seen from f, the rules of g and the new ones follow
-  pub after-first : After f h (raised f g ++ rs) (without (f .colours) (g .colours))
+  pub after-first : After f both (raised f g ++ rs) (without (f .colours) (g .colours))
   unfolding merged
   after-first =
       record {
-        rules-are = s .rules-are;
-        colours-are = s .colours-are;
-        heads-are = heads-append _ (raised f g) rs (heads-raised f g) (heads-more _ (f .motifs + g .motifs) rs (omega arith) (s .heads-are));
+        rules-are = refl;
+        colours-are = refl;
+        heads-are = heads-append _ (raised f g) rs (heads-raised f g) (heads-more _ (f .motifs + g .motifs) rs (omega arith) heads);
       }
 
-  pub second-rule : (a : ℕ) (x : Body) → f .motifs ≤ a → a < f .motifs + g .motifs → Has h a x
+  pub second-rule : (a : ℕ) (x : Body) → f .motifs ≤ a → a < f .motifs + g .motifs → Has both a x
       → List·Memᴰ (record { head = a; body = x }) (raised f g)
   second-rule a x ha hb m =
-      in-first (f .motifs + g .motifs) (raised f g) rs (s .heads-are) _ hb (later-rule f h _ _ sf after-first a x ha m)
+      in-first (f .motifs + g .motifs) (raised f g) rs heads _ hb (later-rule f both _ _ sf after-first a x ha m)
 
-  pub new-rule : (a : ℕ) (x : Body) → f .motifs + g .motifs ≤ a → Has h a x → List·Memᴰ (record { head = a; body = x }) rs
+  pub new-rule : (a : ℕ) (x : Body) → f .motifs + g .motifs ≤ a → Has both a x → List·Memᴰ (record { head = a; body = x }) rs
   new-rule a x ha m =
-      in-rest (f .motifs + g .motifs) (raised f g) rs (heads-raised-below f g sg) _ ha (later-rule f h _ _ sf after-first a x (omega arith) m)
+      in-rest (f .motifs + g .motifs) (raised f g) rs (heads-raised-below f g sg) _ ha (later-rule f both _ _ sf after-first a x (omega arith) m)
 
-  second-inside : Inside g h (λ n. f .motifs + n) (renumbered f g)
+  second-inside : Inside g both (λ n. f .motifs + n) (renumbered f g)
   second-inside =
       record {
-        forth = λ a x m. rw (s .rules-are) (Memᴰ·append-right (f .rules) (Memᴰ·append-left rs (Memᴰ·map _ m)));
+        forth = λ a x m. Memᴰ·append-right (f .rules) (Memᴰ·append-left rs (Memᴰ·map _ m));
         back = λ a y ha m.
             let (r, hr, e) = Memᴰ·of-map _ (g .rules) (second-rule (f .motifs + a) y (omega arith) (omega arith) m) in
             (r .body, has-cast g (omega (arith, ap (λ (q : Rule). q .head) e)) refl hr, sym (ap (λ (q : Rule). q .body) e));
         named = λ k hk.
             let m = merged-mem (f .colours) (g .colours) (name g k) (getD-mem (g .colours) k [] hk) in
             let (low, is) = listed-found (merged (f .colours) (g .colours)) (name g k) m in
-            (omega (arith, ap length (s .colours-are)), sym (ap (λ (l : List Name). getD l (renumbered f g k) []) (s .colours-are) ∙ is));
+            (low, sym is);
       }
 
-  pub second-derives : (p : Picture) → Derives h (f .motifs + g .start) p ↔ Member g p
-  second-derives p = (λ x. inside-back g h _ _ sg second-inside x (g .start) (sg .start-fits) refl, inside-forth g h _ _ sg second-inside)
+  pub second-derives : (p : Picture) → Derives both (f .motifs + g .start) p ↔ Member g p
+  second-derives p = (λ x. inside-back g both _ _ sg second-inside x (g .start) (sg .start-fits) refl, inside-forth g both _ _ sg second-inside)

@@ -10,12 +10,13 @@ use Rattle.families.specs.Joined.{Both, Run}
 use Rattle.families.specs.Images.{reversed, transpose, Image}
 use Rattle.families.specs.Combine.{either-of, beside, above, run, stack, mirrored, flipped, transposed}
 use Rattle.families.specs.Limits.{WithinLimits}
+use Rattle.families.specs.declared.asked.Change.the-variants.{Mirrored, Flipped, Transposed}
 use Rattle.families.proofs.EitherOf.{either-of-derives}
 use Rattle.families.proofs.Joins.{joined-derives}
 use Rattle.families.proofs.Runs.{repeated-derives}
-use Rattle.families.proofs.Images.{transposed-image, transposed-twice, swapping-image, swapping-twice}
-use Rattle.families.proofs.Fitting.{joined-sound, either-of-sound, repeated-sound, transposed-sound, swapping-sound}
-use Rattle.families.proofs.Keeping.{joined-keeps, either-of-keeps, repeated-keeps, transposed-keeps, swapping-keeps}
+use Rattle.families.proofs.Images.{changed-image, changed-twice}
+use Rattle.families.proofs.Fitting.{joined-sound, either-of-sound, repeated-sound, changed-sound}
+use Rattle.families.proofs.Keeping.{joined-keeps, either-of-keeps, repeated-keeps, changed-keeps}
 
 -- Either-of: what the one or the other derives.
 pub either-of-holds : (f g : Contents) → Sound f → Sound g → (p : Picture) → Member (either-of f g) p ↔ (Member f p ⊎ Member g p)
@@ -39,23 +40,23 @@ stack-holds = repeated-derives down
 
 -- Mirrored, flipped, transposed: the images.
 pub mirrored-holds : (f : Contents) (p : Picture) → Member (mirrored f) p ↔ Image (reversed across) (Member f) p
-mirrored-holds = swapping-image across
+mirrored-holds = changed-image Mirrored
 
 pub flipped-holds : (f : Contents) (p : Picture) → Member (flipped f) p ↔ Image (reversed down) (Member f) p
-flipped-holds = swapping-image down
+flipped-holds = changed-image Flipped
 
 pub transposed-holds : (f : Contents) (p : Picture) → Member (transposed f) p ↔ Image transpose (Member f) p
-transposed-holds = transposed-image
+transposed-holds = changed-image Transposed
 
 -- Each of them twice is the same contents.
 pub mirrored-again : (f : Contents) → mirrored (mirrored f) ≡ f
-mirrored-again = swapping-twice across
+mirrored-again = changed-twice Mirrored
 
 pub flipped-again : (f : Contents) → flipped (flipped f) ≡ f
-flipped-again = swapping-twice down
+flipped-again = changed-twice Flipped
 
 pub transposed-again : (f : Contents) → transposed (transposed f) ≡ f
-transposed-again = transposed-twice
+transposed-again = changed-twice Transposed
 
 -- All eight are sound, ...
 pub all-sound : (f g : Contents) → Sound f → Sound g
@@ -63,13 +64,13 @@ pub all-sound : (f g : Contents) → Sound f → Sound g
     × Sound (mirrored f) × Sound (flipped f) × Sound (transposed f)
 all-sound f g sf sg = (
   either-of-sound f g sf sg,
-  joined-sound across f g sf sg,
-  joined-sound down f g sf sg,
+  joined-sound f g sf sg across,
+  joined-sound f g sf sg down,
   repeated-sound across f sf,
   repeated-sound down f sf,
-  swapping-sound across f sf,
-  swapping-sound down f sf,
-  transposed-sound f sf,
+  changed-sound Mirrored f sf,
+  changed-sound Flipped f sf,
+  changed-sound Transposed f sf,
 )
 
 -- ... and keep the rules of a book, the first five where they are within the limits.
@@ -86,7 +87,7 @@ all-keep f g kf kg = (
   joined-keeps down f g kf kg,
   repeated-keeps across f kf,
   repeated-keeps down f kf,
-  swapping-keeps across f kf,
-  swapping-keeps down f kf,
-  transposed-keeps f kf,
+  changed-keeps Mirrored f kf,
+  changed-keeps Flipped f kf,
+  changed-keeps Transposed f kf,
 )

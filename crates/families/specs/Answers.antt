@@ -4,6 +4,7 @@ use mathlib.Core.Path.{_≡_}
 use mathlib.Core.List.{List}
 use mathlib.Core.Logic.{_↔_, _⊎_}
 use lib.ListN.{length}
+use Rattle.names.specs.Pick.{ReadersNumber}
 use Rattle.books.specs.Contents.{Contents}
 use Rattle.books.specs.Book.{bookOf}
 use Rattle.books.specs.SpellBook.{spellBook}
@@ -25,9 +26,9 @@ pub record Blames (input : ℕ) (s : List ℕ) (a : Answer) : Type 0 where
 
 -- Demand 1, whatever was lent: 1 to 8 tell a fault of a lent book, and no other number blames one; a refusal writes nothing
 pub record Answers (Faulty : Answer → Type 0) (out left : List ℕ) (a : Answer) (count : ℕ) : Type 0 where
-  pub one-of : (a .number ≤ 8) ⊎ ((a .number ≡ 12) ⊎ (a .number ≡ 13))
-  pub faulty : 1 ≤ a .number → a .number ≤ 8 → Faulty a
-  pub faultless : (a .number ≡ 0) ⊎ (8 < a .number) → (a .blamed ≡ 0) × (a .place ≡ 0)
+  pub one-of : ReadersNumber (a .number) ⊎ ((a .number ≡ 12) ⊎ (a .number ≡ 13))
+  pub faulty : 1 ≤ a .number → ReadersNumber (a .number) → Faulty a
+  pub faultless : (a .number ≡ 0) ⊎ (ReadersNumber (a .number) → ⊥) → (a .blamed ≡ 0) × (a .place ≡ 0)
   pub refusal : (a .number ≡ 0 → ⊥) → (count ≡ 0) × (left ≡ out)
 
 -- Demand 3, of accepted books: 12 exactly where the combination c exceeds the limits, 13 exactly where it does not and the slice is shorter than

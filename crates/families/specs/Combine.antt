@@ -35,27 +35,24 @@ unfoldable pub copies : ℕ → ℕ → List Rule → List Rule
 copies n s [] = []
 copies n s (r ∷ rs) = pick (eqb (r .head) s) (record { head = n; body = r .body } ∷ copies n s rs) (copies n s rs)
 
-unfoldable pub either-of : Contents → Contents → Contents
-either-of f g =
+-- both books, g raised, and a new start with rules of its own
+abbrev pub bothBooks : Contents → Contents → List Rule → Contents
+bothBooks f g new =
     record {
       colours = merged (f .colours) (g .colours);
       motifs = f .motifs + g .motifs + 1;
       start = f .motifs + g .motifs;
-      rules = f .rules ++ (raised f g
-          ++ (copies (f .motifs + g .motifs) (f .start) (f .rules)
-          ++ copies (f .motifs + g .motifs) (f .motifs + g .start) (raised f g)));
+      rules = f .rules ++ (raised f g ++ new);
     }
+
+unfoldable pub either-of : Contents → Contents → Contents
+either-of f g =
+    bothBooks f g
+    (copies (f .motifs + g .motifs) (f .start) (f .rules) ++ copies (f .motifs + g .motifs) (f .motifs + g .start) (raised f g))
 
 -- beside is joined across, above is joined down
 unfoldable pub joined : Dir → Contents → Contents → Contents
-joined d f g =
-    record {
-      colours = merged (f .colours) (g .colours);
-      motifs = f .motifs + g .motifs + 1;
-      start = f .motifs + g .motifs;
-      rules = f .rules ++ (raised f g
-          ++ (record { head = f .motifs + g .motifs; body = joins d (f .start) (f .motifs + g .start) } ∷ []));
-    }
+joined d f g = bothBooks f g (record { head = f .motifs + g .motifs; body = joins d (f .start) (f .motifs + g .start) } ∷ [])
 
 -- run is repeated across, stack is repeated down
 unfoldable pub repeated : Dir → Contents → Contents

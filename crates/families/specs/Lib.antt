@@ -3,7 +3,6 @@ pub mod Images
 pub mod Merged
 pub mod Combine
 pub mod Limits
-pub mod Within
 pub mod Outcome
 pub mod NewBook
 pub mod Answers

@@ -11,7 +11,7 @@ use Rattle.books.specs.Lent.{lentBook}
 use Rattle.books.specs.SpellBook.{spellBook}
 use Rattle.books.specs.Answer.{plain, packed}
 use Rattle.books.specs.declared.answer.Answer.{Answer}
-use Rattle.families.specs.Within.{within?}
+use Rattle.families.specs.Limits.{withinLimits?}
 
 -- the answer, the bytes written, and the output slice
 pub record Outcome : Type 0 where
@@ -23,16 +23,17 @@ pub record Outcome : Type 0 where
 abbrev pub refused : Answer → List ℕ → Outcome
 refused a out = record { answer = a; count = 0; out = out }
 
--- the book of these contents, or 13 where the slice is shorter than its spelling
+-- the book of these contents at the front of the slice
+abbrev pub spelled : Contents → List ℕ → Outcome
+spelled c out = record { answer = plain 0; count = length (spellBook c); out = put out 0 (spellBook c) }
+
+-- ... or 13 where the slice is shorter than its spelling
 unfoldable pub written : Contents → List ℕ → Outcome
-written c out =
-    pick (leb (length (spellBook c)) (length out))
-    (record { answer = plain 0; count = length (spellBook c); out = put out 0 (spellBook c) })
-    (refused (plain 13) out)
+written c out = pick (leb (length (spellBook c)) (length out)) (spelled c out) (refused (plain 13) out)
 
 -- 12 where they exceed the limits
 unfoldable pub made : Contents → List ℕ → Outcome
-made c out = pick (within? c) (written c out) (refused (plain 12) out)
+made c out = pick (withinLimits? c) (written c out) (refused (plain 12) out)
 
 -- a lent book: where it is refused nothing is written, and else its contents go on
 unfoldable pub lent : ℕ → List ℕ → List ℕ → (Contents → Outcome) → Outcome

@@ -8,14 +8,15 @@ use books::book;
 use books::family::Family;
 use books::writing;
 ghost use Rattle.books.specs.ContentsIn.{contentsIn};
+ghost use Rattle.books.specs.Draft.{DraftFits};
 ghost use Rattle.families.specs.Outcome.{onOne, onSecond, onTwo, Leaves};
 ghost use Rattle.families.specs.inner.Asked.{paired, alone};
 ghost use Rattle.families.specs.inner.Lent.{Lent};
-ghost use Rattle.families.specs.inner.Finished.{finished, Finishes};
+ghost use Rattle.families.specs.inner.Finished.{finished};
 
 // Writes what was made, and answers 0, 12 or 13.
 fn finish(first: &[u8], second: &[u8], m: Made, out: &mut [u8]) -> u64
-    requires { ⌜ Finishes (now first) (now second) m ⌝ }
+    requires { ⌜ DraftFits (m .draft) ⌝ }
     ensures { λ r. ⌜ Leaves (finished (now (first .entry)) (now (second .entry)) m (now (out .entry))) r (now (out .exit)) ⌝ }
 {
     if m.within {

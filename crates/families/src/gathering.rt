@@ -1,5 +1,6 @@
 // Gathering the rules of a new book from those of one or two others.
 use books::rule::Body;
+use books::rule::MOST_RULES;
 use books::rule::Rule;
 use names::colours::MOST_COLOURS;
 ghost use mathlib.Core.Path.{_≡_};
@@ -7,7 +8,7 @@ ghost use mathlib.Core.List.{[], _∷_, List·Memᴰ};
 ghost use Prim.Native.Nat.{_+_, _≤_, _<_};
 ghost use Rattle.names.specs.Spelling.{mostColours};
 ghost use Rattle.books.specs.declared.rule.Rule.{Rule};
-ghost use Rattle.books.specs.Keeps.{RuleFits};
+ghost use Rattle.books.specs.Keeps.{mostMotifs, mostRules, RuleFits};
 ghost use Rattle.families.specs.Combine.{copies};
 ghost use Rattle.families.specs.inner.Counts.{headed};
 ghost use Rattle.families.specs.inner.Gathered.{standing, followed, raisedBy, changed, Rows};
@@ -15,12 +16,12 @@ ghost use Rattle.families.specs.inner.Gathered.{standing, followed, rais
 // The first `count` rules stand.
 pub(crate) struct Rules {
     pub(crate) count: usize,
-    pub(crate) rules: [Rule; 200],
+    pub(crate) rules: [Rule; MOST_RULES],
 }
 
 // One rule more.
 pub(crate) fn add_rule(l: Rules, rule: Rule) -> Rules
-    requires { ⌜ l .count < 200 ⌝ }
+    requires { ⌜ l .count < mostRules ⌝ }
     ensures { λ r. ⌜ r ≡ followed l (rule ∷ []) ⌝ }
 {
     let mut rules = l.rules;
@@ -34,7 +35,7 @@ pub(crate) fn add_rule(l: Rules, rule: Rule) -> Rules
 
 // All rules of another list after these.
 pub(crate) fn add_rules(l: Rules, k: Rules) -> Rules
-    requires { ⌜ (l .count + k .count ≤ 200) × Rows k ⌝ }
+    requires { ⌜ (l .count + k .count ≤ mostRules) × Rows k ⌝ }
     ensures { λ r. ⌜ r ≡ followed l (standing k) ⌝ }
 {
     let mut rules = l.rules;
@@ -67,7 +68,7 @@ pub(crate) fn count_headed(k: Rules, head: usize) -> usize
 
 // Copies of another list's rules with one head, under a new head, after these.
 pub(crate) fn add_copies(l: Rules, k: Rules, head: usize, new: usize) -> Rules
-    requires { ⌜ (l .count + headed head (standing k) ≤ 200) × Rows k × (new < 256) ⌝ }
+    requires { ⌜ (l .count + headed head (standing k) ≤ mostRules) × Rows k × (new < 256) ⌝ }
     ensures { λ r. ⌜ r ≡ followed l (copies new head (standing k)) ⌝ }
 {
     let mut rules = l.rules;
@@ -89,7 +90,7 @@ pub(crate) fn add_copies(l: Rules, k: Rules, head: usize, new: usize) -> Rules
 
 // A rule of a second book as it stands after a first: its motifs raised, its colour under its number in the merged list.
 fn raised_rule(rule: Rule, by: usize, numbers: [u8; MOST_COLOURS]) -> Rule
-    requires { ⌜ (by ≤ 32) × RuleFits 32 mostColours rule ⌝ }
+    requires { ⌜ (by ≤ mostMotifs) × RuleFits mostMotifs mostColours rule ⌝ }
     ensures { λ r. ⌜ r ≡ raisedBy by numbers rule ⌝ }
 {
     let up = by as u8;
@@ -113,7 +114,7 @@ fn raised_rule(rule: Rule, by: usize, numbers: [u8; MOST_COLOURS]) -> Rule
 
 // All rules of a second book, raised.
 pub(crate) fn raise_rules(k: Rules, by: usize, numbers: [u8; MOST_COLOURS]) -> Rules
-    requires { ⌜ (by ≤ 32) × Rows k × ((r : Rule) → List·Memᴰ r (standing k) → RuleFits 32 mostColours r) ⌝ }
+    requires { ⌜ (by ≤ mostMotifs) × Rows k × ((r : Rule) → List·Memᴰ r (standing k) → RuleFits mostMotifs mostColours r) ⌝ }
     ensures { λ r. ⌜ r ≡ changed (raisedBy by numbers) k ⌝ }
 {
     let mut rules = k.rules;

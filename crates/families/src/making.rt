@@ -9,11 +9,13 @@ use crate::merge;
 use books::draft::Draft;
 use books::family::Family;
 use books::rule::Dir;
+use books::rule::MOST_MOTIFS;
+use books::rule::MOST_RULES;
 use names::colours;
 use names::colours::Colours;
 use names::colours::MOST_COLOURS;
 ghost use mathlib.Core.Path.{_≡_};
-ghost use Rattle.families.specs.Within.{few?};
+ghost use Rattle.families.specs.Limits.{countsWithin?};
 ghost use Rattle.families.specs.inner.Lent.{Sized, Lent};
 ghost use Rattle.families.specs.inner.Made.{draftedAs, tooMuch, MakesPair, MakesSingle};
 
@@ -24,11 +26,15 @@ pub(crate) struct Made {
 }
 
 // No more colours, motifs and rules than a book may have.
-fn within(colours: usize, motifs: usize, rules: usize) -> bool
-    ensures { λ r. ⌜ r ≡ few? colours motifs rules ⌝ }
+fn counts_within(colours: usize, motifs: usize, rules: usize) -> bool
+    ensures { λ r. ⌜ r ≡ countsWithin? colours motifs rules ⌝ }
 {
     if colours <= MOST_COLOURS {
-        if motifs <= 32 { rules <= 200 } else { false }
+        if motifs <= MOST_MOTIFS {
+            rules <= MOST_RULES
+        } else {
+            false
+        }
     } else {
         false
     }
@@ -73,7 +79,7 @@ pub(crate) fn make_pair(pairing: Pairing, first: &[u8], f: Family, second: &[u8]
     let more = m.more;
     let start = f.motifs + g.motifs;
     let added = combining::added_by(pairing, f, g);
-    if within(
+    if counts_within(
         f.colours.count + more.count,
         start + 1,
         f.count + g.count + added,
@@ -93,7 +99,7 @@ fn make_repeated(way: Dir, f: Family) -> Made
 {
     let own = combining::start_rules(f);
     let start = f.motifs;
-    if within(f.colours.count, f.motifs + 1, f.count + own + 1) {
+    if counts_within(f.colours.count, f.motifs + 1, f.count + own + 1) {
         let rules = combining::repeated_rules(way, f, start);
         let more = colours::no_colours();
         drafting(f, more, f.motifs + 1, start, rules)

@@ -6,7 +6,7 @@ use mathlib.Core.List.{List, [], _∷_}
 use lib.ListN.{length, replicate}
 use Rattle.names.specs.Pick.{fault, andThen, orElse}
 use Rattle.names.specs.Number.{lastGroup, longerAt, numberAt, numberIn, numberBelow, spellNumber}
-use Rattle.names.specs.Name.{leastAt, nameOf, sameName, listed}
+use Rattle.names.specs.Name.{leastByte, nameOf, sameName, listed}
 use Rattle.names.specs.Colours.{findName, colourAt, coloursOf}
 use Rattle.names.specs.Put.{put}
 use Rattle.names.specs.declared.number.Read.the-variants.{Value, Refused}
@@ -15,7 +15,7 @@ use Rattle.books.specs.Answer.{plain}
 use Rattle.books.specs.Rules.{colourNumberAt, joinAt, bodyAt, ruleAt, rulesAt}
 use Rattle.books.specs.Book.{figuresAt, ruledAt, figuredAt, bookOf}
 use Rattle.books.specs.Size.{sizeAt}
-use Rattle.books.specs.Cells.{cellsOf}
+use Rattle.books.specs.Cells.{cellsAt}
 use Rattle.books.specs.Sheet.{filledAt, sheetOf}
 use Rattle.books.specs.Search.{anyCut, fitsBody, anyRule, givesIn}
 use Rattle.books.specs.Decide.{called?, derives?}
@@ -28,7 +28,7 @@ use Rattle.pieces.specs.Tree.{treeWithin, treeOf}
 use Rattle.pieces.specs.Derivation.{judged, roomed, derivation}
 use Rattle.families.specs.Merged.{without, merged}
 use Rattle.families.specs.Combine.{copies, joined, repeated, either-of, beside, run, transposed}
-use Rattle.families.specs.Within.{few?, within?}
+use Rattle.families.specs.Limits.{countsWithin?, withinLimits?}
 use Rattle.families.specs.Outcome.{written, made, lent}
 use Rattle.house.specs.Bytes.{houseBook, houseContents, sheetA, sheetAReordered, sheetASlate, oneCell, oneColumn, oneRow, transposedBook, besideBook, runBook, eitherOfBook}
 use Rattle.house.specs.Asked.{asked, changed, withItself, wrote}
@@ -66,12 +66,12 @@ pub record Cases : Type 0 where
   pub P12-rules : length (contentsOf eitherOfBook .rules) ≡ 12
 
 pub cases : Cases
-unfolding numberAt longerAt lastGroup numberIn numberBelow spellNumber leastAt nameOf sameName listed findName colourAt coloursOf put
-    colourNumberAt joinAt bodyAt ruleAt rulesAt figuresAt ruledAt figuredAt bookOf sizeAt cellsOf filledAt sheetOf
+unfolding numberAt longerAt lastGroup numberIn numberBelow spellNumber leastByte nameOf sameName listed findName colourAt coloursOf put
+    colourNumberAt joinAt bodyAt ruleAt rulesAt figuresAt ruledAt figuredAt bookOf sizeAt cellsAt filledAt sheetOf
     andThen orElse called? anyCut fitsBody anyRule givesIn derives?
     each pieces bits entry table least works cutOf covers fits takes taken lowest chosen choose treeWithin treeOf
     judged roomed derivation
-    without merged copies joined repeated either-of few? within? written made lent
+    without merged copies joined repeated either-of countsWithin? withinLimits? written made lent
 cases =
     record {
       contents = refl;

@@ -37,7 +37,9 @@ houseContents =
       colours = slateC ∷ slateU ∷ [];
       motifs = 3;
       start = 0;
-      rules = record { head = 0; body = Across 0 0 } ∷ record { head = 0; body = Down 1 2 } ∷ record { head = 1; body = Colour 0 } ∷ record { head = 2; body = Colour 1 } ∷ [];
+      rules =
+          record { head = 0; body = Across 0 0 } ∷ record { head = 0; body = Down 1 2 }
+          ∷ record { head = 1; body = Colour 0 } ∷ record { head = 2; body = Colour 1 } ∷ [];
     }
 
 -- two rows of three columns, Slate C over Slate U; like all of these sheets it has the ticket 0

@@ -10,7 +10,7 @@ use borrow.Author.Count.{below-none, below-more}
 use lib.ListN.{length, getD}
 use lib.Dec.{ltb, leb, eqb}
 use Rattle.names.specs.Number.{lastGroup, longerAt, numberAt, numberIn, numberBelow}
-use Rattle.names.specs.Name.{leastAt, Shown, nameFrom, nameOf}
+use Rattle.names.specs.Name.{leastByte, Shown, nameFrom, nameOf}
 use Rattle.names.specs.Reads.{Reads, nothing-there, ends-after-one, ends-after-two, second-zero, third-misspelt, one-byte, two-bytes, three-bytes, ReadsIn, in-range, out-of-range, no-number}
 use Rattle.names.specs.Reads.{ReadsBelow, below-count, not-below, none-below, AllShown, ReadsName, whole, ends, bad}
 use Rattle.names.specs.declared.number.Read.{Read}
@@ -139,8 +139,8 @@ named-from s i len zero p h g = whole (omega arith) (λ j l. g j (omega arith)) 
 named-from s i len (suc k) p h g =
     pick-ind (ReadsName s len) (leb (length s) i) _ _
     (λ a. let end = leb-true (length s) i a in ends (omega arith) (λ j l. g j (omega arith)) refl)
-    (λ a. pick-ind (ReadsName s len) (ltb (getD s i 0) (leastAt len i)) _ _
-    (λ b. bad i (omega arith) (leb-false _ _ a) g (λ t. let low = ltb-true (getD s i 0) (leastAt len i) b in omega (arith, t .low)) refl)
+    (λ a. pick-ind (ReadsName s len) (ltb (getD s i 0) (leastByte len i)) _ _
+    (λ b. bad i (omega arith) (leb-false _ _ a) g (λ t. let low = ltb-true (getD s i 0) (leastByte len i) b in omega (arith, t .low)) refl)
     (λ b. pick-ind (ReadsName s len) (ltb 126 (getD s i 0)) _ _
     (λ d. bad i (omega arith) (leb-false _ _ a) g (λ t. let high = ltb-true 126 (getD s i 0) d in omega (arith, t .high)) refl)
     (λ d. named-from s (i + 1) len k (omega arith) (omega (arith, leb-false (length s) i a))

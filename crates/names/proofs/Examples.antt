@@ -4,7 +4,7 @@ use mathlib.Core.Path.{_≡_, refl}
 use mathlib.Core.List.{List, [], _∷_, _++_}
 use Rattle.names.specs.Pick.{fault}
 use Rattle.names.specs.Number.{greatestNumber, lastGroup, longerAt, numberAt, numberIn, spellNumber}
-use Rattle.names.specs.Name.{Name, leastAt, nameOf, sameName, listed}
+use Rattle.names.specs.Name.{Name, leastByte, nameOf, sameName, listed}
 use Rattle.names.specs.Colours.{namesIn, findName, colourAt, coloursOf}
 use Rattle.names.specs.declared.number.Read.the-variants.{Value, Refused}
 use Rattle.names.specs.declared.name.NameRead.the-variants.{Whole, Ends, Bad}
@@ -64,7 +64,7 @@ pub record Blanks : Type 0 where
   pub end-before-last : nameOf (65 ∷ 32 ∷ []) 3 ≡ Ends
 
 pub blanks : Blanks
-unfolding nameOf leastAt
+unfolding nameOf leastByte
 blanks = record { inside = refl; first = refl; last = refl; alone = refl; end-before-last = refl }
 
 pub slateU : Name
@@ -86,5 +86,5 @@ pub record Lists : Type 0 where
   pub repeated : coloursOf twice .fault ≡ fault 5 10
 
 pub lists : Lists
-unfolding house twice slateC slateU coloursOf numberIn numberAt colourAt nameOf leastAt findName listed sameName
+unfolding house twice slateC slateU coloursOf numberIn numberAt colourAt nameOf leastByte findName listed sameName
 lists = record { fine = refl; next = refl; names = refl; repeated = refl }

@@ -5,10 +5,10 @@ use mathlib.Core.Bool.{true, false}
 use mathlib.Core.List.{List, List·Memᴰ}
 use mathlib.Core.Logic.{⊎-elim}
 use native.Mathlib.Omega.{arith}
-use borrow.Author.Tests.{le-ltb, lt-leb}
+use borrow.Author.Tests.{le-ltb}
 use Rattle.names.specs.Name.{Name, sameName, listed}
 use Rattle.names.specs.Spelling.{mostColours}
-use Rattle.names.specs.Colours.{nameIn, namesFrom, namesIn, findName, findIn}
+use Rattle.names.specs.Colours.{nameIn, namesFrom, namesIn, findName}
 use Rattle.names.specs.declared.colours.Colours.{Colours}
 use lib.Dec.{ltb}
 use Rattle.names.proofs.Count.{left-all, left-suc, left-none}
@@ -40,14 +40,6 @@ module _ (s : List ℕ) (c : Colours) (n : Name) (few : c .count ≤ mostColours
 
   pub absent-unfound : (List·Memᴰ n (namesIn s c) → ⊥) → c .count ≤ findName s c n
   absent-unfound out = ⊎-elim (λ (h : findName s c n < c .count). absurd (out (found-mem h))) (λ h. h) (lt-or-le _ _)
-
--- a colour of another list is found by its name
-pub find-in-listed : (s : List ℕ) (c : Colours) (t : List ℕ) (d : Colours) (i : ℕ) → i < d .count → d .count ≤ mostColours
-    → findIn s c t d i ≡ findName s c (nameIn t d i)
-unfolding findIn
-find-in-listed s c t d i h few =
-    let low : i < mostColours = omega arith in
-    simp (lt-leb _ _ h, lt-leb _ _ low)
 
 -- what is found from the i-th colour on, where it is looked for among the first so many
 abbrev pub found-from : List ℕ → Colours → Name → ℕ → ℕ → ℕ

@@ -6,7 +6,7 @@ use mathlib.Core.Logic.{⊎-elim}
 use native.Mathlib.Omega.{arith}
 use lib.ListN.{length, getD, replicate, length-append, getD-replicate}
 use lib.Dec.{eqb}
-use Rattle.names.specs.Name.{Name, leastAt, Shown}
+use Rattle.names.specs.Name.{Name, leastByte, Shown}
 use Rattle.names.specs.Number.{spellNumber}
 use Rattle.names.specs.Spelling.{NameOk, Distinct, ColoursOk, spellNames, spellColours}
 use Rattle.names.proofs.Picking.{pick-ind}
@@ -27,8 +27,8 @@ inks b zero = []
 inks b (suc k) = ink b ∷ inks (suc b) k
 
 -- no byte of a name need be more than 33
-least-low : (len i : ℕ) → leastAt len i ≤ 33
-unfolding leastAt
+least-low : (len i : ℕ) → leastByte len i ≤ 33
+unfolding leastByte
 least-low len i =
     pick-ind (λ (x : ℕ). x ≤ 33) (eqb i 0) 33 _ (λ _. omega arith)
     (λ _. pick-ind (λ (x : ℕ). x ≤ 33) (eqb (i + 1) len) 33 32 (λ _. omega arith) (λ _. omega arith))

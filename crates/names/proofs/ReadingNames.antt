@@ -7,7 +7,7 @@ use borrow.Author.Tests.{ltb-false, leb-true, leb-false, lt-leb, le-ltb}
 use borrow.Author.Count.{below-none, below-more}
 use lib.ListN.{length, getD}
 use lib.Dec.{ltb, leb}
-use Rattle.names.specs.Name.{leastAt, Shown, nameFrom, nameOf}
+use Rattle.names.specs.Name.{leastByte, Shown, nameFrom, nameOf}
 use Rattle.names.specs.Reads.{AllShown}
 use Rattle.names.specs.declared.name.NameRead.{NameRead}
 use Rattle.names.specs.declared.name.NameRead.the-variants.{Whole, Ends, Bad}
@@ -23,7 +23,7 @@ found-from : (s : List ℕ) (i n k : ℕ) → i + k ≡ n → i ≤ length s →
 found-from s i n zero p h g = (omega arith, λ j l. g j (omega arith))
 found-from s i n (suc k) p h g =
     pick-ind (Found s n) (leb (length s) i) _ _ (λ a. omega (arith, leb-true (length s) i a))
-    (λ a. pick-ind (Found s n) (ltb (getD s i 0) (leastAt n i)) _ _ (λ _. (leb-false _ _ a, omega arith))
+    (λ a. pick-ind (Found s n) (ltb (getD s i 0) (leastByte n i)) _ _ (λ _. (leb-false _ _ a, omega arith))
     (λ b. pick-ind (Found s n) (ltb 126 (getD s i 0)) _ _ (λ _. (leb-false _ _ a, omega arith))
     (λ d. found-from s (i + 1) n k (omega arith) (omega (arith, leb-false))
     (below-more (λ (j : ℕ). Shown n j (getD s j 0)) i g (record { low = ltb-false _ _ b; high = ltb-false _ _ d })))))

@@ -7,7 +7,7 @@ use native.Mathlib.Omega.{arith}
 use borrow.Author.Tests.{ltb-true, ltb-false, leb-true, leb-false, eqb-false, lt-ltb, le-ltb}
 use lib.ListN.{length, getD}
 use lib.Dec.{ltb, leb, eqb}
-use Rattle.names.specs.Pick.{fault}
+use Rattle.names.specs.Pick.{fault, ReadersNumber}
 use Rattle.names.specs.Number.{greatestNumber, lastGroup, longerAt, numberAt, numberIn, numberBelow}
 use Rattle.names.specs.declared.number.Fault.{Fault}
 use Rattle.names.specs.declared.number.Read.{Read}
@@ -18,7 +18,7 @@ use Rattle.names.proofs.Onwards.{onward-ind}
 -- a refusal: an answer number from 1 to 8, with a place within the input and not past a limit
 pub record Blamed (s : List ℕ) (limit : ℕ) (f : Fault) : Type 0 where
   pub some : 1 ≤ f .number
-  pub known : f .number ≤ 8
+  pub known : ReadersNumber (f .number)
   pub inside : f .place ≤ length s
   pub near : f .place ≤ limit
 
@@ -115,7 +115,7 @@ number-in-range s at least most v next e l h = simp (e, le-ltb v least l, le-ltb
 -- A number below a count is the number that stands there, and below it; a refusal has its field's number, from 1 to 8.
 abbrev Counted : List ℕ → ℕ → ℕ → ℕ → Read → Read → Type 0
 Counted s at count refusal r (Value v next) = (r ≡ Value v next) × (v < count)
-Counted s at count refusal r (Refused f) = 1 ≤ refusal → refusal ≤ 8 → Blamed s (at + 2) f
+Counted s at count refusal r (Refused f) = 1 ≤ refusal → ReadersNumber refusal → Blamed s (at + 2) f
 
 counted : (s : List ℕ) (at count refusal : ℕ) → Counted s at count refusal (numberAt s at) (numberBelow s at count refusal)
 unfolding numberBelow
@@ -141,7 +141,7 @@ number-below s at count refusal v next e =
     let l = number-lies s at v next (r .0) in
     record { after = l .after; inside = l .inside; near = l .near; low = r .1 }
 
-pub number-below-refused : (s : List ℕ) (at count refusal : ℕ) (f : Fault) → numberBelow s at count refusal ≡ Refused f → 1 ≤ refusal → refusal ≤ 8 → Blamed s (at + 2) f
+pub number-below-refused : (s : List ℕ) (at count refusal : ℕ) (f : Fault) → numberBelow s at count refusal ≡ Refused f → 1 ≤ refusal → ReadersNumber refusal → Blamed s (at + 2) f
 number-below-refused s at count refusal f e = subst (Counted s at count refusal (numberAt s at)) e (counted s at count refusal)
 
 pub number-below-count : (s : List ℕ) (at count refusal v next : ℕ) → numberAt s at ≡ Value v next → v < count → numberBelow s at count refusal ≡ Value v next

@@ -10,9 +10,9 @@ use Rattle.names.specs.Number.{numberAt, numberIn, numberBelow, spellNum
 use Rattle.names.specs.Name.{nameOf, sameName}
 use Rattle.names.specs.Put.{Puts}
 use Rattle.names.specs.Part.{Part, tailStart}
-use Rattle.names.specs.Colours.{findName, findIn, noColours, coloursOf, ListInto}
+use Rattle.names.specs.Colours.{findName, noColours, coloursOf, ListInto}
 use Rattle.names.specs.declared.colours.Colours.{Colours}
-use Rattle.names.specs.declared.colours.ListRead.{ListRead}
+use Rattle.names.specs.declared.colours.ListFigures.{ListFigures}
 use Rattle.names.proofs.ToldInParts.{told-rest}
 
 -- what is equal to one thing is equal
@@ -85,13 +85,10 @@ no-colours-settled = settles _
 pub find-name-settled : (s : List ℕ) (c : Colours) (name : List ℕ) (len : ℕ) → Settles (findName s c (take len name))
 find-name-settled s c name len = settles _
 
-pub find-in-settled : (s : List ℕ) (c : Colours) (t : List ℕ) (d : Colours) (i : ℕ) → Settles (findIn s c t d i)
-find-in-settled s c t d i = settles _
-
 pub read-colours-settled : (s : List ℕ) → Settles (coloursOf s)
 read-colours-settled s = settles _
 
-pub read-list-settled : (s : List ℕ) (r q : ListRead) (starts lens places sizes : List ℕ)
+pub read-list-settled : (s : List ℕ) (r q : ListFigures) (starts lens places sizes : List ℕ)
     → ListInto (coloursOf s) r starts lens → ListInto (coloursOf s) q places sizes → (r ≡ q) × (starts ≡ places) × (lens ≡ sizes)
 read-list-settled s r q starts lens places sizes a b =
     (settled (told-rest a) (told-rest b), settled (a .starts) (b .starts), settled (a .lens) (b .lens))

@@ -9,7 +9,8 @@ use Rattle.names.specs.Name.{Name}
 use Rattle.names.specs.Number.{greatestNumber, spellNumber}
 use Rattle.names.specs.Spelling.{longestName, NameOk, ColoursOk, spellNames, spellColours}
 use Rattle.names.proofs.Tests.{lt-or-le}
-use Rattle.names.proofs.SpellingNumbers.{Bytes, spell-one, spell-two, spell-three, spell-short}
+use Rattle.names.specs.Bytes.{Bytes}
+use Rattle.names.proofs.SpellingNumbers.{spell-one, spell-two, spell-three, spell-short}
 
 -- at most so many, each a byte
 pub record FewBytes (l : List ℕ) (most : ℕ) : Type 0 where

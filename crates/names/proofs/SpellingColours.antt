@@ -22,7 +22,8 @@ use Rattle.names.specs.declared.colours.ColoursRead.{ColoursRead}
 use Rattle.names.proofs.Picking.{pick-ind}
 use Rattle.names.proofs.Onwards.{onward-ind, after-colour-ind}
 use Rattle.names.proofs.ReadingNumbers.{number-there, number-in, number-in-range, number-in-refused}
-use Rattle.names.proofs.SpellingNumbers.{Bytes, number-spelled, number-reads-at}
+use Rattle.names.specs.Bytes.{Bytes}
+use Rattle.names.proofs.SpellingNumbers.{number-spelled, number-reads-at}
 use Rattle.names.proofs.ReadingNames.{name-whole, name-good}
 use Rattle.names.proofs.ReadingColours.{colour-lies, colour-refused, Places, places-none, places-with, names-with, colours-lie}
 use Rattle.names.proofs.Finding.{mem-found, absent-unfound}

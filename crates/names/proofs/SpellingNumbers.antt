@@ -8,6 +8,7 @@ use native.Mathlib.Numerals.{add-one}
 use borrow.Author.Tests.{lt-ltb, le-ltb, lt-leb, le-leb, ne-eqb}
 use lib.ListN.{length, getD, take, drop, length-append, take-append-drop}
 use lib.Seq.{length-take-le, getD-append-seam, getD-append-add, drop-cons}
+use Rattle.names.specs.Bytes.{Bytes}
 use Rattle.names.specs.Number.{greatestNumber, lastGroup, longerAt, numberAt, spellNumber}
 use Rattle.names.specs.declared.number.Read.{Read}
 use Rattle.names.specs.declared.number.Read.the-variants.{Value, Refused}
@@ -127,8 +128,6 @@ number-reads-at s b at n h l e =
     subst₂ (λ (x : List ℕ) (i : ℕ). numberAt x i ≡ Value n (i + length (spellNumber n))) whole len (number-reads (take at s) b n l)
 
 -- Whatever is read is the spelling of its value.
-abbrev pub Bytes : List ℕ → Type 0
-Bytes s = (i : ℕ) → getD s i 0 < 256
 
 drop-two : (s : List ℕ) (at : ℕ) → at + 1 < length s → drop at s ≡ getD s at 0 ∷ getD s (at + 1) 0 ∷ drop (at + 2) s
 drop-two s at h =

@@ -3,7 +3,7 @@ use Prim.Native.Nat.{ℕ, zero, suc, _+_}
 use mathlib.Core.Path.{_≡_}
 use mathlib.Core.List.{List, [], _∷_}
 use lib.ListN.{length, getD, take, drop, set, replicate}
-use lib.Dec.{ltb, leb}
+use lib.Dec.{ltb}
 use Rattle.names.specs.Pick.{pick, fault}
 use Rattle.names.specs.Onward.{onward, faultless}
 use Rattle.names.specs.Number.{numberIn}
@@ -16,7 +16,7 @@ use Rattle.names.specs.declared.colour.ColourRead.{ColourRead}
 use Rattle.names.specs.declared.colour.ColourRead.the-variants.{At, Refused as RefusedColour}
 use Rattle.names.specs.declared.colours.Colours.{Colours}
 use Rattle.names.specs.declared.colours.ColoursRead.{ColoursRead}
-use Rattle.names.specs.declared.colours.ListRead.{ListRead}
+use Rattle.names.specs.declared.colours.ListFigures.{ListFigures}
 
 -- so many colours, with the place and the length of each name
 abbrev pub listOf : ℕ → List ℕ → List ℕ → Colours
@@ -36,10 +36,6 @@ namesIn s c = namesFrom s c 0 (c .count)
 -- the number of the colour with a name, or the count; a count that no list has holds nothing
 unfoldable pub findName : List ℕ → Colours → Name → ℕ
 findName s c n = pick (ltb mostColours (c .count)) (c .count) (listed (namesIn s c) n)
-
--- the number here of colour i of another list, by its name; the count too where that list has no such colour
-unfoldable pub findIn : List ℕ → Colours → List ℕ → Colours → ℕ → ℕ
-findIn s c t d i = pick (leb (d .count) i) (c .count) (pick (leb mostColours i) (c .count) (findName s c (nameIn t d i)))
 
 -- the name of so many bytes from a place on
 abbrev pub namedAt : List ℕ → ℕ → ℕ → NameRead → ColourRead
@@ -83,7 +79,7 @@ abbrev pub afterColours {ℓ} : {A : Type ℓ} → (Fault → A) → ColoursRead
 afterColours refuse r go = faultless refuse (r .fault) (go (r .colours) (r .next))
 
 -- the same list told in parts: the places and the sizes of its names are in two arrays
-pub record ListInto (c : ColoursRead) (r : ListRead) (places sizes : List ℕ) : Type 0 where
+pub record ListInto (c : ColoursRead) (r : ListFigures) (places sizes : List ℕ) : Type 0 where
   pub fault : r .fault ≡ c .fault
   pub count : r .count ≡ c .colours .count
   pub next : r .next ≡ c .next

@@ -2,6 +2,7 @@ pub mod Pick
 pub mod Counted
 pub mod Bits
 pub mod Onward
+pub mod Bytes
 pub mod Number
 pub mod Put
 pub mod Part

@@ -13,12 +13,12 @@ abbrev pub Name : Type 0
 Name = List ℕ
 
 -- the least byte at place i of a name of so many bytes: a blank, 32, stands inside a name, and neither first nor last
-unfoldable pub leastAt : ℕ → ℕ → ℕ
-leastAt len i = pick (eqb i 0) 33 (pick (eqb (i + 1) len) 33 32)
+unfoldable pub leastByte : ℕ → ℕ → ℕ
+leastByte len i = pick (eqb i 0) 33 (pick (eqb (i + 1) len) 33 32)
 
 -- a byte that may stand there
 pub record Shown (len i b : ℕ) : Type 0 where
-  pub low : leastAt len i ≤ b
+  pub low : leastByte len i ≤ b
   pub high : b ≤ 126
 
 -- the last so many bytes of a name of len bytes, from the i-th on: left to right, to the first fault
@@ -26,7 +26,7 @@ abbrev pub nameFrom : List ℕ → ℕ → ℕ → ℕ → NameRead
 nameFrom s len i zero = Whole
 nameFrom s len i (suc k) =
     pick (leb (length s) i) Ends
-    (pick (ltb (getD s i 0) (leastAt len i)) (Bad i) (pick (ltb 126 (getD s i 0)) (Bad i) (nameFrom s len (i + 1) k)))
+    (pick (ltb (getD s i 0) (leastByte len i)) (Bad i) (pick (ltb 126 (getD s i 0)) (Bad i) (nameFrom s len (i + 1) k)))
 
 -- the name of so many bytes that s begins with
 unfoldable pub nameOf : List ℕ → ℕ → NameRead

@@ -1,5 +1,5 @@
 -- A choice by a test, two tests in turn, and a fault with its place.
-use Prim.Native.Nat.{ℕ}
+use Prim.Native.Nat.{ℕ, _≤_}
 use mathlib.Core.Bool.{Bool, true, false}
 use Rattle.names.specs.declared.number.Fault.{Fault}
 
@@ -18,3 +18,7 @@ orElse false k = k tt
 
 abbrev pub fault : ℕ → ℕ → Fault
 fault n p = record { number = n; place = p }
+
+-- a number that a reader gives: 0 where there is no fault, 1 to 8 for what refuses an input
+abbrev pub ReadersNumber : ℕ → Type 0
+ReadersNumber n = n ≤ 8

@@ -11,7 +11,7 @@ ghost use Prim.Native.Nat.{_≤_};
 ghost use lib.ListN.{take, drop};
 ghost use Rattle.names.specs.Name.{sameName};
 ghost use Rattle.names.specs.Spelling.{mostColours};
-ghost use Rattle.names.specs.Colours.{listOf, findName, findIn, noColours, refusedColours, coloursFrom, coloursOf, ListInto};
+ghost use Rattle.names.specs.Colours.{listOf, findName, noColours, refusedColours, coloursFrom, coloursOf, ListInto};
 
 // A list has no more colours than this.
 pub const MOST_COLOURS: usize = 64;
@@ -31,7 +31,7 @@ pub struct ColoursRead {
 }
 
 // What is told of a list whose places went into lent arrays.
-pub struct ListRead {
+pub struct ListFigures {
     pub fault: Fault,
     pub count: usize,
     pub next: usize,
@@ -53,12 +53,12 @@ fn refuse_list(
     f: Fault,
     starts: &mut [u16; MOST_COLOURS],
     lens: &mut [u8; MOST_COLOURS],
-) -> ListRead
+) -> ListFigures
     ensures { λ r. ⌜ ListInto (refusedColours f) r (now (starts .exit)) (now (lens .exit)) ⌝ }
 {
     *starts = [0; MOST_COLOURS];
     *lens = [0; MOST_COLOURS];
-    ListRead {
+    ListFigures {
         fault: f,
         count: 0,
         next: 0,
@@ -95,21 +95,6 @@ pub fn find_name<'a>(
     count
 }
 
-// The same for the name of colour i in a list over t; the count too where that list has no such colour.
-pub fn find_in(s: &[u8], c: Colours, t: &[u8], d: Colours, i: usize) -> usize
-    ensures { λ r. ⌜ r ≡ findIn (now (s .entry)) c (now (t .entry)) d i ⌝ }
-{
-    if d.count <= i {
-        return c.count;
-    }
-    if MOST_COLOURS <= i {
-        return c.count;
-    }
-    let start = d.starts[i] as usize;
-    let len = d.lens[i] as usize;
-    find_name(s, c.count, &c.starts, &c.lens, name::tail(t, start), len)
-}
-
 // So many names from a place near the start on.
 fn read_names(
     s: &[u8],
@@ -117,7 +102,7 @@ fn read_names(
     from: usize,
     starts: &mut [u16; MOST_COLOURS],
     lens: &mut [u8; MOST_COLOURS],
-) -> ListRead
+) -> ListFigures
     requires { ⌜ (count ≤ mostColours) × (from ≤ 3) ⌝ }
     ensures { λ r. ⌜ ListInto (coloursFrom (now (s .entry)) noColours from count) r (now (starts .exit)) (now (lens .exit)) ⌝ }
 {
@@ -138,7 +123,7 @@ fn read_names(
             }
         }
     }
-    ListRead {
+    ListFigures {
         fault: fault(0, 0),
         count,
         next: at,
@@ -151,7 +136,7 @@ pub fn read_list(
     s: &[u8],
     starts: &mut [u16; MOST_COLOURS],
     lens: &mut [u8; MOST_COLOURS],
-) -> ListRead
+) -> ListFigures
     ensures { λ r. ⌜ ListInto (coloursOf (now (s .entry))) r (now (starts .exit)) (now (lens .exit)) ⌝ }
 {
     let r = number::read_in(s, 0, 1, MOST_COLOURS);

@@ -2,7 +2,7 @@
 ghost use mathlib.Core.Path.{_≡_};
 ghost use Prim.Native.Nat.{_<_};
 ghost use lib.ListN.{take, drop};
-ghost use Rattle.names.specs.Name.{leastAt, nameOf, sameName};
+ghost use Rattle.names.specs.Name.{leastByte, nameOf, sameName};
 ghost use Rattle.names.specs.Part.{Part, tailStart};
 ghost use Rattle.names.specs.Put.{Puts};
 
@@ -31,9 +31,9 @@ pub enum NameRead {
 }
 
 // The least byte that may stand at a place of a name: a blank, 32, stands inside a name. At either end it is a slip of the keyboard.
-fn least_at(len: usize, i: usize) -> u8
+fn least_byte(len: usize, i: usize) -> u8
     requires { ⌜ i < len ⌝ }
-    ensures { λ r. ⌜ r ≡ leastAt len i ⌝ }
+    ensures { λ r. ⌜ r ≡ leastByte len i ⌝ }
 {
     if i == 0 {
         return 33;
@@ -51,7 +51,7 @@ pub fn read_name(s: &[u8], len: usize) -> NameRead
             return NameRead::Ends;
         }
         let b = s[i];
-        if b < least_at(len, i) {
+        if b < least_byte(len, i) {
             return NameRead::Bad(i);
         }
         if 126 < b {

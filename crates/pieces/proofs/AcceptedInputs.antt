@@ -1,28 +1,31 @@
 -- Reading gives what the table asks: rules that fit their masks, and for each cell the number of its colour.
-use Prim.Native.Nat.{ℕ, _≤_}
+use Prim.Native.Nat.{ℕ, _≤_, _<_}
 use mathlib.Core.Path.{_≡_}
 use mathlib.Core.List.{List}
 use native.Mathlib.Omega.{arith}
-use lib.ListN.{getD}
-use Rattle.names.proofs.SpellingNumbers.{Bytes}
+use lib.ListN.{length, getD}
+use lib.Seq.{getD-take, length-take-le}
+use Rattle.names.specs.Spelling.{mostColours}
+use Rattle.names.specs.Bytes.{Bytes}
 use Rattle.books.specs.Book.{bookOf}
-use Rattle.books.specs.Keeps.{BodyFits}
-use Rattle.books.specs.Order.{numbersOf}
+use Rattle.books.specs.Keeps.{BodyFits, mostMotifs}
+use Rattle.books.specs.Lent.{contentsOf}
+use Rattle.books.specs.Numbering.{numbersOf}
 use Rattle.books.specs.Rules.{noRule}
 use Rattle.books.specs.Sheet.{sheetOf}
 use Rattle.books.specs.declared.family.Family.{Family}
 use Rattle.books.specs.declared.sheet.Sheet.{Sheet}
 use Rattle.books.specs.declared.rule.Body.{Body}
 use Rattle.books.specs.declared.rule.Body.the-variants.{Colour, Across, Down}
-use Rattle.books.proofs.Ordering.{number-at, numbers-all}
+use Rattle.books.proofs.NumberedCells.{number-at, numbers-all}
 use Rattle.books.proofs.ReadingBooks.{book-lies, book-accepted}
 use Rattle.books.proofs.ReadingSheets.{sheet-lies}
 use Rattle.books.proofs.SpellingSheets.{sheet-accepted}
 use Rattle.pieces.specs.inner.Small.{SmallRules}
 use Rattle.pieces.proofs.WholeTable.{AsRead, Numbered}
 
--- a rule of a book with at most 32 motifs and 64 colours
-body-small : (m n : ℕ) (x : Body) → m ≤ 32 → n ≤ 64 → BodyFits m n x → BodyFits 32 64 x
+-- a rule of a book with no more motifs and colours than a book can have
+body-small : (m n : ℕ) (x : Body) → m ≤ mostMotifs → n ≤ mostColours → BodyFits m n x → BodyFits mostMotifs mostColours x
 body-small m n (Colour c) h k f = omega arith
 body-small m n (Across l r) h k f = (omega arith, omega arith)
 body-small m n (Down u v) h k f = (omega arith, omega arith)
@@ -31,16 +34,20 @@ module _ (book : List ℕ) (book-fine : bookOf book .fault .number ≡ 0) where
   abbrev f : Family
   f = bookOf book .family
 
-  pub rules-read : SmallRules (f .rules) (f .count)
+  pub rules-read : SmallRules (contentsOf book .rules)
   rules-read =
       let k = book-lies book book-fine in
+      let all : length (contentsOf book .rules) ≡ f .count = length-take-le (f .count) (f .rules) (omega (arith, k .rules-few, k .rules-size)) in
       record {
-        few = k .rules-few;
-        held = omega (arith, k .rules-few, k .rules-size);
-        small = λ i h. let fits = k .rules-fit i h in record {
-          head-fits = omega (arith, fits .head-fits, k .motifs-few);
-          body-fits = body-small _ _ (getD (f .rules) i noRule .body) (k .motifs-few) (k .places .few) (fits .body-fits);
-        };
+        few = omega (arith, all, k .rules-few);
+        small = λ i h.
+            let low : i < f .count = omega (arith, all) in
+            let fits = k .rules-fit i low in
+            rw (getD-take (f .count) (f .rules) i noRule low)
+            (record {
+              head-fits = omega (arith, fits .head-fits, k .motifs-few);
+              body-fits = body-small _ _ (getD (f .rules) i noRule .body) (k .motifs-few) (k .places .few) (fits .body-fits);
+            });
       }
 
   module _ (sheet : List ℕ) (sheet-fine : sheetOf sheet .fault .number ≡ 0) where

@@ -8,9 +8,10 @@ use lib.ListN.{length, getD, drop, length-drop}
 use lib.Seq.{getD-drop}
 use Rattle.books.specs.declared.rule.Dir.{Dir}
 use Rattle.books.specs.declared.rule.Dir.the-variants.{Across as across, Down as down}
+use Rattle.books.specs.Keeps.{mostRules}
 use Rattle.pieces.specs.Pieces.{Inside}
 use Rattle.pieces.specs.Parts.{reach}
-use Rattle.pieces.specs.Masks.{mostRules, secondsFrom, headsFrom, placeOf, countOf}
+use Rattle.pieces.specs.Masks.{secondsFrom, headsFrom, placeOf, countOf}
 use Rattle.pieces.specs.Firing.{firedAt, joinsFired}
 use Rattle.pieces.specs.Filling.{cutsOf, pieceCuts}
 use Rattle.pieces.specs.inner.Course.{courseOf}

@@ -9,7 +9,7 @@ use native.Mathlib.Omega.{arith}
 use borrow.Author.Tests.{eq-eqb, ne-eqb, lt-ltb, le-ltb}
 use lib.ListN.{length, getD}
 use Rattle.names.proofs.Settled.{Settles, settles, SettlesBoth, settled}
-use Rattle.names.proofs.SpellingNumbers.{Bytes}
+use Rattle.names.specs.Bytes.{Bytes}
 use Rattle.names.proofs.Tests.{true-or-false}
 use Rattle.books.specs.Contents.{Contents}
 use Rattle.books.specs.Picture.{Picture}
@@ -133,9 +133,11 @@ module _ (book sheet entries numbers : List ℕ) (fine : bookOf book .fault .num
 pub split-book-settled : (book masks : List ℕ) → SettlesBoth (λ (r : Split) (left : List ℕ). keptWith r left ≡ splitBook book masks)
 split-book-settled book masks r q x y e f = let same = settled e f in (ap (λ (s : SplitBook). s .split) same, ap (λ (s : SplitBook). s .masks) same)
 
-pub ask-sheet-settled : (book : List ℕ) (split : Split) (masks sheet entries : List ℕ)
-    → SettlesBoth (λ (r : Asked) (left : List ℕ). askedWith r left ≡ askSheet book split masks sheet entries)
-ask-sheet-settled book split masks sheet entries r q x y e f = let same = settled e f in (ap (λ (s : AskedSheet). s .asked) same, ap (λ (s : AskedSheet). s .entries) same)
+pub ask-sheet-settled : (book : List ℕ) (split : Split) (masks sheet entries : List ℕ) (r q : Asked) (cells numbers left after : List ℕ)
+    → askedWith r cells left ≡ askSheet book split masks sheet entries → askedWith q numbers after ≡ askSheet book split masks sheet entries
+    → (r ≡ q) × (cells ≡ numbers) × (left ≡ after)
+ask-sheet-settled book split masks sheet entries r q cells numbers left after e f =
+    let same = settled e f in (ap (λ (s : AskedSheet). s .asked) same, ap (λ (s : AskedSheet). s .cells) same, ap (λ (s : AskedSheet). s .entries) same)
 
 pub fire-settled : (masks : List ℕ) (j : Joins) (d : Dir) (l r : ℕ) → Settles (fireOf masks j d l r)
 fire-settled masks j d l r = settles (fireOf masks j d l r)

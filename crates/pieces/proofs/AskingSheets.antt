@@ -8,36 +8,37 @@ use native.Mathlib.Decide.{decLt, ℕ-discrete}
 use native.Mathlib.Omega.{arith}
 use borrow.Author.Tests.{eq-eqb, ne-eqb, lt-ltb, le-ltb}
 use lib.ListN.{length, take}
-use lib.Seq.{length-take-le}
-use Rattle.names.specs.Bits.{bit, isSet}
+use Rattle.names.specs.Bits.{bit}
 use Rattle.names.specs.declared.colours.Colours.{Colours}
 use Rattle.names.specs.declared.number.Fault.{Fault}
-use Rattle.names.proofs.SpellingNumbers.{Bytes}
+use Rattle.names.specs.Bytes.{Bytes}
 use Rattle.books.specs.Book.{bookOf}
 use Rattle.books.specs.Contents.{Contents, Has}
-use Rattle.books.specs.Order.{numbersOf, numberedSheet}
+use Rattle.books.specs.Numbering.{numbersOf, numbersFor, Numbers}
 use Rattle.books.specs.Picture.{Picture}
-use Rattle.books.specs.Sheet.{sheetOf}
-use Rattle.books.specs.declared.book.BookRead.{BookRead}
+use Rattle.books.specs.Sheet.{sheetOf, sheetFigures}
 use Rattle.books.specs.declared.family.Family.{Family}
-use Rattle.books.specs.declared.order.NumberedSheet.{NumberedSheet}
+use Rattle.books.specs.declared.sheet.SheetFigures.{SheetFigures}
 use Rattle.books.specs.declared.rule.Body.the-variants.{Colour}
 use Rattle.books.specs.declared.sheet.Sheet.{Sheet}
-use Rattle.books.proofs.Ordering.{numbers-for, numbered-room, numbered-few}
-use Rattle.books.proofs.ReadingBooks.{book-lies, book-places, book-accepted}
+use Rattle.books.proofs.NumberedCells.{numbers-for, numbers-room, numbers-few}
+use Rattle.books.proofs.SizesWithin.{within-more}
+use Rattle.books.proofs.LentRules.{rows-back}
+use Rattle.books.specs.RuleBytes.{BookInto, rulesIn}
+use Rattle.books.specs.declared.lent.BookFigures.{BookFigures}
+use Rattle.books.proofs.ReadingBooks.{book-places, book-accepted}
 use Rattle.books.proofs.ReadingSheets.{sheet-lies}
 use Rattle.pieces.specs.Area.{whole}
 use Rattle.pieces.specs.Asking.{SplitBook, keptWith, keeping, splitBook, startAnswer, judgedBy, toldBy, AskedSheet, askedWith, sheetTold, askSheet, tabled, asking, SplitFrom, Asks}
 use Rattle.pieces.specs.Derivation.{entriesNeeded, filled}
 use Rattle.pieces.specs.Filling.{filledBy}
 use Rattle.pieces.specs.Largest.{marked}
-use Rattle.pieces.specs.Masks.{mostRules, allMasks, Masked, splitOf, laid}
+use Rattle.pieces.specs.Masks.{allMasks, Masked, splitOf, laid}
 use Rattle.pieces.specs.Firing.{fireOf, paintedOf}
 use Rattle.pieces.specs.Rights.{Fires, Serves}
 use Rattle.pieces.specs.declared.asking.Asked.{Asked}
 use Rattle.pieces.specs.declared.asking.Split.{Split}
 use Rattle.pieces.specs.inner.ForTable.{Shows}
-use Rattle.pieces.specs.inner.Small.{SmallRules}
 use Rattle.pieces.proofs.AcceptedInputs.{rules-read, as-read, cells-numbered}
 use Rattle.pieces.proofs.Cutting.{whole-inside, cut-whole}
 use Rattle.books.specs.Lent.{contentsOf, pictureOf}
@@ -48,25 +49,23 @@ use Rattle.pieces.proofs.WholeTable.{whole-table}
 
 -- ── What was read ──
 
-pub read-small : (book : List ℕ) {b : BookRead} → b ≡ bookOf book → b .fault .number ≡ 0 → SmallRules (b .family .rules) (b .family .count)
-read-small book read = rw read (rules-read book)
-
-pub read-split : (book before : List ℕ) {b : BookRead} {s : Masked} → b ≡ bookOf book
-    → s ≡ laid (b .fault .number) (take (b .family .count) (b .family .rules)) before → keeping b s ≡ splitBook book before
+pub read-split : (book before : List ℕ) {b : BookFigures} {rows : List (List ℕ)} {s : Masked} → BookInto book b rows
+    → s ≡ laid (b .fault .number) (rulesIn (take (b .rules) rows)) before
+    → keptWith (record { fault = b .fault; colours = b .colours; start = b .start; joins = s .joins }) (s .masks) ≡ splitBook book before
 unfolding splitBook
-read-split book before read laid-is = rw (laid-is, read)
+read-split book before read is = rw (is, rows-back book read, read .figures)
 
-pub read-shows : (book : List ℕ) (c : Colours) (sheet : List ℕ) {s : NumberedSheet} → s ≡ numberedSheet book c sheet → s .fault .number ≡ 0 → Shows s
-unfolding numberedSheet
-read-shows book c sheet is = rw is shows
+pub read-shows : (book : List ℕ) (c : Colours) (sheet : List ℕ) {g : SheetFigures} {cells : List ℕ} → Numbers book c sheet g cells → g .fault .number ≡ 0 → Shows g cells
+read-shows book c sheet n = rw (n .figures, n .cells) shows
   where
-    shows : numberedSheet book c sheet .fault .number ≡ 0 → Shows (numberedSheet book c sheet)
+    shows : sheetOf sheet .fault .number ≡ 0 → Shows (sheetFigures (sheetOf sheet)) (numbersFor book c sheet (sheetOf sheet .sheet))
     shows z =
         let k = sheet-lies sheet z in
+        let all = numbers-room book c sheet in
         record {
-          sizes = record { rows-some = k .rows-some; rows-few = omega (arith, k .rows-few); cols-some = k .cols-some; cols-few = omega (arith, k .cols-few) };
-          cells-room = numbered-room book c sheet;
-          cells = record { all = omega (arith, k .area-few, numbered-room book c sheet); low = λ i h. omega (arith, numbered-few book c sheet i h) };
+          sizes = within-more (omega arith) (k .within);
+          cells-room = all;
+          painted = record { all = omega (arith, k .area-few, all); low = λ i h. omega (arith, numbers-few book c sheet i h) };
         }
 
 -- ── What is kept of a book ──
@@ -95,10 +94,7 @@ module _ (book : List ℕ) (split : Split) (masks : List ℕ) (from : SplitFrom 
   -- its masks serve its rules, ...
   pub book-serves : Serves (b .rules) masks (split .joins)
   book-serves =
-      let k = book-lies book (from .accepted) in
-      let f = bookOf book .family in
-      let few : length (b .rules) ≤ mostRules = omega (arith, length-take-le (f .count) (f .rules) (omega (arith, k .rules-few, k .rules-size)), k .rules-few) in
-      subst (λ (x : SplitBook). Serves (b .rules) (x .masks) (x .split .joins)) (sym is-split) (split-serves (b .rules) (from .before) few (from .sized))
+      subst (λ (x : SplitBook). Serves (b .rules) (x .masks) (x .split .joins)) (sym is-split) (split-serves (b .rules) (from .before) (rules-read book (from .accepted) .few) (from .sized))
 
   -- ... so that what the public functions give by them is what the rules give
   pub book-fires : Fires (b .rules) (fireOf masks (split .joins))
@@ -132,26 +128,29 @@ module _ (book sheet : List ℕ) (bytes-book : Bytes book) (bytes-sheet : Bytes 
   abbrev p : Picture
   p = pictureOf sheet
 
-  abbrev s : NumberedSheet
-  s = numberedSheet book (f .colours) sheet
+  abbrev figures : SheetFigures
+  figures = sheetFigures (sheetOf sheet)
+
+  abbrev numbers : List ℕ
+  numbers = numbersFor book (f .colours) sheet g
 
   serves : Serves (contentsOf book .rules) masks (split .joins)
   serves = book-serves book split masks from
 
   by-table : sheetOf sheet .fault .number ≡ 0 → entriesNeeded p ≤ length entries
-      → judgedBy (g .rows) (g .cols) (f .start) (filledBy masks (split .joins) (numbersOf book (f .colours) sheet g) (g .rows) (g .cols) entries)
+      → judgedBy (g .size .rows) (g .size .cols) (f .start) (filledBy masks (split .joins) (numbersOf book (f .colours) sheet g) (g .size .rows) (g .size .cols) entries)
       ≡ tabled (contentsOf book) p entries
   by-table fine enough =
       let read = as-read book (from .accepted) sheet fine bytes-book bytes-sheet in
-      let k = read .sheet-keeps in
-      ap (judgedBy (g .rows) (g .cols) (f .start)) (whole-table read _ (cells-numbered book (from .accepted) sheet fine) masks (split .joins) serves entries enough)
+      let k = read .sheet-keeps .within in
+      ap (judgedBy (g .size .rows) (g .size .cols) (f .start)) (whole-table read _ (cells-numbered book (from .accepted) sheet fine) masks (split .joins) serves entries enough)
       ∙ start-tells (contentsOf book) p entries (k .rows-some) (k .cols-some) (read .book-keeps .sound .start-fits)
 
-  told : toldBy s (f .start) (split .joins) masks entries ≡ asking book sheet entries
-  unfolding toldBy asking numberedSheet
+  told : toldBy figures numbers (f .start) (split .joins) masks entries ≡ asking book sheet entries
+  unfolding toldBy asking
   told = go (ℕ-discrete (sheetOf sheet .fault .number) 0) (decLt (length entries) (entriesNeeded p))
     where
-      go : Dec (sheetOf sheet .fault .number ≡ 0) → Dec (length entries < entriesNeeded p) → toldBy s (f .start) (split .joins) masks entries ≡ asking book sheet entries
+      go : Dec (sheetOf sheet .fault .number ≡ 0) → Dec (length entries < entriesNeeded p) → toldBy figures numbers (f .start) (split .joins) masks entries ≡ asking book sheet entries
       go (no n) d = rw (ne-eqb (sheetOf sheet .fault .number) 0 n)
       go (yes z) (yes l) = rw (eq-eqb (sheetOf sheet .fault .number) 0 z, lt-ltb (length entries) (entriesNeeded p) l)
       go (yes z) (no l) =
@@ -160,22 +159,22 @@ module _ (book sheet : List ℕ) (bytes-book : Bytes book) (bytes-sheet : Bytes 
           (by-table z enough)
 
   -- the whole outcome of ask_sheet, by the book alone
-  pub asked-of-book : askSheet book split masks sheet entries ≡ sheetTold s (asking book sheet entries)
+  pub asked-of-book : askSheet book split masks sheet entries ≡ sheetTold figures numbers (asking book sheet entries)
   unfolding askSheet
   asked-of-book =
-      ap (λ (x : SplitBook). let t = numberedSheet book (x .split .colours) sheet in sheetTold t (toldBy t (x .split .start) (split .joins) masks entries))
+      ap (λ (x : SplitBook).
+      let cells = numbersFor book (x .split .colours) sheet g in
+      sheetTold figures cells (toldBy figures cells (x .split .start) (split .joins) masks entries))
       (is-split book split masks from)
-      ∙ ap (sheetTold s) told
+      ∙ ap (sheetTold figures numbers) told
 
-  pub book-asks : (r : Asked) (left : List ℕ) → askedWith r left ≡ askSheet book split masks sheet entries → Asks book sheet entries r left
-  unfolding numberedSheet
-  book-asks r left e =
+  pub book-asks : (r : Asked) (cells left : List ℕ) → askedWith r cells left ≡ askSheet book split masks sheet entries → Asks book sheet entries r cells left
+  book-asks r cells left e =
       let is = e ∙ asked-of-book in
       record {
         answers = ap (λ (x : AskedSheet). x .asked .answer) is;
         ticket = ap (λ (x : AskedSheet). x .asked .ticket) is;
-        rows = ap (λ (x : AskedSheet). x .asked .rows) is;
-        cols = ap (λ (x : AskedSheet). x .asked .cols) is;
-        cells = ap (λ (x : AskedSheet). x .asked .cells) is ∙ numbers-for book (f .colours) sheet g (book-places book .few);
+        size = ap (λ (x : AskedSheet). x .asked .size) is;
+        cells-are = ap (λ (x : AskedSheet). x .cells) is ∙ numbers-for book (f .colours) sheet g (book-places book .few);
         leaves-work = ap (λ (x : AskedSheet). x .entries) is;
       }

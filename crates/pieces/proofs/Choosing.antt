@@ -24,7 +24,7 @@ use Rattle.books.specs.Rules.{noRule}
 use Rattle.pieces.specs.View.{View}
 use Rattle.pieces.specs.Choice.{works, cutOf, covers, fits, takes, taken, lowest, chosen, choose}
 use Rattle.names.specs.Counted.{least}
-use Rattle.pieces.specs.inner.Fitted.{BothSet, Suits, RuleFits}
+use Rattle.pieces.specs.inner.Fitted.{BothSet, Suits, SomeFits}
 use Rattle.names.proofs.Least.{Least, least-is}
 use Rattle.pieces.proofs.Fitting.{covers-cell}
 
@@ -94,7 +94,7 @@ pub suits-taken : (v : View) (rules : List Rule) (a : ℕ) (q : Piece) (i : ℕ)
 unfolding taken takes
 suits-taken v rules a q i x e s = rw e (and-make _ _ (eq-eqb a a refl) (fits-suits v q x .1 s))
 
-lowest-below : (v : View) (rules : List Rule) (a : ℕ) (q : Piece) → RuleFits v rules a q → lowest v rules a q < length rules
+lowest-below : (v : View) (rules : List Rule) (a : ℕ) (q : Piece) → SomeFits v rules a q → lowest v rules a q < length rules
 unfolding lowest
 lowest-below v rules a q f =
     let low : Least (taken v rules a q) 0 (length rules) (lowest v rules a q) = least-is (taken v rules a q) 0 (length rules) in
@@ -104,7 +104,7 @@ lowest-below v rules a q f =
     (λ h. omega (arith, f .below))
     (lt-or-le (f .number) (lowest v rules a q))
 
-pub still-below : (v : View) (rules : List Rule) (a : ℕ) (q : Piece) → RuleFits v rules a q → (i n : ℕ) → least (taken v rules a q) i n ≡ lowest v rules a q
+pub still-below : (v : View) (rules : List Rule) (a : ℕ) (q : Piece) → SomeFits v rules a q → (i n : ℕ) → least (taken v rules a q) i n ≡ lowest v rules a q
     → i < length rules
 still-below v rules a q f i n e = omega (arith, least-is (taken v rules a q) i n .from, lowest-below v rules a q f)
 
@@ -120,7 +120,7 @@ taken-both : (v : View) (rules : List Rule) (a : ℕ) (q : Piece) (i : ℕ) → 
 unfolding taken takes
 taken-both v rules a q i e = and-both _ _ e
 
-pub choose-right : (v : View) (rules : List Rule) (a : ℕ) (q : Piece) → RuleFits v rules a q → Right v rules a q (choose v rules a q)
+pub choose-right : (v : View) (rules : List Rule) (a : ℕ) (q : Piece) → SomeFits v rules a q → Right v rules a q (choose v rules a q)
 unfolding lowest choose
 choose-right v rules a q f =
     let h = lowest-below v rules a q f in

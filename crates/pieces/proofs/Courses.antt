@@ -6,10 +6,11 @@ use native.Mathlib.Numerals.{add-one}
 use native.Mathlib.Omega.{arith}
 use Rattle.books.specs.declared.rule.Dir.the-variants.{Across as across, Down as down}
 use Rattle.books.specs.declared.rule.Dir.{Dir}
+use Rattle.books.specs.Size.{Within}
 use Rattle.pieces.specs.Most.{most}
 use Rattle.pieces.specs.Pieces.{Inside, total, slotOf}
 use Rattle.pieces.specs.Parts.{reach, firstPart, restPart}
-use Rattle.pieces.specs.inner.Room.{Room, mostCells}
+use Rattle.pieces.specs.inner.Room.{mostCells}
 use Rattle.pieces.specs.inner.Course.{step, after, cells, change, short, shorter, courseOf, Runs}
 use Rattle.pieces.specs.declared.piece.Piece.{Piece}
 use Rattle.pieces.specs.declared.course.Course.{Course}
@@ -100,11 +101,11 @@ module _ (d : Dir) (m n : ℕ) (p : Piece) (i : Inside m n p) where
 
 -- ── In numbers that the code has room for ──
 
-change-few : (d : Dir) (m n : ℕ) (p : Piece) → Room m n → change d m n p ≤ mostCells
+change-few : (d : Dir) (m n : ℕ) (p : Piece) → Within most m n → change d m n p ≤ mostCells
 change-few across m n p r = omega arith
 change-few down m n p r = stretches-few most n n (r .cols-few) (r .cols-few)
 
-pub course-runs : (d : Dir) (m n : ℕ) (p : Piece) (len : ℕ) → Room m n → Inside m n p → total m n ≤ len → Runs len (courseOf d m n p)
+pub course-runs : (d : Dir) (m n : ℕ) (p : Piece) (len : ℕ) → Within most m n → Inside m n p → total m n ≤ len → Runs len (courseOf d m n p)
 unfolding courseOf
 course-runs d m n p len r i h k l =
     let a = course-at d m n p i k (omega arith) in

@@ -4,6 +4,8 @@ use mathlib.Core.Path.{_≡_, refl, sym, _∙_, ap}
 use native.Mathlib.Nat.{mul-add, add-mul, add-assoc, zero-add, mul-le-mul}
 use native.Mathlib.Omega.{arith}
 use Rattle.books.specs.Picture.{Picture, size, first, rest}
+use Rattle.books.specs.Size.{Within}
+use Rattle.pieces.specs.Most.{most}
 use Rattle.pieces.specs.declared.piece.Piece.{Piece}
 use Rattle.books.specs.declared.rule.Dir.{Dir}
 use Rattle.books.specs.declared.rule.Dir.the-variants.{Across as across, Down as down}
@@ -12,7 +14,6 @@ use Rattle.pieces.specs.Area.{whole, area}
 use Rattle.pieces.specs.Parts.{reach, firstPart, restPart}
 use Rattle.pieces.specs.Table.{cut}
 use Rattle.pieces.specs.inner.PartsOf.{CutIn}
-use Rattle.pieces.specs.inner.Room.{Room}
 use Rattle.pieces.proofs.CellsFirst.{cell-before}
 
 module _ (m n : ℕ) (q : Piece) (i : Inside m n q) where
@@ -20,7 +21,7 @@ module _ (m n : ℕ) (q : Piece) (i : Inside m n q) where
   reach-small across top hm hn = omega arith
   reach-small down top hm hn = omega arith
 
-  pub cut-in : Room m n → (d : Dir) (k : ℕ) → k ≤ reach d q → CutIn d k q
+  pub cut-in : Within most m n → (d : Dir) (k : ℕ) → k ≤ reach d q → CutIn d k q
   cut-in room d k h = record { within = h; low = omega arith; right = omega arith }
 
   -- a piece has at least one cell, ...

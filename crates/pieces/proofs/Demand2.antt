@@ -9,7 +9,7 @@ use mathlib.Core.Logic.{_↔_, ⊎-elim}
 use native.Mathlib.Omega.{arith}
 use lib.ListN.{length, getD, drop}
 use Rattle.names.proofs.Tests.{true-or-false}
-use Rattle.names.proofs.SpellingNumbers.{Bytes}
+use Rattle.names.specs.Bytes.{Bytes}
 use Rattle.books.specs.Contents.{Contents}
 use Rattle.books.specs.Picture.{Picture}
 use Rattle.books.specs.Derives.{Derives, Member}

@@ -7,7 +7,6 @@ use native.Mathlib.Nat.{pow-suc, one-mul, lt-of-lt-of-le}
 use native.Mathlib.Decide.{ℕ-discrete}
 use native.Mathlib.Omega.{arith}
 use lib.Bits.{bitOr, or-shifted-r, or-zero-r}
-use lib.Dec.{eqb}
 use lib.Pow.{pow-mono}
 use borrow.Author.Tests.{eq-eqb, ne-eqb}
 use Rattle.names.specs.Pick.{pick}
@@ -16,7 +15,7 @@ use Rattle.books.specs.Contents.{Contents}
 use Rattle.books.specs.Picture.{Picture}
 use Rattle.books.specs.Derives.{Derives}
 use Rattle.books.specs.Decide.{derives?}
-use Rattle.books.proofs.Deciding.{decided, refused}
+use Rattle.books.proofs.Deciding.{decided}
 use Rattle.pieces.specs.Table.{entry}
 use Rattle.names.specs.Bits.{bit, bits, isSet}
 use Rattle.names.proofs.Bits.{bit-pow, pow-has, or-split, or-left, or-right, none-set}

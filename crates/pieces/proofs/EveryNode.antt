@@ -20,7 +20,7 @@ use Rattle.pieces.specs.Table.{cut}
 use Rattle.pieces.specs.View.{View}
 use Rattle.pieces.specs.Given.{At, Works, Able}
 use Rattle.pieces.specs.Choice.{choose}
-use Rattle.pieces.specs.inner.Fitted.{BothSet, Suits, RuleFits, NodeOf, own, in-first, in-rest, Fitted}
+use Rattle.pieces.specs.inner.Fitted.{BothSet, Suits, SomeFits, NodeOf, own, in-first, in-rest, Fitted}
 use Rattle.pieces.proofs.Cutting.{cut-reach, cut-first, cut-rest}
 use Rattle.pieces.proofs.PartsOfPieces.{first-inside, rest-inside}
 use Rattle.pieces.proofs.Choosing.{Right, cut-set, choose-right}
@@ -62,20 +62,20 @@ module _ (b : Contents) (p : Picture) (v : View) (exact : Exact b p v) (q : Piec
   suits-able i a (Down l r) u = some-cut down l r
 
   -- So at a derived piece a rule fits.
-  pub derived-fits : {a : ℕ} → Derives b a (cut p q) → RuleFits v (b .rules) a q
+  pub derived-fits : {a : ℕ} → Derives b a (cut p q) → SomeFits v (b .rules) a q
   derived-fits {a} x =
       let (i, y, u, able) = derives-able x in
       record { number = i; body = y; below = u .below; rule-is = u .rule-is; suits = suits-able i a y u .1 able }
 
 module _ (b : Contents) (p : Picture) (v : View) (exact : Exact b p v) where
   -- The parts of the join that is taken have their bits.
-  taken-set : (a : ℕ) (q : Piece) → RuleFits v (b .rules) a q → (i : ℕ) (d : Dir) (k l r : ℕ) → choose v (b .rules) a q ≡ Join i d k l r
+  taken-set : (a : ℕ) (q : Piece) → SomeFits v (b .rules) a q → (i : ℕ) (d : Dir) (k l r : ℕ) → choose v (b .rules) a q ≡ Join i d k l r
       → BothSet (v .has) d l r q k
   taken-set a q f i d k l r e =
       let (_, c) = subst (Right v (b .rules) a q) e (choose-right v (b .rules) a q f) in
       cut-set (v .has) d l r q k (c .from-one) (c .inside) (c .working)
 
-  node-fits : {a : ℕ} {q : Piece} {x : ℕ} {y : Piece} → Inside (p .rows) (p .cols) q → v .has a q ≡ true → NodeOf v (b .rules) a q x y → RuleFits v (b .rules) x y
+  node-fits : {a : ℕ} {q : Piece} {x : ℕ} {y : Piece} → Inside (p .rows) (p .cols) q → v .has a q ≡ true → NodeOf v (b .rules) a q x y → SomeFits v (b .rules) x y
   node-fits {a} {q} inq h own = derived-fits b p v exact q inq (exact .has-exact a q inq .0 h)
   node-fits {a} {q} inq h (in-first i d k l r e n) =
       let c = taken-set a q (derived-fits b p v exact q inq (exact .has-exact a q inq .0 h)) i d k l r e in

@@ -19,13 +19,14 @@ use Rattle.books.specs.Keeps.{Sound}
 use Rattle.books.specs.Decide.{derives?}
 use Rattle.books.specs.declared.rule.Body.the-variants.{Colour}
 use Rattle.books.proofs.Deciding.{called, decided}
+use Rattle.books.specs.Size.{sizeBy}
 use Rattle.pieces.specs.declared.piece.Piece.{Piece}
 use Rattle.pieces.specs.Pieces.{Inside, slotOf}
 use Rattle.pieces.specs.Table.{cut, entry}
 use Rattle.names.specs.Bits.{bit, isSet}
 use Rattle.pieces.specs.Largest.{marked}
 use Rattle.pieces.specs.View.{View, named}
-use Rattle.pieces.specs.inner.Seen.{sized, hasBit, hasColour, seen}
+use Rattle.pieces.specs.inner.Seen.{hasBit, hasColour, seen}
 use Rattle.pieces.proofs.Entries.{entry-derives, derives-entry}
 use Rattle.pieces.proofs.Giving.{derives-able, at-has}
 
@@ -58,7 +59,7 @@ number-name l n c apart h = (
 module _ (b : Contents) (p : Picture) (sound : Sound b) (apart : Distinct (b .colours)) (work colours : List ℕ)
     (entries : (q : Piece) → Inside (p .rows) (p .cols) q → getD work (slotOf (p .rows) (p .cols) q) 0 ≡ entry b (cut p q))
     (numbers : (i j : ℕ) → i < p .rows → j < p .cols → getD colours (i * p .cols + j) 0 ≡ listed (b .colours) (p .cell i j)) where
-  bit-exact : (a : ℕ) (q : Piece) → Inside (p .rows) (p .cols) q → (hasBit (sized (p .rows) (p .cols)) work a q ≡ true) ↔ Derives b a (cut p q)
+  bit-exact : (a : ℕ) (q : Piece) → Inside (p .rows) (p .cols) q → (hasBit (sizeBy (p .rows) (p .cols)) work a q ≡ true) ↔ Derives b a (cut p q)
   unfolding hasBit marked isSet
   bit-exact a q inq =
       rw (entries q inq) (
@@ -67,11 +68,11 @@ module _ (b : Contents) (p : Picture) (sound : Sound b) (apart : Distinct (b .co
       )
 
   colour-exact : (c : ℕ) (q : Piece) → Inside (p .rows) (p .cols) q → ((a : ℕ) × Has b a (Colour c))
-      → (hasColour (sized (p .rows) (p .cols)) colours c q ≡ true) ↔ Called b c (p .cell (q .top) (q .left))
+      → (hasColour (sizeBy (p .rows) (p .cols)) colours c q ≡ true) ↔ Called b c (p .cell (q .top) (q .left))
   unfolding hasColour
   colour-exact c q inq ruled =
       rw (numbers (q .top) (q .left) (omega arith) (omega arith))
       (number-name (b .colours) (p .cell (q .top) (q .left)) c apart (sound .rules-fit _ (ruled .1) .body-fits))
 
-  pub seen-exact : Exact b p (seen (sized (p .rows) (p .cols)) work colours)
+  pub seen-exact : Exact b p (seen (sizeBy (p .rows) (p .cols)) work colours)
   seen-exact = record { has-exact = bit-exact; paints-exact = colour-exact }

@@ -1,13 +1,13 @@
 -- A work slice that holds the table shows exactly which motifs derive each piece, so that the start's bit at the whole sheet decides; where it is set a rule fits
 -- at every node of the tree, and what the tree writer writes is the derivation given.
 use Prim.Native.Nat.{ℕ, _+_, _*_, _≤_, _<_}
-use mathlib.Core.Path.{_≡_, refl, sym, ap, _∙_, subst}
+use mathlib.Core.Path.{_≡_, sym, ap, _∙_, subst}
 use mathlib.Core.Bool.{true, false}
 use mathlib.Core.List.{List, _++_}
 use mathlib.Core.Logic.{⊎-elim}
 use native.Mathlib.Omega.{arith}
 use borrow.Author.Tests.{eqb-false}
-use lib.ListN.{length, getD, take, drop, replicate, length-append, length-drop, length-map}
+use lib.ListN.{length, getD, take, drop, length-append, length-drop, length-map}
 use lib.Seq.{take-at, take-all, getD-take}
 use Rattle.names.specs.Colours.{namesIn}
 use Rattle.names.specs.Name.{listed}
@@ -29,19 +29,19 @@ use Rattle.pieces.specs.Area.{whole}
 use Rattle.pieces.specs.Table.{cut, entry, table}
 use Rattle.names.specs.Bits.{bit, isSet}
 use Rattle.pieces.specs.Largest.{marked}
-use Rattle.pieces.specs.inner.Seen.{sized, hasBit, seen}
+use Rattle.pieces.specs.inner.Seen.{hasBit, seen}
 use Rattle.pieces.proofs.ExactViews.{Exact}
 use Rattle.pieces.specs.Tree.{treeOf}
-use Rattle.pieces.specs.Masks.{allMasks}
+use Rattle.pieces.specs.Filling.{filledBy}
+use Rattle.pieces.specs.Rights.{Serves}
+use Rattle.pieces.specs.declared.masks.Joins.{Joins}
 use Rattle.pieces.specs.inner.Fitted.{Fitted}
-use Rattle.pieces.specs.inner.ForTable.{filledFor}
 use Rattle.pieces.specs.inner.Verdict.{Verdict, verdict}
 use Rattle.pieces.specs.Derivation.{leaving, entriesNeeded, filled, judged}
 use Rattle.pieces.proofs.Entries.{derives-entry}
 use Rattle.pieces.proofs.Slots.{length-pieces, slot-lt, getD-slot}
 use Rattle.pieces.proofs.CellsFirst.{cell-before}
 use Rattle.pieces.proofs.TableEntries.{getD-map}
-use Rattle.pieces.proofs.ServingMasks.{split-serves}
 use Rattle.pieces.proofs.Cutting.{whole-inside, cut-whole}
 use Rattle.pieces.proofs.ExactViews.{seen-exact}
 use Rattle.pieces.proofs.EveryNode.{exact-fitted}
@@ -91,51 +91,51 @@ module _ {book : List ℕ} {f : Family} {bytes : List ℕ} {g : Sheet} (given : 
   abbrev p : Picture
   p = picture (gridIn bytes g)
 
-  whole-in : Inside (g .rows) (g .cols) (whole (g .rows) (g .cols))
-  whole-in = let k = given .sheet-keeps in whole-inside (g .rows) (g .cols) (k .rows-some) (k .cols-some)
+  whole-in : Inside (g .size .rows) (g .size .cols) (whole (g .size .rows) (g .size .cols))
+  whole-in = let k = given .sheet-keeps .within in whole-inside (g .size .rows) (g .size .cols) (k .rows-some) (k .cols-some)
 
   module _ (numbers : List ℕ) (numbered : Numbered book f bytes g numbers) where
-    exact : Exact b p (seen (sized (g .rows) (g .cols)) work numbers)
+    exact : Exact b p (seen (g .size) work numbers)
     exact =
         seen-exact b p (given .book-keeps .sound) (given .book-keeps .colours-ok .distinct) work numbers (held-entry b p work holds)
-        (λ i j hi hj. numbered .each (i * g .cols + j) (cell-before (g .rows) (g .cols) i j hi hj)
+        (λ i j hi hj. numbered .each (i * g .size .cols + j) (cell-before (g .size .rows) (g .size .cols) i j hi hj)
         ∙ (find-listed book (f .colours) _ (book-colours given) ∙ ap (listed (namesIn book (f .colours))) (sym (cell-name given i j hi hj))))
 
-    starts : hasBit (sized (g .rows) (g .cols)) work (f .start) (whole (g .rows) (g .cols)) ≡ true → Derives b (f .start) p
-    starts e = subst (Derives b (f .start)) (cut-whole p) (exact .has-exact (f .start) (whole (g .rows) (g .cols)) whole-in .0 e)
+    starts : hasBit (g .size) work (f .start) (whole (g .size .rows) (g .size .cols)) ≡ true → Derives b (f .start) p
+    starts e = subst (Derives b (f .start)) (cut-whole p) (exact .has-exact (f .start) (whole (g .size .rows) (g .size .cols)) whole-in .0 e)
 
     -- Where the work slice holds the table of the sheet and the start motif's bit of the whole sheet is set, at every node of the tree a rule with that head fits: a
     -- colour rule for the cell, or a join with a cut whose two parts have their bits set.
-    pub every-node-fits : hasBit (sized (g .rows) (g .cols)) work (f .start) (whole (g .rows) (g .cols)) ≡ true
-        → Fitted (seen (sized (g .rows) (g .cols)) work numbers) (take (f .count) (f .rules)) (f .start) (whole (g .rows) (g .cols))
-    every-node-fits e = exact-fitted b p (seen (sized (g .rows) (g .cols)) work numbers) exact (f .start) (whole (g .rows) (g .cols)) whole-in e
+    pub every-node-fits : hasBit (g .size) work (f .start) (whole (g .size .rows) (g .size .cols)) ≡ true
+        → Fitted (seen (g .size) work numbers) (take (f .count) (f .rules)) (f .start) (whole (g .size .rows) (g .size .cols))
+    every-node-fits e = exact-fitted b p (seen (g .size) work numbers) exact (f .start) (whole (g .size .rows) (g .size .cols)) whole-in e
 
     -- where the start has its bit, the tree that is found is the derivation given
-    judged-by-tree : (entries tree-slice : List ℕ) → hasBit (sized (g .rows) (g .cols)) work (f .start) (whole (g .rows) (g .cols)) ≡ true
-        → let t = treeOf (seen (sized (g .rows) (g .cols)) work numbers) (take (f .count) (f .rules)) (f .start) (whole (g .rows) (g .cols)) in
+    judged-by-tree : (entries tree-slice : List ℕ) → hasBit (g .size) work (f .start) (whole (g .size .rows) (g .size .cols)) ≡ true
+        → let t = treeOf (seen (g .size) work numbers) (take (f .count) (f .rules)) (f .start) (whole (g .size .rows) (g .size .cols)) in
         judged b p entries tree-slice ≡ record { answer = plain 0; entries = entries; numbers = t ++ drop (length t) tree-slice }
     unfolding judged
     judged-by-tree entries tree-slice e =
         let x = starts e in
-        simp (decided b (f .start) p .1 x, exact-tree b p (seen (sized (g .rows) (g .cols)) work numbers) exact x)
+        simp (decided b (f .start) p .1 x, exact-tree b p (seen (g .size) work numbers) exact x)
 
   -- where it has not, the sheet is not derived
-  not-derived : hasBit (sized (g .rows) (g .cols)) work (f .start) (whole (g .rows) (g .cols)) ≡ false → Derives b (f .start) p → ⊥
+  not-derived : hasBit (g .size) work (f .start) (whole (g .size .rows) (g .size .cols)) ≡ false → Derives b (f .start) p → ⊥
   unfolding hasBit marked isSet
   not-derived e x =
-      let sheet = whole (g .rows) (g .cols) in
+      let sheet = whole (g .size .rows) (g .size .cols) in
       let entered = held-entry b p work holds sheet whole-in in
       let set = derives-entry b (cut p sheet) (f .start) (given .book-keeps .sound .start-fits) (subst (Derives b (f .start)) (sym (cut-whole p)) x) in
-      eqb-false (bit (getD work (slotOf (g .rows) (g .cols) sheet) 0) (f .start)) 1 e (ap (λ (n : ℕ). bit n (f .start)) entered ∙ set)
+      eqb-false (bit (getD work (slotOf (g .size .rows) (g .size .cols) sheet) 0) (f .start)) 1 e (ap (λ (n : ℕ). bit n (f .start)) entered ∙ set)
 
-  judged-none : (entries tree-slice : List ℕ) → hasBit (sized (g .rows) (g .cols)) work (f .start) (whole (g .rows) (g .cols)) ≡ false
+  judged-none : (entries tree-slice : List ℕ) → hasBit (g .size) work (f .start) (whole (g .size .rows) (g .size .cols)) ≡ false
       → judged b p entries tree-slice ≡ leaving (plain 11) entries tree-slice
   unfolding judged
   judged-none entries tree-slice e = simp (refused b (f .start) p .1 (not-derived e))
 
   -- what the table tells is what the motifs derive
   abbrev told : List ℕ → List ℕ → Verdict
-  told numbers tree-slice = verdict (seen (sized (g .rows) (g .cols)) work numbers) (take (f .count) (f .rules)) (f .start) (whole (g .rows) (g .cols)) tree-slice
+  told numbers tree-slice = verdict (seen (g .size) work numbers) (take (f .count) (f .rules)) (f .start) (whole (g .size .rows) (g .size .cols)) tree-slice
 
   judged-told : (numbers : List ℕ) → Numbered book f bytes g numbers → (entries tree-slice : List ℕ)
       → judged b p entries tree-slice
@@ -144,38 +144,39 @@ module _ {book : List ℕ} {f : Family} {bytes : List ℕ} {g : Sheet} (given : 
   judged-told numbers numbered entries tree-slice =
       pick-ind
       (λ (v : Verdict). judged b p entries tree-slice ≡ record { answer = plain (v .number); entries = entries; numbers = v .numbers })
-      (hasBit (sized (g .rows) (g .cols)) work (f .start) (whole (g .rows) (g .cols))) _ _
+      (hasBit (g .size) work (f .start) (whole (g .size .rows) (g .size .cols))) _ _
       (λ e. judged-by-tree numbers numbered entries tree-slice e)
       (λ e. judged-none entries tree-slice e)
 
--- A table that was filled for the book's rules is judged as the definition has it.
-module _ {book : List ℕ} {f : Family} {bytes : List ℕ} {g : Sheet} (given : AsRead book f bytes g) (cells before after : List ℕ)
-    (numbered : Numbered book f bytes g cells) (made : after ≡ filledFor (contentsIn book f .rules) cells (g .rows) (g .cols) before)
-    (enough : total (g .rows) (g .cols) ≤ length before) (tree-slice : List ℕ) where
+-- A table that was filled by masks that serve the book's rules is judged as the definition has it.
+module _ {book : List ℕ} {f : Family} {bytes : List ℕ} {g : Sheet} (given : AsRead book f bytes g) (cells : List ℕ) (numbered : Numbered book f bytes g cells)
+    (masks : List ℕ) (j : Joins) (serves : Serves (contentsIn book f .rules) masks j) (before : List ℕ)
+    (enough : total (g .size .rows) (g .size .cols) ≤ length before) where
   abbrev contents : Contents
   contents = contentsIn book f
 
   abbrev sheet-picture : Picture
   sheet-picture = picture (gridIn bytes g)
 
-  is-filled : after ≡ filled contents sheet-picture before
-  is-filled =
-      let serves = split-serves (contents .rules) (replicate allMasks 0) (given .book-keeps .rules-few) refl in
-      made ∙ whole-table given cells numbered _ _ serves before enough
+  -- the table, and what it tells
+  abbrev pub made : List ℕ
+  made = filledBy masks j cells (g .size .rows) (g .size .cols) before
 
-  after-holds : Holds contents sheet-picture after
-  after-holds = subst (Holds contents sheet-picture) (sym is-filled) (filled-holds contents sheet-picture before)
+  abbrev pub tells : List ℕ → Verdict
+  tells tree-slice = verdict (seen (g .size) made cells) (contents .rules) (f .start) (whole (g .size .rows) (g .size .cols)) tree-slice
 
-  pub made-fits : hasBit (sized (g .rows) (g .cols)) after (f .start) (whole (g .rows) (g .cols)) ≡ true
-      → Fitted (seen (sized (g .rows) (g .cols)) after cells) (take (f .count) (f .rules)) (f .start) (whole (g .rows) (g .cols))
-  made-fits e = every-node-fits given after after-holds cells numbered e
+  is-filled : made ≡ filled contents sheet-picture before
+  is-filled = whole-table given cells numbered masks j serves before enough
 
-  pub judged-made : judged contents sheet-picture (filled contents sheet-picture before) tree-slice
-      ≡ record {
-        answer = plain (verdict (seen (sized (g .rows) (g .cols)) after cells) (take (f .count) (f .rules)) (f .start) (whole (g .rows) (g .cols)) tree-slice .number);
-        entries = after;
-        numbers = verdict (seen (sized (g .rows) (g .cols)) after cells) (take (f .count) (f .rules)) (f .start) (whole (g .rows) (g .cols)) tree-slice .numbers;
-      }
-  judged-made =
+  made-holds : Holds contents sheet-picture made
+  made-holds = subst (Holds contents sheet-picture) (sym is-filled) (filled-holds contents sheet-picture before)
+
+  pub made-fits : hasBit (g .size) made (f .start) (whole (g .size .rows) (g .size .cols)) ≡ true
+      → Fitted (seen (g .size) made cells) (contents .rules) (f .start) (whole (g .size .rows) (g .size .cols))
+  made-fits e = every-node-fits given made made-holds cells numbered e
+
+  pub judged-made : (tree-slice : List ℕ) → judged contents sheet-picture (filled contents sheet-picture before) tree-slice
+      ≡ record { answer = plain (tells tree-slice .number); entries = made; numbers = tells tree-slice .numbers }
+  judged-made tree-slice =
       ap (λ (w : List ℕ). judged contents sheet-picture w tree-slice) (sym is-filled)
-      ∙ judged-told given after after-holds cells numbered after tree-slice
+      ∙ judged-told given made made-holds cells numbered made tree-slice

@@ -35,10 +35,10 @@ pub mod Endings
 pub mod Judging
 pub mod Lacking
 pub mod DerivationAnswers
+pub mod Deriving
 pub mod AskingAnswers
 pub mod AskingSheets
 pub mod Tickets
-pub mod Orders
 pub mod Demand1
 pub mod Demand2
 pub mod Demand2Numbers

@@ -7,7 +7,7 @@ use native.Mathlib.Omega.{arith}
 use lib.ListN.{length}
 use Rattle.books.specs.declared.rule.Rule.{Rule}
 use Rattle.pieces.specs.declared.piece.Piece.{Piece}
-use Rattle.pieces.specs.declared.piece.Size.{Size}
+use Rattle.books.specs.declared.size.Size.{Size}
 use Rattle.books.specs.declared.rule.Dir.{Dir}
 use Rattle.pieces.specs.declared.choice.Choice.{Choice}
 use Rattle.pieces.specs.declared.choice.Choice.the-variants.{Leaf, Join}

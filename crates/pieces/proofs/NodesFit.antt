@@ -6,20 +6,21 @@ use mathlib.Core.List.{List}
 use borrow.Author.Tests.{eq-eqb}
 use lib.ListN.{getD}
 use Rattle.names.specs.Bits.{bit, isSet}
-use Rattle.names.proofs.SpellingNumbers.{Bytes}
+use Rattle.names.specs.Bytes.{Bytes}
 use Rattle.books.specs.Book.{bookOf}
 use Rattle.books.specs.Contents.{Contents}
 use Rattle.books.specs.Lent.{contentsOf, pictureOf}
-use Rattle.books.specs.Order.{numbersOf}
+use Rattle.books.specs.Numbering.{numbersOf}
 use Rattle.books.specs.Picture.{Picture}
 use Rattle.books.specs.Sheet.{sheetOf}
+use Rattle.books.specs.Size.{sizeBy}
 use Rattle.pieces.specs.Largest.{marked}
 use Rattle.pieces.specs.Area.{whole}
 use Rattle.pieces.specs.Derivation.{Derivation, derivation}
 use Rattle.pieces.specs.Pieces.{slotOf}
 use Rattle.pieces.specs.View.{View}
 use Rattle.pieces.specs.inner.Fitted.{Fitted}
-use Rattle.pieces.specs.inner.Seen.{sized, hasBit, seen}
+use Rattle.pieces.specs.inner.Seen.{hasBit, seen}
 use Rattle.pieces.proofs.AcceptedInputs.{as-read, cells-numbered}
 use Rattle.pieces.proofs.Cutting.{whole-inside, cut-whole}
 use Rattle.pieces.proofs.Demand2.{table-written, bit-exactly}
@@ -42,7 +43,7 @@ module _ (book sheet work tree : List ℕ) (book-bytes : Bytes book) (sheet-byte
 
   -- what the tree writer goes by: the bits of the table that is left, and those numbers
   abbrev pub view : View
-  view = seen (sized (p .rows) (p .cols)) (left .entries) numbers
+  view = seen (sizeBy (p .rows) (p .cols)) (left .entries) numbers
 
   pub nodes-fit : left .answer .number ≡ 0 → Fitted view (b .rules) (b .start) (whole (p .rows) (p .cols))
   unfolding hasBit marked isSet
@@ -52,7 +53,7 @@ module _ (book sheet work tree : List ℕ) (book-bytes : Bytes book) (sheet-byte
       let given = as-read book (fine .book-fine) sheet (fine .sheet-fine) book-bytes sheet-bytes in
       let numbered = cells-numbered book (fine .book-fine) sheet (fine .sheet-fine) in
       let holds = subst (Holds b p) (sym (table-written book sheet work tree fine room)) (filled-holds b p work) in
-      let k = given .sheet-keeps in
+      let k = given .sheet-keeps .within in
       let inside = whole-inside (p .rows) (p .cols) (k .rows-some) (k .cols-some) in
       let set = bit-exactly book sheet work tree fine room book-bytes (b .start) (whole (p .rows) (p .cols)) inside .1 (rw (cut-whole p) member) in
       every-node-fits given (left .entries) holds numbers numbered

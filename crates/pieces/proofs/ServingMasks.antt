@@ -22,7 +22,8 @@ use Rattle.books.specs.declared.rule.Dir.the-variants.{Across as across, Down a
 use Rattle.books.specs.declared.rule.Rule.{Rule}
 use Rattle.books.specs.declared.rule.Body.{Body}
 use Rattle.books.specs.declared.rule.Body.the-variants.{Colour, Across, Down}
-use Rattle.pieces.specs.Masks.{mostRules, paintersFrom, colourMasks, allMasks, Masked, masked, noJoins, splitFrom, cleared, splitOf}
+use Rattle.books.specs.Keeps.{mostRules}
+use Rattle.pieces.specs.Masks.{paintersFrom, colourMasks, allMasks, Masked, masked, noJoins, splitFrom, cleared, splitOf}
 use Rattle.pieces.specs.Firing.{gathered, joinsFired, fitting, fireOf, paintedOf}
 use Rattle.pieces.specs.Rights.{Fires, Serves}
 use Rattle.pieces.specs.inner.ForTable.{MasksFit}

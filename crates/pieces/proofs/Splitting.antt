@@ -19,7 +19,8 @@ use Rattle.books.specs.declared.rule.Dir.the-variants.{Across as across, Down a
 use Rattle.books.specs.declared.rule.Rule.{Rule}
 use Rattle.books.specs.declared.rule.Body.{Body}
 use Rattle.books.specs.declared.rule.Body.the-variants.{Colour, Across, Down}
-use Rattle.pieces.specs.Masks.{mostRules, secondsFrom, headsFrom, paintersFrom, colourMasks, allMasks, placeOf, countOf, Masked, putAt, putJoin, putPainter, putBody, splitFrom}
+use Rattle.books.specs.Keeps.{mostRules}
+use Rattle.pieces.specs.Masks.{secondsFrom, headsFrom, paintersFrom, colourMasks, allMasks, placeOf, countOf, Masked, putAt, putJoin, putPainter, putBody, splitFrom}
 use Rattle.pieces.specs.Firing.{firing, gathered, firedAt, joinsFired}
 use Rattle.pieces.specs.declared.masks.Joins.{Joins}
 use Rattle.pieces.proofs.Gathered.{gathered-next, gathered-same}

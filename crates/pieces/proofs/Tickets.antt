@@ -8,7 +8,8 @@ use Rattle.names.specs.declared.number.Fault.{Fault}
 use Rattle.books.specs.Grid.{Grid, GridKeeps}
 use Rattle.books.specs.SpellSheet.{spellSheet}
 use Rattle.books.proofs.SpellingSheets.{sheet-read-back}
-use Rattle.books.proofs.Tickets.{withTicket, ticket-keeps, SameButTicket, ticket-alike}
+use Rattle.books.specs.Tickets.{withTicket, SameButTicket}
+use Rattle.books.proofs.Tickets.{ticket-keeps, ticket-alike}
 use Rattle.pieces.specs.Derivation.{leaving, roomed, derivation}
 
 -- From bytes: two accepted sheets that are the same but for the ticket, whatever the book and the lent slices.

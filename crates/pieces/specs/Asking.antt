@@ -11,12 +11,12 @@ use Rattle.books.specs.Picture.{Picture}
 use Rattle.books.specs.Lent.{contentsOf, lentSheet}
 use Rattle.books.specs.Decide.{derives?}
 use Rattle.books.specs.Book.{bookOf}
-use Rattle.books.specs.Sheet.{sheetOf}
-use Rattle.books.specs.Order.{numbersOf, numberedSheet}
+use Rattle.books.specs.Sheet.{sheetOf, sheetFigures}
+use Rattle.books.specs.Numbering.{numbersOf, numbersFor}
 use Rattle.books.specs.Answer.{plain, blaming}
 use Rattle.books.specs.declared.answer.Answer.{Answer}
 use Rattle.books.specs.declared.book.BookRead.{BookRead}
-use Rattle.books.specs.declared.order.NumberedSheet.{NumberedSheet}
+use Rattle.books.specs.declared.sheet.SheetFigures.{SheetFigures}
 use Rattle.pieces.specs.Pieces.{total}
 use Rattle.pieces.specs.Area.{whole}
 use Rattle.pieces.specs.Derivation.{entriesNeeded, filled}
@@ -62,29 +62,32 @@ abbrev pub judgedBy : ℕ → ℕ → ℕ → List ℕ → Asking
 judgedBy m n start entries = record { answer = plain (startAnswer m n entries start); entries = entries }
 
 -- the sheet's fault, then 9 where the work slice is too short, then 11 where the masks do not fit; on these nothing is written
-unfoldable pub toldBy : NumberedSheet → ℕ → Joins → List ℕ → List ℕ → Asking
-toldBy s start j masks entries =
-    pick (eqb (s .fault .number) 0)
-    (pick (ltb (length entries) (total (s .rows) (s .cols))) (unwritten (plain 9) entries)
-    (pick (fitting (length masks) j) (judgedBy (s .rows) (s .cols) start (filledBy masks j (s .cells) (s .rows) (s .cols) entries))
+unfoldable pub toldBy : SheetFigures → List ℕ → ℕ → Joins → List ℕ → List ℕ → Asking
+toldBy g cells start j masks entries =
+    pick (eqb (g .fault .number) 0)
+    (pick (ltb (length entries) (total (g .size .rows) (g .size .cols))) (unwritten (plain 9) entries)
+    (pick (fitting (length masks) j) (judgedBy (g .size .rows) (g .size .cols) start (filledBy masks j cells (g .size .rows) (g .size .cols) entries))
     (unwritten (plain 11) entries)))
-    (unwritten (blaming 2 (s .fault)) entries)
+    (unwritten (blaming 2 (g .fault)) entries)
 
--- what is told of a sheet, and what stands in the work slice
+-- what is told of a sheet, the numbers of its cells, and what stands in the work slice
 pub record AskedSheet : Type 0 where
   pub asked : Asked
+  pub cells : List ℕ
   pub entries : List ℕ
 
-abbrev pub askedWith : Asked → List ℕ → AskedSheet
-askedWith r entries = record { asked = r; entries = entries }
+abbrev pub askedWith : Asked → List ℕ → List ℕ → AskedSheet
+askedWith r cells entries = record { asked = r; cells = cells; entries = entries }
 
-abbrev pub sheetTold : NumberedSheet → Asking → AskedSheet
-sheetTold s a = askedWith (record { answer = a .answer; ticket = s .ticket; rows = s .rows; cols = s .cols; cells = s .cells }) (a .entries)
+abbrev pub sheetTold : SheetFigures → List ℕ → Asking → AskedSheet
+sheetTold g cells a = askedWith (record { answer = a .answer; ticket = g .ticket; size = g .size }) cells (a .entries)
 
--- a sheet numbered by the colours kept; of what is told the masks change the answer 0 or 11 alone
+-- a sheet whose cells are numbered by the colours kept; of what is told the masks change the answer 0 or 11 alone
 unfoldable pub askSheet : List ℕ → Split → List ℕ → List ℕ → List ℕ → AskedSheet
 askSheet book split masks sheet entries =
-    let s = numberedSheet book (split .colours) sheet in sheetTold s (toldBy s (split .start) (split .joins) masks entries)
+    let g = sheetFigures (sheetOf sheet) in
+    let cells = numbersFor book (split .colours) sheet (sheetOf sheet .sheet) in
+    sheetTold g cells (toldBy g cells (split .start) (split .joins) masks entries)
 
 -- ── A sheet by a book ──
 
@@ -106,10 +109,9 @@ pub record SplitFrom (book : List ℕ) (split : Split) (masks : List ℕ) : Type
   pub is : keptWith split masks ≡ splitBook book before
 
 -- by these a sheet is told what asking the book says; its cells have the numbers of their colours in the book
-pub record Asks (book sheet entries : List ℕ) (r : Asked) (left : List ℕ) : Type 0 where
+pub record Asks (book sheet entries : List ℕ) (r : Asked) (cells left : List ℕ) : Type 0 where
   pub answers : r .answer ≡ asking book sheet entries .answer
   pub ticket : r .ticket ≡ sheetOf sheet .sheet .ticket
-  pub rows : r .rows ≡ sheetOf sheet .sheet .rows
-  pub cols : r .cols ≡ sheetOf sheet .sheet .cols
-  pub cells : r .cells ≡ numbersOf book (bookOf book .family .colours) sheet (sheetOf sheet .sheet)
+  pub size : r .size ≡ sheetOf sheet .sheet .size
+  pub cells-are : cells ≡ numbersOf book (bookOf book .family .colours) sheet (sheetOf sheet .sheet)
   pub leaves-work : left ≡ asking book sheet entries .entries

@@ -6,8 +6,9 @@ use lib.Bits.{bitAnd, bitOr}
 use lib.Dec.{eqb, leb}
 use lib.ListN.{length, getD}
 use Rattle.names.specs.Pick.{pick}
+use Rattle.books.specs.Keeps.{mostRules}
 use Rattle.books.specs.declared.rule.Dir.{Dir}
-use Rattle.pieces.specs.Masks.{mostRules, secondsFrom, headsFrom, paintersFrom, colourMasks, allMasks, placeOf, countOf}
+use Rattle.pieces.specs.Masks.{secondsFrom, headsFrom, paintersFrom, colourMasks, allMasks, placeOf, countOf}
 use Rattle.pieces.specs.declared.masks.Joins.{Joins}
 
 -- one join at one cut: its head, where the entries l and r of the two parts have the motifs of its first and its second part

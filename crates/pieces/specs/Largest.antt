@@ -5,6 +5,7 @@ use mathlib.Core.List.{List, [], _∷_}
 use lib.Dec.{ltb, leb}
 use lib.ListN.{length, getD}
 use Rattle.names.specs.Pick.{pick, andThen}
+use Rattle.books.specs.Size.{within?}
 use Rattle.pieces.specs.declared.piece.Piece.{Piece}
 use Rattle.pieces.specs.Pieces.{piece, pieces, total, slotOf}
 use Rattle.pieces.specs.Area.{area}
@@ -31,13 +32,9 @@ largestOf test m n = largestFrom test noPiece (pieces m n)
 unfoldable pub marked : ℕ → ℕ → List ℕ → ℕ → Piece → Bool
 marked m n work a q = isSet (getD work (slotOf m n q) 0) a
 
--- some rows, or columns, and no more than the code's numbers have room for
-unfoldable pub within : ℕ → Bool
-within n = andThen (ltb 0 n) (λ _. leb n most)
-
--- whether a slice of so many entries has room for the table of such a sheet
+-- whether a slice of so many entries has room for the table of a sheet that the code's numbers have room for
 unfoldable pub fitsTable : ℕ → ℕ → ℕ → Bool
-fitsTable m n entries = andThen (within m) (λ _. andThen (within n) (λ _. leb (total m n) entries))
+fitsTable m n entries = andThen (within? most m n) (λ _. leb (total m n) entries)
 
 -- the largest piece at which a slice has bit a set, or no piece where there is none, or no such table
 unfoldable pub largestIn : List ℕ → ℕ → ℕ → ℕ → Piece

@@ -6,6 +6,8 @@ use lib.Bits.{bitOr}
 use lib.Dec.{eqb}
 use lib.ListN.{length, getD, take, set, replicate}
 use Rattle.names.specs.Pick.{pick}
+use Rattle.names.specs.Spelling.{mostColours}
+use Rattle.books.specs.Keeps.{mostRules}
 use Rattle.books.specs.declared.rule.Dir.{Dir}
 use Rattle.books.specs.declared.rule.Dir.the-variants.{Across as across, Down as down}
 use Rattle.books.specs.declared.rule.Rule.{Rule}
@@ -14,10 +16,6 @@ use Rattle.books.specs.declared.rule.Body.the-variants.{Colour, Across, Down}
 use Rattle.pieces.specs.declared.masks.Joins.{Joins}
 
 -- ── The layout ──
-
--- a book has at most so many rules
-abbrev pub mostRules : ℕ
-mostRules = 200
 
 -- the joins stand in three rows: their first parts, their second parts and their heads
 abbrev pub secondsFrom : ℕ
@@ -29,12 +27,12 @@ headsFrom = 2 * mostRules
 abbrev pub joinMasks : ℕ
 joinMasks = 3 * mostRules
 
--- behind them stand the painters, the heads of the rules of each colour: the book's, of which there are at most 64, and one mask for all that it lacks
+-- behind them stand the painters, the heads of the rules of each colour: the book's, and one mask for all that it lacks
 abbrev pub paintersFrom : ℕ
 paintersFrom = joinMasks
 
 abbrev pub colourMasks : ℕ
-colourMasks = 65
+colourMasks = mostColours + 1
 
 abbrev pub allMasks : ℕ
 allMasks = paintersFrom + colourMasks

@@ -1,6 +1,5 @@
 -- What the table of a picture holds: for each piece, the motifs that derive it.
-use Prim.Native.Nat.{ℕ, zero, suc, _+_, _/_, _%_, _^_}
-use mathlib.Core.Bool.{Bool}
+use Prim.Native.Nat.{ℕ, _+_}
 use mathlib.Core.List.{List, map}
 use Rattle.names.specs.Bits.{bits}
 use Rattle.books.specs.Contents.{Contents}

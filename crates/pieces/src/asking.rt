@@ -3,23 +3,22 @@ use crate::cut;
 use crate::masks;
 use crate::masks::ALL_MASKS;
 use crate::masks::Joins;
-use crate::masks::MOST_RULES;
 use crate::part::Part;
 use crate::piece;
 use crate::piece::Piece;
-use crate::piece::Size;
 use crate::table;
 use books::answer;
 use books::answer::Answer;
-use books::book;
-use books::order;
-use books::order::NumberedSheet;
-use books::rule::Rule;
+use books::lent::read_rules;
+use books::numbering::number_sheet;
+use books::rule::MOST_RULES;
+use books::sheet::SheetFigures;
 use books::size::ROOM;
+use books::size::Size;
 use names::colours::Colours;
 use names::number::Fault;
 ghost use mathlib.Core.Path.{_≡_};
-ghost use lib.ListN.{take};
+ghost use Rattle.books.specs.RuleBytes.{rulesIn};
 ghost use Rattle.pieces.specs.Masks.{masked, laid};
 ghost use Rattle.pieces.specs.Asking.{keptWith, splitBook, startAnswer, unwritten, toldBy, askedWith, askSheet};
 ghost use Rattle.pieces.specs.inner.Seen.{Tabled};
@@ -34,20 +33,17 @@ pub struct Split {
     pub joins: Joins,
 }
 
-// The answer of one sheet, with its ticket and its cells by the numbers that their colours have in the book. A refused sheet has the ticket 0, no rows
-// and no columns.
+// The answer of one sheet, with its ticket and its size. A refused sheet has the ticket 0, no rows and no columns.
 pub struct Asked {
     pub answer: Answer,
     pub ticket: usize,
-    pub rows: usize,
-    pub cols: usize,
-    pub cells: [u8; ROOM],
+    pub size: Size,
 }
 
 // The masks of the rules of a book with no fault, where the slice has their length.
-fn lay(fault: u8, rules: [Rule; MOST_RULES], count: usize, masks: &mut [u32]) -> Joins
-    requires { ⌜ (fault ≡ 0 → SmallRules rules count) ⌝ }
-    ensures { λ r. ⌜ masked (now (masks .exit)) r ≡ laid fault (take count rules) (now (masks .entry)) ⌝ }
+fn lay(fault: u8, rules: &[[u8; 4]], masks: &mut [u32]) -> Joins
+    requires { ⌜ (fault ≡ 0 → SmallRules (rulesIn (now rules))) ⌝ }
+    ensures { λ r. ⌜ masked (now (masks .exit)) r ≡ laid fault (rulesIn (now (rules .entry))) (now (masks .entry)) ⌝ }
 {
     if fault != 0 {
         return Joins { across: 0, down: 0 };
@@ -55,22 +51,23 @@ fn lay(fault: u8, rules: [Rule; MOST_RULES], count: usize, masks: &mut [u32]) ->
     if masks.len() != ALL_MASKS {
         return Joins { across: 0, down: 0 };
     }
-    masks::split(rules, count, masks)
+    masks::split(rules, masks)
 }
 
 // Reads a book, and writes the masks of its rules where it is accepted and they fill the slice.
 pub fn split_book(book: &[u8], masks: &mut [u32]) -> Split
     ensures { λ r. ⌜ keptWith r (now (masks .exit)) ≡ splitBook (now (book .entry)) (now (masks .entry)) ⌝ }
 {
-    let b = book::read_book(book);
+    let mut rules = [[0u8; 4]; MOST_RULES];
+    let b = read_rules(book, &mut rules);
+    let count = b.rules;
     let fault = b.fault;
-    let colours = b.family.colours;
-    let rules = b.family.rules;
-    let joins = lay(fault.number, rules, b.family.count, masks);
+    let colours = b.colours;
+    let joins = lay(fault.number, &rules[..count], masks);
     Split {
         fault,
         colours,
-        start: b.family.start as u8,
+        start: b.start,
         joins,
     }
 }
@@ -92,44 +89,51 @@ fn whole_sheet(work: &[u32], size: Size, motif: u8) -> u8
     if cut::has(work, size, sheet) { 0 } else { 11 }
 }
 
-// The answer of a numbered sheet, with its table written. Masks that can be no book's have no sheet.
-fn tell(s: NumberedSheet, start: u8, joins: Joins, masks: &[u32], work: &mut [u32]) -> Answer
-    requires { ⌜ (s .fault .number ≡ 0 → Shows s) ⌝ }
-    ensures { λ r. ⌜ unwritten r (now (work .exit)) ≡ toldBy s start joins (now (masks .entry)) (now (work .entry)) ⌝ }
+// The answer of a sheet whose cells were numbered, with its table written. Masks that can be no book's have no sheet.
+fn tell(
+    s: SheetFigures,
+    cells: &[u8; ROOM],
+    start: u8,
+    joins: Joins,
+    masks: &[u32],
+    work: &mut [u32],
+) -> Answer
+    requires { ⌜ (s .fault .number ≡ 0 → Shows s (now cells)) ⌝ }
+    ensures { λ r. ⌜ unwritten r (now (work .exit)) ≡ toldBy s (now (cells .entry)) start joins (now (masks .entry)) (now (work .entry)) ⌝ }
 {
     if s.fault.number != 0 {
         return answer::blame(2, s.fault);
     }
-    if work.len() < piece::count(s.rows, s.cols) {
+    if work.len() < piece::count(s.size.rows, s.size.cols) {
         return answer::unblamed(9);
     }
     if masks::fits(masks.len(), joins) {
-        let cells = s.cells;
-        table::fill_from(masks, joins, &cells, s.rows, s.cols, work);
-        return answer::unblamed(whole_sheet(
-            work,
-            Size {
-                rows: s.rows,
-                cols: s.cols,
-            },
-            start,
-        ));
+        table::fill_from(masks, joins, cells, s.size, work);
+        return answer::unblamed(whole_sheet(work, s.size, start));
     }
     answer::unblamed(11)
 }
 
-// Asks for one sheet by what was kept of a book and the masks of its rules. The work slice gets the table of pieces.
-pub fn ask_sheet(book: &[u8], split: Split, masks: &[u32], sheet: &[u8], work: &mut [u32]) -> Asked
-    ensures { λ r. ⌜ askedWith r (now (work .exit)) ≡ askSheet (now (book .entry)) split (now (masks .entry)) (now (sheet .entry)) (now (work .entry)) ⌝ }
+// Asks for one sheet by what was kept of a book and the masks of its rules. The cells get the numbers that their colours have in the book, and the work slice
+// the table of pieces.
+pub fn ask_sheet(
+    book: &[u8],
+    split: Split,
+    masks: &[u32],
+    sheet: &[u8],
+    cells: &mut [u8; ROOM],
+    work: &mut [u32],
+) -> Asked
+    ensures { λ r. ⌜ askedWith r (now (cells .exit)) (now (work .exit))
+        ≡ askSheet (now (book .entry)) split (now (masks .entry)) (now (sheet .entry)) (now (work .entry)) ⌝ }
 {
-    let s = order::number_sheet(book, split.colours, sheet);
-    let answer = tell(s, split.start, split.joins, masks, work);
-    let cells = s.cells;
+    let c = split.colours;
+    let s = number_sheet(book, c.count, &c.starts, &c.lens, sheet, cells);
+    let answer = tell(s, cells, split.start, split.joins, masks, work);
+    let size = s.size;
     Asked {
         answer,
         ticket: s.ticket,
-        rows: s.rows,
-        cols: s.cols,
-        cells,
+        size,
     }
 }

@@ -2,8 +2,8 @@
 // enough for the sheet, and that the piece lies on it.
 use crate::part::Part;
 use crate::part::Parts;
-use crate::piece::Size;
 use crate::piece::slot;
+use books::size::Size;
 ghost use mathlib.Core.Path.{_≡_};
 ghost use Rattle.names.specs.Bits.{isSet};
 ghost use Rattle.pieces.specs.inner.Seen.{TabledAt, hasBit, bothHave};

@@ -1,25 +1,31 @@
 // Whether a sheet belongs to a family, with the table of its pieces and the derivation given.
+use crate::masks;
+use crate::masks::ALL_MASKS;
 use crate::piece;
-use crate::piece::Size;
 use crate::table;
 use crate::tree;
 use books::answer;
 use books::answer::Answer;
-use books::order;
+use books::lent::read_rules;
+use books::numbering::number_sheet;
+use books::rule::MOST_RULES;
+use books::size::ROOM;
+use books::size::Size;
 ghost use mathlib.Core.Path.{_≡_};
-ghost use Rattle.pieces.specs.inner.Room.{Room};
+ghost use Rattle.books.specs.Size.{Within};
+ghost use Rattle.pieces.specs.Most.{most};
 ghost use Rattle.pieces.specs.Derivation.{derivation, Leaves, LeavesPacked};
 ghost use Rattle.pieces.specs.inner.Verdict.{lacking};
 
-// What two slices lack for a sheet of so many rows and columns: 9 where the work slice is too short, 10 where the tree slice is, and else 0.
-fn lack(rows: usize, cols: usize, entries: usize, numbers: usize) -> u8
-    requires { ⌜ Room rows cols ⌝ }
-    ensures { λ r. ⌜ r ≡ lacking rows cols entries numbers ⌝ }
+// What two slices lack for a sheet of a size: 9 where the work slice is too short, 10 where the tree slice is, and else 0.
+fn lack(size: Size, entries: usize, numbers: usize) -> u8
+    requires { ⌜ Within most (size .rows) (size .cols) ⌝ }
+    ensures { λ r. ⌜ r ≡ lacking (size .rows) (size .cols) entries numbers ⌝ }
 {
-    if entries < piece::count(rows, cols) {
+    if entries < piece::count(size.rows, size.cols) {
         return 9;
     }
-    if numbers < piece::numbers(rows, cols) {
+    if numbers < piece::numbers(size.rows, size.cols) {
         return 10;
     }
     0
@@ -30,29 +36,26 @@ pub fn derive(book: &[u8], sheet: &[u8], work: &mut [u32], tree: &mut [u16]) -> 
     ensures { λ r. ⌜ Leaves (derivation (now (book .entry)) (now (sheet .entry)) (now (work .entry)) (now (tree .entry)))
         r (now (work .exit)) (now (tree .exit)) ⌝ }
 {
-    let o = order::read_order(book, sheet);
-    if o.answer.number != 0 {
-        return o.answer;
+    let mut rules = [[0u8; 4]; MOST_RULES];
+    let b = read_rules(book, &mut rules);
+    if b.fault.number != 0 {
+        return answer::blame(1, b.fault);
     }
-    let short = lack(o.rows, o.cols, work.len(), tree.len());
+    let c = b.colours;
+    let mut cells = [0u8; ROOM];
+    let s = number_sheet(book, c.count, &c.starts, &c.lens, sheet, &mut cells);
+    if s.fault.number != 0 {
+        return answer::blame(2, s.fault);
+    }
+    let short = lack(s.size, work.len(), tree.len());
     if short != 0 {
         return answer::unblamed(short);
     }
-    let rules = o.rules;
-    let colours = o.cells;
-    table::fill_table(rules, o.count, &colours, o.rows, o.cols, work);
-    answer::unblamed(tree::judge(
-        rules,
-        o.count,
-        o.start,
-        work,
-        &colours,
-        Size {
-            rows: o.rows,
-            cols: o.cols,
-        },
-        tree,
-    ))
+    let count = b.rules;
+    let mut masks = [0u32; ALL_MASKS];
+    let joins = masks::split(&rules[..count], &mut masks);
+    table::fill_from(&masks, joins, &cells, s.size, work);
+    answer::unblamed(tree::judge(&rules[..count], b.start, work, &cells, s.size, tree))
 }
 
 // The same for the C host.

@@ -3,12 +3,14 @@ use crate::cut::has_bit;
 use crate::piece;
 use crate::piece::MOST;
 use crate::piece::Piece;
+use books::size;
+use books::size::Size;
 ghost use mathlib.Core.Path.{_≡_};
 ghost use Prim.Native.Nat.{_≤_};
 ghost use Rattle.names.specs.Bits.{isSet};
-ghost use Rattle.pieces.specs.Largest.{within, fitsTable, marked, largestOf, largestIn};
+ghost use Rattle.pieces.specs.Largest.{fitsTable, marked, largestOf, largestIn};
 ghost use Rattle.pieces.specs.Most.{most};
-ghost use Rattle.pieces.specs.inner.Seen.{sized, Tabled};
+ghost use Rattle.pieces.specs.inner.Seen.{Tabled};
 ghost use Rattle.pieces.specs.inner.Larger.{areaIf};
 
 // The area of a piece whose entry has a motif's bit, and 0 of any other.
@@ -24,11 +26,11 @@ fn area_with(entry: u32, motif: u8, p: Piece) -> usize
 
 // The pieces are passed in the order of the table, and one is kept where it is larger than the one before. That one's area is kept with it, so that it is
 // not multiplied out again for each piece.
-fn search(work: &[u32], motif: u8, m: usize, n: usize) -> Piece
-    requires { ⌜ Tabled (sized m n) (now work) ⌝ }
-    ensures { λ r. ⌜ r ≡ largestOf (marked m n (now (work .entry)) motif) m n ⌝ }
+fn search(work: &[u32], motif: u8, size: Size) -> Piece
+    requires { ⌜ Tabled size (now work) ⌝ }
+    ensures { λ r. ⌜ r ≡ largestOf (marked (size .rows) (size .cols) (now (work .entry)) motif) (size .rows) (size .cols) ⌝ }
 {
-    let end = piece::count(m, n);
+    let end = piece::count(size.rows, size.cols);
     let mut best = Piece {
         height: 0,
         width: 0,
@@ -49,37 +51,29 @@ fn search(work: &[u32], motif: u8, m: usize, n: usize) -> Piece
             area = other;
             best = p;
         }
-        p = piece::next(m, n, p);
+        p = piece::next(size.rows, size.cols, p);
         k += 1;
     }
     best
 }
 
-// Whether a sheet of so many rows, or columns, can be looked through: it has some, and no more than the code's numbers have room for.
-fn within(n: usize) -> bool
-    ensures { λ r. ⌜ r ≡ within n ⌝ }
+// Whether a slice of so many entries has room for the table of a sheet that the code's numbers have room for.
+fn fits_table(size: Size, entries: usize) -> bool
+    ensures { λ r. ⌜ r ≡ fitsTable (size .rows) (size .cols) entries ⌝ }
 {
-    if 0 < n { n <= MOST } else { false }
-}
-
-// Whether a slice of so many entries has room for the table of a sheet.
-fn fits_table(rows: usize, cols: usize, entries: usize) -> bool
-    ensures { λ r. ⌜ r ≡ fitsTable rows cols entries ⌝ }
-{
-    if within(rows) {
-        if within(cols) {
-            return piece::count(rows, cols) <= entries;
-        }
+    if size::within(MOST, size) {
+        piece::count(size.rows, size.cols) <= entries
+    } else {
+        false
     }
-    false
 }
 
 // The largest piece at which a slice that has room for the table of a sheet has a motif's bit set, or no piece, which has no rows.
-pub fn largest(work: &[u32], motif: u8, rows: usize, cols: usize) -> Piece
-    ensures { λ r. ⌜ r ≡ largestIn (now (work .entry)) motif rows cols ⌝ }
+pub fn largest(work: &[u32], motif: u8, size: Size) -> Piece
+    ensures { λ r. ⌜ r ≡ largestIn (now (work .entry)) motif (size .rows) (size .cols) ⌝ }
 {
-    if fits_table(rows, cols, work.len()) {
-        return search(work, motif, rows, cols);
+    if fits_table(size, work.len()) {
+        return search(work, motif, size);
     }
     Piece {
         height: 0,

@@ -1,26 +1,26 @@
 // A family's rules as masks: a motif is worth 2 to the power of its number.
-use books::rule::Body;
 use books::rule::Dir;
-use books::rule::Rule;
+use books::rule::MOST_RULES;
+use names::colours::MOST_COLOURS;
 ghost use mathlib.Core.Path.{_≡_};
 ghost use Prim.Native.Nat.{_+_, _^_, _≤_, _<_};
-ghost use lib.ListN.{length, take};
-ghost use Rattle.pieces.specs.Masks.{mostRules, headsFrom, allMasks, masked, putAt, putBody, cleared, splitOf};
+ghost use lib.ListN.{length};
+ghost use Rattle.books.specs.Keeps.{mostMotifs, mostRules};
+ghost use Rattle.books.specs.RuleBytes.{ruleIn, rulesIn};
+ghost use Rattle.pieces.specs.Masks.{headsFrom, allMasks, masked, putAt, putBody, cleared, splitOf};
 ghost use Rattle.pieces.specs.Firing.{firing, fitting, fireOf, paintedOf};
 ghost use Rattle.pieces.specs.inner.Along.{allFired};
 ghost use Rattle.pieces.specs.inner.Small.{Small, SmallRules};
 
 // The masks stand in one row of numbers: three rows for the joins, their first parts, second parts and heads, in each of which the across joins stand from the
-// front on and the down joins from the back; and one mask for each of at most 64 colours, with one more for all that the book lacks.
-pub(crate) const MOST_RULES: usize = 200;
-
+// front on and the down joins from the back; and one mask for each colour that a book can have, with one more for all that it lacks.
 const SECONDS_FROM: usize = MOST_RULES;
 
 const HEADS_FROM: usize = 2 * MOST_RULES;
 
 pub(crate) const PAINTERS_FROM: usize = 3 * MOST_RULES;
 
-const COLOUR_MASKS: usize = 65;
+const COLOUR_MASKS: usize = MOST_COLOURS + 1;
 
 pub const ALL_MASKS: usize = PAINTERS_FROM + COLOUR_MASKS;
 
@@ -32,7 +32,7 @@ pub struct Joins {
 
 // The mask of one motif.
 fn mask(a: u8) -> u32
-    requires { ⌜ a < 32 ⌝ }
+    requires { ⌜ a < mostMotifs ⌝ }
     ensures { λ r. ⌜ r ≡ 2 ^ a ⌝ }
 {
     1u32 << (a as u32)
@@ -40,7 +40,7 @@ fn mask(a: u8) -> u32
 
 // Writes the masks of one join at a place of the three rows.
 fn put(masks: &mut [u32], at: usize, head: u8, first: u8, second: u8)
-    requires { ⌜ (headsFrom + at < length (now masks)) × (head < 32) × (first < 32) × (second < 32) ⌝ }
+    requires { ⌜ (headsFrom + at < length (now masks)) × (head < mostMotifs) × (first < mostMotifs) × (second < mostMotifs) ⌝ }
     ensures { λ _. ⌜ now (masks .exit) ≡ putAt (now (masks .entry)) at head first second ⌝ }
 {
     masks[at] = mask(first);
@@ -48,32 +48,27 @@ fn put(masks: &mut [u32], at: usize, head: u8, first: u8, second: u8)
     masks[HEADS_FROM + at] = mask(head);
 }
 
-// The masks of a rule: a join stands next to those of its direction, and each colour gathers the heads that paint it.
-fn put_rule(r: Rule, masks: &mut [u32], joins: Joins) -> Joins
-    requires { ⌜ (length (now masks) ≡ allMasks) × (joins .across < mostRules) × (joins .down < mostRules) × Small r ⌝ }
-    ensures { λ k. ⌜ masked (now (masks .exit)) k ≡ putBody (masked (now (masks .entry)) joins) (r .head) (r .body) ⌝ }
+// The masks of a rule that is lent in a row: a join stands next to those of its direction, and each colour gathers the heads that paint it.
+fn put_rule(r: [u8; 4], masks: &mut [u32], joins: Joins) -> Joins
+    requires { ⌜ (length (now masks) ≡ allMasks) × (joins .across < mostRules) × (joins .down < mostRules) × Small (ruleIn r) ⌝ }
+    ensures { λ k. ⌜ masked (now (masks .exit)) k ≡ putBody (masked (now (masks .entry)) joins) (ruleIn r .head) (ruleIn r .body) ⌝ }
 {
-    let b = r.body;
-    match b {
-        Body::Colour(c) => {
-            let at = PAINTERS_FROM + c as usize;
-            masks[at] = masks[at] | mask(r.head);
-            joins
-        }
-        Body::Across(x, y) => {
-            put(masks, joins.across, r.head, x, y);
-            Joins {
-                across: joins.across + 1,
-                down: joins.down,
-            }
-        }
-        Body::Down(x, y) => {
-            put(masks, MOST_RULES - 1 - joins.down, r.head, x, y);
-            Joins {
-                across: joins.across,
-                down: joins.down + 1,
-            }
-        }
+    if r[1] == 0 {
+        let at = PAINTERS_FROM + r[2] as usize;
+        masks[at] = masks[at] | mask(r[0]);
+        return joins;
+    }
+    if r[1] == 1 {
+        put(masks, joins.across, r[0], r[2], r[3]);
+        return Joins {
+            across: joins.across + 1,
+            down: joins.down,
+        };
+    }
+    put(masks, MOST_RULES - 1 - joins.down, r[0], r[2], r[3]);
+    Joins {
+        across: joins.across,
+        down: joins.down + 1,
     }
 }
 
@@ -89,16 +84,16 @@ fn clear(masks: &mut [u32])
     }
 }
 
-// The masks of the first rules of a family, in order.
-pub(crate) fn split(family: [Rule; MOST_RULES], count: usize, masks: &mut [u32]) -> Joins
-    requires { ⌜ SmallRules family count × (length (now masks) ≡ allMasks) ⌝ }
-    ensures { λ r. ⌜ masked (now (masks .exit)) r ≡ splitOf (take count family) (now (masks .entry)) ⌝ }
+// The masks of rules that are lent in rows, in order.
+pub(crate) fn split(rules: &[[u8; 4]], masks: &mut [u32]) -> Joins
+    requires { ⌜ SmallRules (rulesIn (now rules)) × (length (now masks) ≡ allMasks) ⌝ }
+    ensures { λ r. ⌜ masked (now (masks .exit)) r ≡ splitOf (rulesIn (now (rules .entry))) (now (masks .entry)) ⌝ }
 {
     clear(masks);
     let mut joins = Joins { across: 0, down: 0 };
     let mut i = 0;
-    while i < count {
-        let r = family[i];
+    while i < rules.len() {
+        let r = rules[i];
         joins = put_rule(r, masks, joins);
         i += 1;
     }

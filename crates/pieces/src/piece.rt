@@ -1,11 +1,12 @@
 // A piece of a sheet, and its place in the table.
 ghost use mathlib.Core.Path.{_≡_};
 ghost use Prim.Native.Nat.{_*_, _≤_, _<_};
+ghost use Rattle.books.specs.Size.{Within};
 ghost use Rattle.pieces.specs.Area.{whole, treeSize};
 ghost use Rattle.pieces.specs.Pieces.{Inside, stretches, total, slotOf};
 ghost use Rattle.pieces.specs.inner.NextTo.{NextTo};
 ghost use Rattle.pieces.specs.Most.{most};
-ghost use Rattle.pieces.specs.inner.Room.{Room, mostCells};
+ghost use Rattle.pieces.specs.inner.Room.{mostCells};
 
 // The most rows, and the most columns, that the numbers have room for.
 pub(crate) const MOST: usize = 24;
@@ -16,12 +17,6 @@ pub struct Piece {
     pub width: usize,
     pub top: usize,
     pub left: usize,
-}
-
-// The rows and the columns of a sheet.
-pub(crate) struct Size {
-    pub(crate) rows: usize,
-    pub(crate) cols: usize,
 }
 
 // A product that the numbers have room for.
@@ -42,7 +37,7 @@ pub(crate) fn stretches_of(n: usize, k: usize) -> usize
 
 // The number of pieces of a sheet.
 pub(crate) fn count(m: usize, n: usize) -> usize
-    requires { ⌜ Room m n ⌝ }
+    requires { ⌜ Within most m n ⌝ }
     ensures { λ r. ⌜ (r ≡ total m n) × (r ≤ mostCells * mostCells) ⌝ }
 {
     times(stretches_of(m, m), stretches_of(n, n))
@@ -50,7 +45,7 @@ pub(crate) fn count(m: usize, n: usize) -> usize
 
 // How many numbers the tree of a sheet has: two a node.
 pub(crate) fn numbers(m: usize, n: usize) -> usize
-    requires { ⌜ Room m n ⌝ }
+    requires { ⌜ Within most m n ⌝ }
     ensures { λ r. ⌜ r ≡ treeSize (whole m n) ⌝ }
 {
     2 * (2 * times(m, n) - 1)
@@ -58,7 +53,7 @@ pub(crate) fn numbers(m: usize, n: usize) -> usize
 
 // Where the table has a piece.
 pub(crate) fn slot(m: usize, n: usize, p: Piece) -> usize
-    requires { ⌜ Room m n × Inside m n p ⌝ }
+    requires { ⌜ Within most m n × Inside m n p ⌝ }
     ensures { λ r. ⌜ (r ≡ slotOf m n p) × (r < total m n) ⌝ }
 {
     let u = p.height - 1;
@@ -71,7 +66,7 @@ pub(crate) fn slot(m: usize, n: usize, p: Piece) -> usize
 // The piece after p in the table: one to the right; at the end of a row, in the next row; after the last row, one column wider; and
 // after the widest, one row taller.
 pub(crate) fn next(m: usize, n: usize, p: Piece) -> Piece
-    requires { ⌜ Room m n × Inside m n p ⌝ }
+    requires { ⌜ Within most m n × Inside m n p ⌝ }
     ensures { λ r. ⌜ NextTo m n p r ⌝ }
 {
     let mut q = p;

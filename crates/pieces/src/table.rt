@@ -3,24 +3,22 @@ use crate::cells;
 use crate::course;
 use crate::course::Course;
 use crate::masks;
-use crate::masks::ALL_MASKS;
 use crate::masks::Joins;
-use crate::masks::MOST_RULES;
 use crate::piece;
 use crate::piece::Piece;
-use books::rule::Rule;
+use books::rule::MOST_RULES;
+use books::size::Size;
 ghost use mathlib.Core.Path.{_≡_};
 ghost use Prim.Native.Nat.{_+_, _*_, _≤_};
-ghost use lib.ListN.{length, take};
-ghost use Rattle.pieces.specs.Pieces.{Inside, slotOf};
+ghost use lib.ListN.{length};
 ghost use Rattle.pieces.specs.Masks.{headsFrom};
 ghost use Rattle.pieces.specs.Firing.{joinsFired};
 ghost use Rattle.pieces.specs.Filling.{entryOf, joinedBy, filledBy};
+ghost use Rattle.pieces.specs.inner.Room.{Slotted};
 ghost use Rattle.pieces.specs.inner.Course.{Runs};
 ghost use Rattle.pieces.specs.inner.Along.{along};
-ghost use Rattle.pieces.specs.inner.Seen.{sized, Tabled};
-ghost use Rattle.pieces.specs.inner.Small.{SmallRules};
-ghost use Rattle.pieces.specs.inner.ForTable.{MasksFit, Paintable, filledFor};
+ghost use Rattle.pieces.specs.inner.Seen.{Tabled};
+ghost use Rattle.pieces.specs.inner.ForTable.{MasksFit, Paintable};
 
 // Every join of one direction at every cut of a piece.
 fn join_along(work: &[u32], masks: &[u32], count: usize, course: Course) -> u32
@@ -41,39 +39,33 @@ fn join_along(work: &[u32], masks: &[u32], count: usize, course: Course) -> u32
 }
 
 // The entry of a piece of more than one cell, from the entries of its parts.
-fn entry_of(
-    work: &[u32],
-    masks: &[u32],
-    joins: Joins,
-    m: usize,
-    n: usize,
-    p: Piece,
-    slot: usize,
-) -> u32
-    requires { ⌜ Tabled (sized m n) (now work) × MasksFit (length (now masks)) joins × Inside m n p × (slot ≡ slotOf m n p) ⌝ }
-    ensures { λ x. ⌜ x ≡ entryOf (joinsFired (now (masks .entry)) joins) m n (now (work .entry)) p ⌝ }
+fn entry_of(work: &[u32], masks: &[u32], joins: Joins, size: Size, p: Piece, slot: usize) -> u32
+    requires { ⌜ Tabled size (now work) × MasksFit (length (now masks)) joins × Slotted (size .rows) (size .cols) p slot ⌝ }
+    ensures { λ x. ⌜ x ≡ entryOf (joinsFired (now (masks .entry)) joins) (size .rows) (size .cols) (now (work .entry)) p ⌝ }
 {
     let from = MOST_RULES - joins.down;
     let a = join_along(
         work,
         masks,
         joins.across,
-        course::across_course(m, n, p, slot),
+        course::across_course(size.rows, size.cols, p, slot),
     );
     let d = join_along(
         work,
         &masks[from..],
         joins.down,
-        course::down_course(m, n, p, slot),
+        course::down_course(size.rows, size.cols, p, slot),
     );
     a | d
 }
 
 // Every entry of a table that begins with those of the cells.
-fn fill(work: &mut [u32], masks: &[u32], joins: Joins, m: usize, n: usize)
-    requires { ⌜ Tabled (sized m n) (now work) × MasksFit (length (now masks)) joins ⌝ }
-    ensures { λ _. ⌜ now (work .exit) ≡ joinedBy (joinsFired (now (masks .entry)) joins) m n (now (work .entry)) ⌝ }
+fn fill(work: &mut [u32], masks: &[u32], joins: Joins, size: Size)
+    requires { ⌜ Tabled size (now work) × MasksFit (length (now masks)) joins ⌝ }
+    ensures { λ _. ⌜ now (work .exit) ≡ joinedBy (joinsFired (now (masks .entry)) joins) (size .rows) (size .cols) (now (work .entry)) ⌝ }
 {
+    let m = size.rows;
+    let n = size.cols;
     let end = piece::count(m, n);
     let mut p = piece::next(
         m,
@@ -87,7 +79,7 @@ fn fill(work: &mut [u32], masks: &[u32], joins: Joins, m: usize, n: usize)
     );
     let mut k = piece::times(m, n);
     while k < end {
-        let e = entry_of(work, masks, joins, m, n, p, k);
+        let e = entry_of(work, masks, joins, size, p, k);
         work[k] = e;
         p = piece::next(m, n, p);
         k += 1;
@@ -95,34 +87,10 @@ fn fill(work: &mut [u32], masks: &[u32], joins: Joins, m: usize, n: usize)
 }
 
 // The table of a sheet by masks, and by the numbers that the colours of its cells have among them.
-pub(crate) fn fill_from(
-    masks: &[u32],
-    joins: Joins,
-    colours: &[u8],
-    m: usize,
-    n: usize,
-    work: &mut [u32],
-)
-    requires { ⌜ Tabled (sized m n) (now work) × MasksFit (length (now masks)) joins × Paintable (now colours) (m * n) ⌝ }
-    ensures { λ _. ⌜ now (work .exit) ≡ filledBy (now (masks .entry)) joins (now (colours .entry)) m n (now (work .entry)) ⌝ }
+pub(crate) fn fill_from(masks: &[u32], joins: Joins, colours: &[u8], size: Size, work: &mut [u32])
+    requires { ⌜ Tabled size (now work) × MasksFit (length (now masks)) joins × Paintable (now colours) (size .rows * size .cols) ⌝ }
+    ensures { λ _. ⌜ now (work .exit) ≡ filledBy (now (masks .entry)) joins (now (colours .entry)) (size .rows) (size .cols) (now (work .entry)) ⌝ }
 {
-    cells::paint_cells(masks, colours, piece::times(m, n), work);
-    fill(work, masks, joins, m, n);
-}
-
-// The table of a sheet for the first rules of a family.
-pub(crate) fn fill_table(
-    family: [Rule; MOST_RULES],
-    count: usize,
-    colours: &[u8],
-    m: usize,
-    n: usize,
-    work: &mut [u32],
-)
-    requires { ⌜ SmallRules family count × Tabled (sized m n) (now work) × Paintable (now colours) (m * n) ⌝ }
-    ensures { λ _. ⌜ now (work .exit) ≡ filledFor (take count family) (now (colours .entry)) m n (now (work .entry)) ⌝ }
-{
-    let mut masks = [0u32; ALL_MASKS];
-    let joins = masks::split(family, count, &mut masks);
-    fill_from(&masks, joins, colours, m, n, work);
+    cells::paint_cells(masks, colours, piece::times(size.rows, size.cols), work);
+    fill(work, masks, joins, size);
 }

@@ -4,17 +4,14 @@
 use crate::choice::Choice;
 use crate::choice::choose;
 use crate::cut::has;
-use crate::masks::MOST_RULES;
 use crate::part::Part;
 use crate::part::Parts;
 use crate::part::parts_of;
 use crate::piece::Piece;
-use crate::piece::Size;
-use books::lent::lend;
-use books::rule::Rule;
+use books::size::Size;
 ghost use mathlib.Core.List.{[], _∷_};
 ghost use Prim.Native.Nat.{_+_, _≤_, _<_};
-ghost use lib.ListN.{length, take};
+ghost use lib.ListN.{length};
 ghost use Rattle.pieces.specs.inner.Due.{TreeDue, PartsDue, SheetDue};
 ghost use Rattle.books.specs.RuleBytes.{rulesIn};
 ghost use Rattle.pieces.specs.inner.Seen.{wholeOf, seen};
@@ -91,17 +88,16 @@ fn write_parts(
 // What a filled table tells of a whole sheet: 11 where the start motif has no bit there, and else 0, with its tree at the start of the slice.
 // Where it has the bit there, a rule fits at every node of the tree.
 pub(crate) fn judge(
-    rules: [Rule; MOST_RULES],
-    count: usize,
+    rules: &[[u8; 4]],
     start: u8,
     work: &[u32],
     colours: &[u8],
     size: Size,
     tree: &mut [u16],
 ) -> u8
-    requires { ⌜ SheetDue size (now work) (now colours) rules count start (now tree) ⌝ }
+    requires { ⌜ SheetDue size (now work) (now colours) (rulesIn (now rules)) start (now tree) ⌝ }
     ensures { λ r. ⌜ Judges
-        (verdict (seen size (now (work .entry)) (now (colours .entry))) (take count rules) start (wholeOf size) (now (tree .entry)))
+        (verdict (seen size (now (work .entry)) (now (colours .entry))) (rulesIn (now (rules .entry))) start (wholeOf size) (now (tree .entry)))
         r (now (tree .exit)) ⌝ }
 {
     let sheet = Part {
@@ -114,8 +110,7 @@ pub(crate) fn judge(
         motif: start,
     };
     if has(work, size, sheet) {
-        let rows = lend(rules, count);
-        pick_node(&rows[..count], work, colours, size, sheet, tree, 0);
+        pick_node(rules, work, colours, size, sheet, tree, 0);
         return 0;
     }
     11

@@ -104,6 +104,6 @@ why-not-packs book sheet entries =
       in-family = λ fine room x. record { fits = no-values; packs = plain-packs 15 0 (omega arith) (omega arith) };
       explained = λ fine room other first.
           let s = sheet-lies sheet (fine .sheet-fine) in
-          let fits = holding-fits (contentsOf book) (pictureOf sheet) (s .rows-few) (s .cols-few) (reasonOf (contentsOf book) (pictureOf sheet)) (first .holds) in
+          let fits = holding-fits (contentsOf book) (pictureOf sheet) (s .within .rows-few) (s .within .cols-few) (reasonOf (contentsOf book) (pictureOf sheet)) (first .holds) in
           record { fits = fits; packs = plain-packs 0 _ (omega arith) (packed-low (reasonOf (contentsOf book) (pictureOf sheet)) fits) };
     })

@@ -1,6 +1,6 @@
 -- What asking the book for the sheet tells of the outcome: where it answers 0 the sheet is in the family, 11 calls for the reason, and every other answer stays.
 -- On 11 the work slice holds the table, so that the reason which it shows is the reason.
-use Prim.Native.Nat.{ℕ, _≤_, _<_}
+use Prim.Native.Nat.{ℕ, _≤_}
 use mathlib.Core.Path.{_≡_, refl, sym, ap, ap₂, _∙_}
 use mathlib.Core.Bool.{Bool}
 use mathlib.Core.List.{List}
@@ -8,15 +8,17 @@ use native.Mathlib.Omega.{arith}
 use borrow.Author.Tests.{ne-eqb}
 use lib.ListN.{length}
 use Rattle.names.specs.declared.number.Fault.{Fault}
-use Rattle.names.proofs.SpellingNumbers.{Bytes}
+use Rattle.names.specs.Bytes.{Bytes}
 use Rattle.books.specs.Contents.{Contents}
 use Rattle.books.specs.Picture.{Picture}
 use Rattle.books.specs.Answer.{plain, blaming}
 use Rattle.books.specs.declared.answer.Answer.{Answer}
 use Rattle.books.specs.Book.{bookOf}
 use Rattle.books.specs.Sheet.{sheetOf}
+use Rattle.books.specs.Size.{greatest, Within}
 use Rattle.books.proofs.ReadingBooks.{book-accepted}
 use Rattle.books.proofs.ReadingSheets.{sheet-lies, sheet-refused}
+use Rattle.books.proofs.SizesWithin.{within-more}
 use Rattle.pieces.specs.Asking.{Asking, asking, SplitFrom, Asks}
 use Rattle.pieces.specs.Derivation.{entriesNeeded, filled}
 use Rattle.pieces.specs.Pieces.{total}
@@ -27,11 +29,11 @@ use Rattle.pieces.proofs.AskingSheets.{kept-start}
 use Rattle.pieces.proofs.AskingAnswers.{sheet-first, room-second, derived-asked, other-asked}
 use Rattle.pieces.proofs.Judging.{filled-holds, filled-length}
 use Rattle.sizes.specs.Table.{hasSizeBy}
-use Rattle.sizes.proofs.OneSize.{Placed, placed-has}
+use Rattle.sizes.proofs.OneSize.{placed-has}
 use Rattle.reasons.specs.declared.calls.WhyNot.{WhyNot}
 use Rattle.reasons.specs.declared.reason.Reason.{Reason}
 use Rattle.reasons.specs.Why.{Outcome, refused, reasonOf, whyNot, Answers}
-use Rattle.reasons.specs.inner.FromTable.{OfSheet, reasonIn, unexplained}
+use Rattle.reasons.specs.inner.FromTable.{reasonIn, unexplained}
 use Rattle.reasons.proofs.Endings.{why-not-ends}
 use Rattle.reasons.proofs.FromTables.{reason-shown}
 
@@ -94,7 +96,7 @@ module _ (book sheet entries : List ℕ) (w : WhyNot) (a : Answer) (told : w ≡
       rw (book-first book sheet entries (λ z. n (ap (λ (x : Fault). x .number) read ∙ z)))
       (record { answers = ap (λ (x : WhyNot). x .answer) told ∙ e ∙ ap (blaming 1) read; reasons = ap (λ (x : WhyNot). x .reason) told; leaves = refl })
 
-  module _ (left : List ℕ) (r : Asked) (asks : Asks book sheet entries r left) (book-fine : bookOf book .fault .number ≡ 0) where
+  module _ (left : List ℕ) (r : Asked) (cells : List ℕ) (asks : Asks book sheet entries r cells left) (book-fine : bookOf book .fault .number ≡ 0) where
     number-asked : (n : ℕ) → r .answer .number ≡ n → asking book sheet entries .answer .number ≡ n
     number-asked n e = sym (ap (λ (x : Answer). x .number) (asks .answers)) ∙ e
 
@@ -113,38 +115,34 @@ module _ (book sheet entries : List ℕ) (w : WhyNot) (a : Answer) (told : w ≡
 
 -- ── The reason that the code finds ──
 
-pub sheet-sizes : (sheet : List ℕ) → sheetOf sheet .fault .number ≡ 0 → OfSheet (pictureOf sheet .rows) (pictureOf sheet .cols)
-sheet-sizes sheet fine =
-    let s = sheet-lies sheet fine in
-    record { rows-some = s .rows-some; rows-few = s .rows-few; cols-some = s .cols-some; cols-few = s .cols-few }
-
-module _ (book sheet entries left : List ℕ) (r : Asked) (asks : Asks book sheet entries r left) (book-fine : bookOf book .fault .number ≡ 0)
-    (eleven : r .answer .number ≡ 11) where
+module _ (book sheet entries left : List ℕ) (r : Asked) (cells : List ℕ) (asks : Asks book sheet entries r cells left)
+    (book-fine : bookOf book .fault .number ≡ 0) (eleven : r .answer .number ≡ 11) where
   called : Called book sheet entries (whyNot book sheet entries) (asking book sheet entries)
   called = follows book sheet entries book-fine .eleven (sym (ap (λ (x : Answer). x .number) (asks .answers)) ∙ eleven)
 
   holds : left ≡ filled (contentsOf book) (pictureOf sheet) entries
   holds = asks .leaves-work ∙ called .holds
 
-  pub sizes-asked : OfSheet (r .rows) (r .cols)
-  sizes-asked = rw (asks .rows, asks .cols) (sheet-sizes sheet (called .sheet-fine))
+  sizes : Within greatest (pictureOf sheet .rows) (pictureOf sheet .cols)
+  sizes = sheet-lies sheet (called .sheet-fine) .within
 
-  pub room-asked : total (r .rows) (r .cols) ≤ length left
-  room-asked = rw (asks .rows, asks .cols, holds, filled-length (contentsOf book) (pictureOf sheet) entries (called .room)) (called .room)
+  pub sizes-asked : Within greatest (r .size .rows) (r .size .cols)
+  sizes-asked = rw (asks .size) sizes
 
-  reason-found : (m n : ℕ) → m ≡ pictureOf sheet .rows → n ≡ pictureOf sheet .cols → (split : Split) (masks : List ℕ) → SplitFrom book split masks → Bytes book
-      → reasonIn (hasSizeBy masks (split .joins) (split .start) m n) left (split .start) m n ≡ reasonOf (contentsOf book) (pictureOf sheet)
-  reason-found m n em en split masks from bytes =
-      let s = sheet-lies sheet (called .sheet-fine) in
-      let placed : Placed m n = record { rows-some = omega (arith, s .rows-some); rows-few = omega (arith, s .rows-few); cols-some = omega (arith, s .cols-some); cols-few = omega (arith, s .cols-few) } in
-      ap₂ (λ (has : Bool) (a : ℕ). reasonIn has left a m n) (placed-has book bytes split masks from m n placed) (kept-start book (from .before) (from .is))
-      ∙ rw (em, en) (reason-shown (contentsOf book) (pictureOf sheet) (book-accepted book bytes book-fine .keeps .sound)
-      (record { rows-some = s .rows-some; rows-few = omega (arith, s .rows-few); cols-some = s .cols-some; cols-few = omega (arith, s .cols-few) })
-      left (rw holds (filled-holds (contentsOf book) (pictureOf sheet) entries)))
+  pub room-asked : total (r .size .rows) (r .size .cols) ≤ length left
+  room-asked = rw (asks .size, holds, filled-length (contentsOf book) (pictureOf sheet) entries (called .room)) (called .room)
+
+  reason-found : (split : Split) (masks : List ℕ) → SplitFrom book split masks → Bytes book → let p = pictureOf sheet in
+      reasonIn (hasSizeBy masks (split .joins) (split .start) (p .rows) (p .cols)) left (split .start) (p .rows) (p .cols) ≡ reasonOf (contentsOf book) p
+  reason-found split masks from bytes =
+      let p = pictureOf sheet in
+      ap₂ (λ (has : Bool) (a : ℕ). reasonIn has left a (p .rows) (p .cols)) (placed-has book bytes split masks from (p .rows) (p .cols) sizes)
+      (kept-start book (from .before) (from .is))
+      ∙ reason-shown (contentsOf book) p (book-accepted book bytes book-fine .keeps .sound) (within-more (omega arith) sizes) left
+      (rw holds (filled-holds (contentsOf book) p entries))
 
   pub told-reason : Bytes book → (split : Split) (masks : List ℕ) → SplitFrom book split masks → (a : Answer) → a ≡ plain 0 → (why : Reason)
-      → why ≡ reasonIn (hasSizeBy masks (split .joins) (split .start) (r .rows) (r .cols)) left (split .start) (r .rows) (r .cols)
+      → why ≡ reasonIn (hasSizeBy masks (split .joins) (split .start) (r .size .rows) (r .size .cols)) left (split .start) (r .size .rows) (r .size .cols)
       → Answers (whyNot book sheet entries) (record { answer = a; reason = why }) left
   told-reason bytes split masks from a e why found =
-      rw (called .is)
-      (record { answers = e; reasons = found ∙ reason-found (r .rows) (r .cols) (asks .rows) (asks .cols) split masks from bytes; leaves = holds })
+      rw (called .is) (record { answers = e; reasons = (rw (asks .size) at found) ∙ reason-found split masks from bytes; leaves = holds })

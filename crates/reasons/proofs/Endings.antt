@@ -42,7 +42,7 @@ module _ (book sheet entries : List ℕ) where
     by-judging : Accepted book sheet → entriesNeeded p ≤ length entries → P (judged b p entries)
     unfolding judged
     by-judging fine room =
-        let s = sheet-lies sheet (fine .sheet-fine) in
+        let s = sheet-lies sheet (fine .sheet-fine) .within in
         pick-ind P (derives? b (b .start) p) _ _
         (λ e. cases .in-family fine room (decided b (b .start) p .0 e))
         (λ e. let other = not-derived b (b .start) p .0 e in cases .explained fine room other (reason-first b p (s .rows-some) (s .cols-some) other))

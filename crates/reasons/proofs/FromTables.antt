@@ -17,13 +17,14 @@ use Rattle.books.specs.declared.rule.Dir.the-variants.{Across as across, Down a
 use Rattle.books.specs.Derives.{Derives, paint, join}
 use Rattle.books.specs.Decide.{derives?}
 use Rattle.books.specs.Keeps.{Sound}
+use Rattle.books.specs.Size.{Within}
 use Rattle.books.proofs.Deciding.{refused}
 use Rattle.names.specs.Counted.{least}
+use Rattle.pieces.specs.Most.{most}
 use Rattle.pieces.specs.Pieces.{piece, Inside, slotOf}
 use Rattle.pieces.specs.Table.{cut, entry}
 use Rattle.names.specs.Bits.{bits}
 use Rattle.pieces.specs.Largest.{marked, largestIn}
-use Rattle.pieces.specs.inner.Room.{Room}
 use Rattle.pieces.specs.declared.piece.Piece.{Piece}
 use Rattle.names.proofs.Bits.{none-set}
 use Rattle.pieces.proofs.CellsFirst.{slot-cell}
@@ -83,7 +84,7 @@ module _ (has : Bool) (work : List ℕ) (start m n k : ℕ) (least-bare : k ≡ 
 
 -- ── A slice that holds the table ──
 
-module _ (b : Contents) (p : Picture) (sound : Sound b) (sizes : Room (p .rows) (p .cols)) (work : List ℕ) (held : Holds b p work) where
+module _ (b : Contents) (p : Picture) (sound : Sound b) (sizes : Within most (p .rows) (p .cols)) (work : List ℕ) (held : Holds b p work) where
   -- the entry of the cell that is number i
   cell-entry : (i : ℕ) → i < p .rows * p .cols → getD work i 0 ≡ entry b (cut p (piece 1 1 (i / p .cols) (i % p .cols)))
   cell-entry i h =

@@ -3,7 +3,8 @@
 use Prim.Native.Nat.{ℕ}
 use mathlib.Core.Path.{_≡_}
 use mathlib.Core.List.{List}
-use Rattle.books.proofs.Tickets.{SameButTicket, ticket-alike}
+use Rattle.books.specs.Tickets.{SameButTicket}
+use Rattle.books.proofs.Tickets.{ticket-alike}
 use Rattle.reasons.specs.Why.{refused, roomed, whyNot}
 
 pub ticket-alone : (book s t entries : List ℕ) → SameButTicket s t → whyNot book t entries ≡ whyNot book s entries

@@ -4,6 +4,7 @@ use crate::reason::Reason;
 use crate::why;
 use books::answer;
 use books::answer::Answer;
+use books::size::ROOM;
 use pieces::asking;
 use pieces::masks::ALL_MASKS;
 ghost use mathlib.Core.Path.{_≡_};
@@ -35,7 +36,8 @@ pub fn why_not(book: &[u8], sheet: &[u8], work: &mut [u32]) -> WhyNot
     if split.fault.number != 0 {
         return unexplained(answer::blame(1, split.fault));
     }
-    let asked = asking::ask_sheet(book, split, &masks, sheet, work);
+    let mut cells = [0u8; ROOM];
+    let asked = asking::ask_sheet(book, split, &masks, sheet, &mut cells, work);
     if asked.answer.number == 0 {
         return unexplained(answer::unblamed(15));
     }
@@ -44,14 +46,7 @@ pub fn why_not(book: &[u8], sheet: &[u8], work: &mut [u32]) -> WhyNot
     }
     WhyNot {
         answer: answer::unblamed(0),
-        reason: why::reason(
-            &masks,
-            split.joins,
-            split.start,
-            work,
-            asked.rows,
-            asked.cols,
-        ),
+        reason: why::reason(&masks, split.joins, split.start, work, asked.size),
     }
 }
 

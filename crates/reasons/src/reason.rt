@@ -5,13 +5,21 @@ ghost use Prim.Native.Nat.{_<_};
 ghost use Rattle.reasons.specs.Reason.{values, valuesOf, packedValues, packedReason, Fits};
 ghost use Rattle.reasons.specs.Why.{pieceReason};
 
-// Nothing, of a refused call and of a sheet that is in the family; a cell whose colour no rule names, by its row and column; that the family has no sheet of this
-// size; the largest piece that the start motif derives, by its top row, left column, height and width; or that it derives no piece.
+// Nothing, of a refused call and of a sheet that is in the family; a cell whose colour no rule names; that the family has no sheet of this size; the
+// largest piece that the start motif derives; or that it derives no piece.
 pub enum Reason {
     NoReason,
-    Unnamed(usize, usize),
+    Unnamed {
+        row: usize,
+        column: usize,
+    },
     NoSuchSize,
-    Largest(usize, usize, usize, usize),
+    Largest {
+        top: usize,
+        left: usize,
+        height: usize,
+        width: usize,
+    },
     NoPiece,
 }
 
@@ -22,7 +30,12 @@ pub(crate) fn of_piece(q: Piece) -> Reason
     if q.height == 0 {
         Reason::NoPiece
     } else {
-        Reason::Largest(q.top, q.left, q.height, q.width)
+        Reason::Largest {
+            top: q.top,
+            left: q.left,
+            height: q.height,
+            width: q.width,
+        }
     }
 }
 
@@ -41,9 +54,14 @@ pub(crate) fn count(reason: Reason) -> usize
 {
     match reason {
         Reason::NoReason => 0,
-        Reason::Unnamed(row, column) => packed(1, row, column, 0, 0),
+        Reason::Unnamed { row, column } => packed(1, row, column, 0, 0),
         Reason::NoSuchSize => 2,
-        Reason::Largest(top, left, height, width) => packed(3, top, left, height, width),
+        Reason::Largest {
+            top,
+            left,
+            height,
+            width,
+        } => packed(3, top, left, height, width),
         Reason::NoPiece => 4,
     }
 }

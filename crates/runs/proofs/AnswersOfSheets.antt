@@ -1,34 +1,41 @@
--- With room enough for the greatest sheet a derivation answers 0 to 8 or 11: neither slice can be too short.
-use Prim.Native.Nat.{ℕ, _≤_}
-use mathlib.Core.Path.{_≡_, refl, ap, _∙_}
+-- With room enough for the greatest sheet neither slice of a derivation can be too short, so that it ends in one of four ways: an input is refused, or the
+-- family has the sheet, or not. So the answer is 0 to 8 or 11.
+use Prim.Native.Nat.{ℕ, _+_, _≤_, _<_}
+use mathlib.Core.Path.{_≡_, refl, ap}
 use mathlib.Core.List.{List, []}
 use mathlib.Core.Logic.{_↔_, _⊎_, inl, inr}
+use native.Mathlib.Decide.{ℕ-discrete}
 use native.Mathlib.Omega.{arith}
+use borrow.Author.Count.{below-none, below-more}
 use lib.ListN.{replicate, length-replicate}
 use Rattle.names.specs.Colours.{coloursOf}
 use Rattle.names.specs.Number.{numberAt, numberIn}
 use Rattle.names.specs.Pick.{fault}
 use Rattle.names.specs.declared.number.Fault.{Fault}
+use Rattle.names.proofs.Tests.{together, neither}
 use Rattle.books.specs.Book.{bookOf}
 use Rattle.books.specs.Derives.{Member}
+use Rattle.books.specs.Lent.{contentsOf, pictureOf, Accepted}
 use Rattle.books.specs.Sheet.{sheetOf}
+use Rattle.books.proofs.Area.{within-area}
 use Rattle.books.proofs.ReadingBooks.{book-refused}
 use Rattle.books.proofs.ReadingSheets.{sheet-refused, sheet-lies}
-use Rattle.pieces.specs.Derivation.{Derivation, entriesNeeded, numbersNeeded, derivation}
-use Rattle.pieces.proofs.DerivationAnswers.{sheet-second}
-use Rattle.pieces.proofs.Demand2Numbers.{derive-numbers}
-use Rattle.books.specs.Lent.{contentsOf, pictureOf, Accepted}
-use Rattle.pieces.proofs.Stretches.{total-few}
+use Rattle.pieces.specs.Derivation.{Derivation, entriesNeeded, numbersNeeded}
 use Rattle.pieces.proofs.Endings.{derivation-ends}
+use Rattle.pieces.proofs.Stretches.{total-few}
 use Rattle.runs.specs.Figures.{workRoom, treeRoom, answerOf}
 
 -- ── Room enough ──
 
 pub table-fits : (sheet : List ℕ) → sheetOf sheet .fault .number ≡ 0 → entriesNeeded (pictureOf sheet) ≤ workRoom
-table-fits sheet z = let l = sheet-lies sheet z in total-few _ _ _ (l .rows-few) (l .cols-few)
+table-fits sheet z = let l = sheet-lies sheet z .within in total-few _ _ _ (l .rows-few) (l .cols-few)
 
-pub tree-fits : (sheet : List ℕ) → sheetOf sheet .fault .number ≡ 0 → numbersNeeded (pictureOf sheet) ≤ treeRoom
-tree-fits sheet z = let l = sheet-lies sheet z in omega (arith, l .area-few)
+pub tree-fits : (sheet : List ℕ) → numbersNeeded (pictureOf sheet) ≤ treeRoom
+tree-fits sheet = go (ℕ-discrete (sheetOf sheet .fault .number) 0)
+  where
+    go : Dec (sheetOf sheet .fault .number ≡ 0) → numbersNeeded (pictureOf sheet) ≤ treeRoom
+    go (yes z) = omega (arith, within-area (sheet-lies sheet z .within))
+    go (no n) = rw (sheet-refused sheet n .none) (omega arith)
 
 -- ── The answers ──
 
@@ -36,44 +43,55 @@ tree-fits sheet z = let l = sheet-lies sheet z in omega (arith, l .area-few)
 abbrev pub Listed : ℕ → Type 0
 Listed n = (n ≤ 8) ⊎ (n ≡ 11)
 
-module _ (book sheet : List ℕ) where
-  abbrev work : List ℕ
-  work = replicate workRoom 0
+-- what holds of each of the ten
+pub of-listed : (P : ℕ → Type 0) → P 0 → P 1 → P 2 → P 3 → P 4 → P 5 → P 6 → P 7 → P 8 → P 11 → (n : ℕ) → Listed n → P n
+of-listed P zero one two three four five six seven eight eleven n (inl h) =
+    next 8 (next 7 (next 6 (next 5 (next 4 (next 3 (next 2 (next 1 (next 0 (below-none P) zero) one) two) three) four) five) six) seven) eight n (omega arith)
+  where
+    next : (i : ℕ) → ((k : ℕ) → k < i → P k) → P i → (k : ℕ) → k < i + 1 → P k
+    next i = below-more P i
+of-listed P zero one two three four five six seven eight eleven n (inr e) = rw e eleven
 
-  abbrev tree : List ℕ
-  tree = replicate treeRoom 0
+module _ (book sheet : List ℕ) where
+  pub record Ways (P : ℕ → Type 0) : Type 0 where
+    pub in-book : (bookOf book .fault .number ≡ 0 → ⊥) → P (bookOf book .fault .number)
+    pub in-sheet : bookOf book .fault .number ≡ 0 → (sheetOf sheet .fault .number ≡ 0 → ⊥) → P (sheetOf sheet .fault .number)
+    pub declined : Accepted book sheet → (Member (contentsOf book) (pictureOf sheet) → ⊥) → P 11
+    pub derived : Accepted book sheet → Member (contentsOf book) (pictureOf sheet) → P 0
+
+  pub answer-ends : (P : ℕ → Type 0) → Ways P → P (answerOf book sheet)
+  unfolding answerOf
+  answer-ends P ways =
+      derivation-ends book sheet (replicate workRoom 0) (replicate treeRoom 0) (λ (d : Derivation). P (d .answer .number))
+      (record {
+        in-book = ways .in-book;
+        in-sheet = ways .in-sheet;
+        short-work = λ fine short. absurd (omega (arith, short, length-replicate {A = ℕ} workRoom 0, table-fits sheet (fine .sheet-fine)));
+        short-tree = λ fine enough short. absurd (omega (arith, short, length-replicate {A = ℕ} treeRoom 0, tree-fits sheet));
+        declined = λ fine room none. ways .declined fine none;
+        derived = λ fine room x nodes given. ways .derived fine x;
+      })
 
   pub answer-listed : Listed (answerOf book sheet)
-  unfolding answerOf
   answer-listed =
-      derivation-ends book sheet work tree (λ (d : Derivation). Listed (d .answer .number))
+      answer-ends Listed
       (record {
         in-book = λ n. inl (book-refused book n .blamed .known);
         in-sheet = λ z n. inl (sheet-refused sheet n .blamed .known);
-        short-work = λ fine short. absurd (omega (arith, short, length-replicate {A = ℕ} workRoom 0, table-fits sheet (fine .sheet-fine)));
-        short-tree = λ fine enough short. absurd (omega (arith, short, length-replicate {A = ℕ} treeRoom 0, tree-fits sheet (fine .sheet-fine)));
-        declined = λ fine room none. inr refl;
-        derived = λ fine room x nodes given. inl (omega arith);
+        declined = λ fine none. inr refl;
+        derived = λ fine x. inl (omega arith);
       })
 
   -- an accepted sheet is read, and a member of the family; and every such sheet is accepted
   pub accepted-exactly : (answerOf book sheet ≡ 0) ↔ (Accepted book sheet × Member (contentsOf book) (pictureOf sheet))
-  unfolding answerOf
   accepted-exactly =
-      let d = derivation book sheet work tree in
-      let zero = derive-numbers book sheet work tree {r = d .answer} {w = d .entries} {t = d .numbers}
-      (record { answers = refl; leaves-work = refl; leaves-tree = refl }) .zero in (
-        λ e. let (fine, room, member) = zero .0 e in (fine, member),
-        λ x. let fine = x .0 .sheet-fine in
-            zero .1 (
-              x .0,
-              record {
-                work-long = omega (arith, length-replicate {A = ℕ} workRoom 0, table-fits sheet fine);
-                tree-long = omega (arith, length-replicate {A = ℕ} treeRoom 0, tree-fits sheet fine);
-              },
-              x .1,
-            ),
-      )
+      answer-ends (λ n. (n ≡ 0) ↔ (Accepted book sheet × Member (contentsOf book) (pictureOf sheet)))
+      (record {
+        in-book = λ n. neither n (λ x. n (x .0 .book-fine));
+        in-sheet = λ z n. neither n (λ x. n (x .0 .sheet-fine));
+        declined = λ fine none. neither (λ e. omega arith) (λ x. none (x .1));
+        derived = λ fine x. together refl (fine, x);
+      })
 
 -- a sheet of no bytes ends at once
 nothing-read : sheetOf [] .fault ≡ fault 1 0
@@ -81,8 +99,12 @@ unfolding sheetOf coloursOf numberIn numberAt
 nothing-read = refl
 
 pub nothing-answers : (book : List ℕ) → bookOf book .fault .number ≡ 0 → answerOf book [] ≡ 1
-unfolding answerOf
 nothing-answers book z =
     let ends : sheetOf [] .fault .number ≡ 1 = ap (λ (f : Fault). f .number) nothing-read in
-    ap (λ (d : Derivation). d .answer .number) (sheet-second book [] (replicate workRoom 0) (replicate treeRoom 0) z (λ e. omega arith))
-    ∙ rw nothing-read refl
+    answer-ends book [] (λ n. n ≡ 1)
+    (record {
+      in-book = λ n. absurd (n z);
+      in-sheet = λ _ _. ends;
+      declined = λ fine _. absurd (omega (arith, ends, fine .sheet-fine));
+      derived = λ fine _. absurd (omega (arith, ends, fine .sheet-fine));
+    })

@@ -1,7 +1,6 @@
 -- The cells of an accepted sheet have colours of the book, since the rules derive it. So how many show a colour's full name is how many have its number.
 use Prim.Native.Nat.{ℕ, _*_, _/_, _%_, _<_}
-use mathlib.Core.Path.{_≡_, refl, sym, ap, _∙_}
-use mathlib.Core.Bool.{Bool, true, false}
+use mathlib.Core.Path.{_≡_, sym, ap, _∙_}
 use mathlib.Core.List.{List, [], map, List·Memᴰ, Memᴰ·cast}
 use native.Mathlib.Nat.{mod-lt, div-add-mod', div-lt-iff-lt-mul}
 use native.Mathlib.Omega.{arith}
@@ -11,42 +10,38 @@ use lib.ListN.{length, getD, take, drop, length-map}
 use lib.Seq.{getD-take, length-take-le, take-at}
 use Rattle.names.specs.Name.{Name, listed}
 use Rattle.names.specs.Colours.{namesIn}
-use Rattle.names.specs.Spelling.{Distinct}
+use Rattle.names.specs.Spelling.{mostColours, ColoursOk, Distinct}
 use Rattle.names.proofs.Finding.{find-listed}
 use Rattle.names.proofs.Listing.{listed-found, listed-own}
 use Rattle.names.proofs.ReadingColours.{names-count, name-at}
-use Rattle.names.proofs.SpellingNumbers.{Bytes}
+use Rattle.names.specs.Bytes.{Bytes}
+use Rattle.names.proofs.Tests.{both-ways}
 use Rattle.books.specs.Book.{bookOf}
 use Rattle.books.specs.Cells.{noCells}
 use Rattle.books.specs.Contents.{Contents}
 use Rattle.books.specs.ContentsIn.{contentsIn}
 use Rattle.books.specs.Decide.{called?}
 use Rattle.books.specs.Derives.{Member}
-use Rattle.books.specs.Order.{numberOf, numbersOf}
+use Rattle.books.specs.Numbering.{numberOf, numbersOf}
 use Rattle.books.specs.Sheet.{sheetOf}
 use Rattle.books.specs.declared.family.Family.{Family}
 use Rattle.books.specs.declared.sheet.Sheet.{Sheet}
 use Rattle.books.proofs.CellsCalled.{cells-listed}
 use Rattle.books.proofs.Deciding.{called}
-use Rattle.books.proofs.Ordering.{number-at}
+use Rattle.books.proofs.NumberedCells.{number-at}
 use Rattle.books.proofs.ReadingBooks.{book-accepted}
 use Rattle.books.proofs.ReadingSheets.{SheetLies, sheet-lies}
 use Rattle.books.specs.Lent.{pictureOf, Accepted, contentsOf}
-use Rattle.runs.specs.Figures.{showing, mostColours}
+use Rattle.runs.specs.Figures.{showing}
 use Rattle.runs.specs.Lists.{howMany}
 use Rattle.runs.proofs.CountingLists.{how-many-same}
 
 -- ── A name by its number ──
 
-same-test : (s t : Bool) → (s ≡ true → t ≡ true) → (t ≡ true → s ≡ true) → s ≡ t
-same-test true t f g = sym (f refl)
-same-test false true f g = g refl
-same-test false false f g = refl
-
 -- a listed name is that of the colour that has its number, and of no other, since no name stands twice
 called-number : (b : Contents) → Distinct (b .colours) → (n : Name) → List·Memᴰ n (b .colours) → (c : ℕ) → called? b c n ≡ eqb (listed (b .colours) n) c
 called-number b apart n m c =
-    same-test (called? b c n) (eqb (listed (b .colours) n) c)
+    both-ways (called? b c n) (eqb (listed (b .colours) n) c)
     (λ t. let (low, is) = called b c n .0 t in eq-eqb (listed (b .colours) n) c (ap (listed (b .colours)) is ∙ listed-own (b .colours) c apart low))
     (λ t.
     let e = eqb-true (listed (b .colours) n) c t in
@@ -66,7 +61,7 @@ module _ (book sheet : List ℕ) (bytes : Bytes book) (fine : Accepted book shee
   b = contentsIn book f
 
   abbrev area : ℕ
-  area = g .rows * g .cols
+  area = g .size .rows * g .size .cols
 
   abbrev cells : List ℕ
   cells = take area (g .cells)
@@ -80,40 +75,41 @@ module _ (book sheet : List ℕ) (bytes : Bytes book) (fine : Accepted book shee
   lies : SheetLies sheet (sheetOf sheet)
   lies = sheet-lies sheet (fine .sheet-fine)
 
+  ok : ColoursOk (b .colours)
+  ok = book-accepted book bytes (fine .book-fine) .keeps .colours-ok
+
   cells-long : length cells ≡ area
   cells-long = length-take-le area (g .cells) (omega (arith, lies .area-few, lies .cells-all))
 
   -- the name of each cell is that of a book colour
   cell-listed : (i : ℕ) → i < area → List·Memᴰ (names (getD cells i 0)) (b .colours)
   cell-listed i h =
-      let row : i / g .cols < g .rows = div-lt-iff-lt-mul (lies .cols-some) .1 h in
-      let col : i % g .cols < g .cols = mod-lt i (lies .cols-some) in
-      Memᴰ·cast (ap (λ (k : ℕ). names (getD cells k 0)) (sym (div-add-mod' i (g .cols)))) (cells-listed member (i / g .cols) (i % g .cols) row col)
+      let n = g .size .cols in
+      let row : i / n < g .size .rows = div-lt-iff-lt-mul (lies .within .cols-some) .1 h in
+      let col : i % n < n = mod-lt i (lies .within .cols-some) in
+      Memᴰ·cast (ap (λ (k : ℕ). names (getD cells k 0)) (sym (div-add-mod' i n))) (cells-listed member (i / n) (i % n) row col)
 
   -- its number in the book is the number that the name has in the book's list
   cell-number : (i : ℕ) → i < area → numbers (getD cells i 0) ≡ listed (b .colours) (names (getD cells i 0))
   cell-number i h =
       let x = getD cells i 0 in
       let low : x < g .colours .count = omega (arith, getD-take area (g .cells) i 0 h, lies .cells-fit i h) in
-      let ok = book-accepted book bytes (fine .book-fine) .keeps .colours-ok in
       find-listed book (f .colours) _ (omega (arith, ok .few, names-count book (f .colours))) ∙ ap (listed (b .colours)) (sym (name-at sheet (g .colours) x low))
 
   pub numbers-low : (i : ℕ) → i < area → getD (numbersOf book (f .colours) sheet g) i 0 < mostColours
   numbers-low i h =
-      let ok = book-accepted book bytes (fine .book-fine) .keeps .colours-ok in
       let number =
       number-at book (f .colours) sheet g i h (omega (arith, lies .area-few, lies .cells-all))
       ∙ ap numbers (sym (getD-take area (g .cells) i 0 h)) ∙ cell-number i h in
       omega (arith, number, listed-found (b .colours) (names (getD cells i 0)) (cell-listed i h) .0, ok .few)
 
-  numbers-are : take area (numbersOf book (f .colours) sheet g) ≡ map numbers cells
-  numbers-are = take-at (map numbers cells) (drop area noCells) area (length-map cells numbers ∙ cells-long)
+  numbers-are : map numbers cells ≡ take area (numbersOf book (f .colours) sheet g)
+  numbers-are = sym (take-at (map numbers cells) (drop area noCells) area (length-map cells numbers ∙ cells-long))
 
   pub showing-numbers : (c : ℕ) → showing book c sheet ≡ howMany (λ (x : ℕ). eqb x c) (take area (numbersOf book (f .colours) sheet g))
   unfolding showing
   showing-numbers c =
-      let ok = book-accepted book bytes (fine .book-fine) .keeps .colours-ok in
       how-many-same (called? b c) (λ (x : ℕ). eqb x c) names numbers cells
       (λ i h. let low : i < area = omega (arith, cells-long) in
       called-number b (ok .distinct) (names (getD cells i 0)) (cell-listed i low) c ∙ ap (λ (k : ℕ). eqb k c) (sym (cell-number i low)))
-      ∙ ap (howMany (λ (x : ℕ). eqb x c)) (sym numbers-are)
+      ∙ ap (howMany (λ (x : ℕ). eqb x c)) numbers-are

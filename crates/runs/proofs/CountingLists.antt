@@ -1,9 +1,9 @@
 -- Counting, adding and taking the least or the greatest go over a list element by element: of two lists, one after the other, each is made of both.
-use Prim.Native.Nat.{ℕ, suc, _+_, _*_, _≤_, _<_, max}
+use Prim.Native.Nat.{ℕ, suc, _+_, _*_, _≤_, _<_, min, max}
 use mathlib.Core.Path.{_≡_, refl, sym, ap, _∙_}
 use mathlib.Core.Bool.{Bool, true, false}
 use mathlib.Core.List.{List, [], _∷_, _++_, map, List·Memᴰ, List·Memᴰ·head, List·Memᴰ·tail, List·Memᴰ·cases-cons, List·Memᴰ·not-nil, Memᴰ·cast}
-use mathlib.Core.Logic.{⊎-elim}
+use mathlib.Core.Logic.{_⊎_, inl, inr, ⊎-elim}
 use native.Mathlib.Nat.{suc-mul}
 use native.Mathlib.Omega.{arith}
 use lib.ListN.{length, getD, length-append}
@@ -82,18 +82,18 @@ module _ {A : Type 0} (f : A → ℕ) where
 
 -- ── The least and the greatest ──
 
-pub least-more : (l : List ℕ) (x : ℕ) → leastOf (l ++ (x ∷ [])) ≡ leastWith (anyIn l) (leastOf l) x
+pub least-more : (l : List ℕ) (x : ℕ) → leastWith (anyIn l) (leastOf l) x ≡ leastOf (l ++ (x ∷ []))
 unfolding leastOf leastWith anyIn
 least-more [] x = refl
 least-more (y ∷ []) x = refl
 least-more (y ∷ z ∷ l) x = omega (arith, least-more (z ∷ l) x)
 
-pub greatest-more : (l : List ℕ) (x : ℕ) → greatestOf (l ++ (x ∷ [])) ≡ max (greatestOf l) x
+pub greatest-more : (l : List ℕ) (x : ℕ) → max (greatestOf l) x ≡ greatestOf (l ++ (x ∷ []))
 unfolding greatestOf
 greatest-more [] x = omega arith
 greatest-more (y ∷ l) x = omega (arith, greatest-more l x)
 
-pub any-more : {A : Type 0} (l : List A) (x : A) → anyIn (l ++ (x ∷ [])) ≡ 1
+pub any-more : {A : Type 0} (l : List A) (x : A) → 1 ≡ anyIn (l ++ (x ∷ []))
 unfolding anyIn
 any-more [] x = refl
 any-more (y ∷ l) x = refl
@@ -103,36 +103,34 @@ pub record Bounds (R : ℕ → ℕ → Type 0) (l : List ℕ) (n : ℕ) : Type 0
   pub member : List·Memᴰ n l
   pub bounds : (x : ℕ) → List·Memᴰ x l → R n x
 
+-- one element more: of it and what bounds the others the one that bounds the other bounds all
+module _ (R : ℕ → ℕ → Type 0) (on : (m n x : ℕ) → R m n → R n x → R m x) where
+  bounds-one : (x m : ℕ) → m ≡ x → R m x → Bounds R (x ∷ []) m
+  bounds-one x m e h =
+      record {
+        member = List·Memᴰ·head e;
+        bounds = λ y u. ⊎-elim (λ d. rw d h) (λ v. absurd (List·Memᴰ·not-nil v)) (List·Memᴰ·cases-cons u);
+      }
+
+  bounds-more : (x : ℕ) (l : List ℕ) (n m : ℕ) → Bounds R l n → (m ≡ x) ⊎ (m ≡ n) → R m x → R m n → Bounds R (x ∷ l) m
+  bounds-more x l n m rest one h g =
+      record {
+        member = ⊎-elim (λ e. List·Memᴰ·head e) (λ e. Memᴰ·cast e (List·Memᴰ·tail (rest .member))) one;
+        bounds = λ y u. ⊎-elim (λ d. rw d h) (λ v. on m n y g (rest .bounds y v)) (List·Memᴰ·cases-cons u);
+      }
+
 pub least-bounds : (x : ℕ) (l : List ℕ) → Bounds (λ n y. n ≤ y) (x ∷ l) (leastOf (x ∷ l))
 unfolding leastOf
-least-bounds x [] =
-    record {
-      member = List·Memᴰ·head refl;
-      bounds = λ y m. ⊎-elim (λ e. omega arith) (λ u. absurd (List·Memᴰ·not-nil u)) (List·Memᴰ·cases-cons m);
-    }
+least-bounds x [] = bounds-one _ (λ m n y h g. omega arith) x x refl (omega arith)
 least-bounds x (y ∷ l) =
-    let rest = least-bounds y l in
-    record {
-      member = ⊎-elim
-          (λ h. let e : leastOf (x ∷ y ∷ l) ≡ x = omega arith in List·Memᴰ·head e)
-          (λ h. let e : leastOf (x ∷ y ∷ l) ≡ leastOf (y ∷ l) = omega arith in Memᴰ·cast e (List·Memᴰ·tail (rest .member)))
-          (lt-or-le x (leastOf (y ∷ l)));
-      bounds = λ z m. ⊎-elim (λ e. omega arith) (λ u. omega (arith, rest .bounds z u)) (List·Memᴰ·cases-cons m);
-    }
+    let n = leastOf (y ∷ l) in
+    bounds-more _ (λ m n y h g. omega arith) x (y ∷ l) n (min x n) (least-bounds y l)
+    (⊎-elim (λ h. inl (omega arith)) (λ h. inr (omega arith)) (lt-or-le x n)) (omega arith) (omega arith)
 
 pub greatest-bounds : (x : ℕ) (l : List ℕ) → Bounds (λ n y. y ≤ n) (x ∷ l) (greatestOf (x ∷ l))
 unfolding greatestOf
-greatest-bounds x [] =
-    record {
-      member = let e : greatestOf (x ∷ []) ≡ x = omega arith in List·Memᴰ·head e;
-      bounds = λ y m. ⊎-elim (λ e. omega arith) (λ u. absurd (List·Memᴰ·not-nil u)) (List·Memᴰ·cases-cons m);
-    }
+greatest-bounds x [] = bounds-one _ (λ m n y h g. omega arith) x (max x 0) (omega arith) (omega arith)
 greatest-bounds x (y ∷ l) =
-    let rest = greatest-bounds y l in
-    record {
-      member = ⊎-elim
-          (λ h. let e : greatestOf (x ∷ y ∷ l) ≡ greatestOf (y ∷ l) = omega arith in Memᴰ·cast e (List·Memᴰ·tail (rest .member)))
-          (λ h. let e : greatestOf (x ∷ y ∷ l) ≡ x = omega arith in List·Memᴰ·head e)
-          (lt-or-le x (greatestOf (y ∷ l)));
-      bounds = λ z m. ⊎-elim (λ e. omega arith) (λ u. omega (arith, rest .bounds z u)) (List·Memᴰ·cases-cons m);
-    }
+    let n = greatestOf (y ∷ l) in
+    bounds-more _ (λ m n y h g. omega arith) x (y ∷ l) n (max x n) (greatest-bounds y l)
+    (⊎-elim (λ h. inr (omega arith)) (λ h. inl (omega arith)) (lt-or-le x n)) (omega arith) (omega arith)

@@ -4,12 +4,13 @@ use Prim.Native.Nat.{ℕ, _/_, _%_, _^_, _≤_, _<_}
 use mathlib.Core.Path.{_≡_, refl, sym, ap, _∙_}
 use mathlib.Core.List.{List, _++_}
 use mathlib.Core.Logic.{_↔_, _⊎_, inl, inr, ⊎-elim}
-use native.Mathlib.Decide.{ℕ-discrete}
 use native.Mathlib.Omega.{arith}
 use borrow.Author.Tests.{ne-eqb}
+use lib.Dec.{eqb}
 use lib.ListN.{length, drop, replicate}
-use Rattle.names.proofs.Tests.{lt-or-le}
-use Rattle.books.specs.Answer.{plain, blaming, packed, Packs}
+use Rattle.names.specs.Pick.{pick}
+use Rattle.names.proofs.Tests.{lt-or-le, together, neither}
+use Rattle.books.specs.Answer.{plain, packed, Packs}
 use Rattle.books.specs.Book.{bookOf}
 use Rattle.books.specs.declared.answer.Answer.{Answer}
 use Rattle.books.proofs.LentEnds.{blamed-is}
@@ -17,10 +18,11 @@ use Rattle.books.proofs.Packing.{apart, plain-packs, book-placed, fault-placed}
 use Rattle.books.proofs.ReadingBooks.{book-refused}
 use Rattle.runs.specs.Run.{mostBytes, framing, sheetsOf}
 use Rattle.runs.specs.Figures.{workRoom, figuresOf, noFigures, figuresLong, inARow}
-use Rattle.runs.specs.Outcome.{Outcome, refusal, refused, report, Answers, told, runReport, Leaves}
+use Rattle.runs.specs.Outcome.{Outcome, refused, reported, report, Answers, told, runReport, Leaves}
 use Rattle.runs.specs.declared.calls.RunReport.{RunReport}
 use Rattle.runs.specs.declared.figures.Figures.{Figures}
-use Rattle.runs.proofs.ReportingRuns.{book-first, run-second, work-third, nothing-refused, given-up, gone-through, short-slice, long-slice}
+use Rattle.runs.specs.inner.Reporting.{telling}
+use Rattle.runs.proofs.ReportingRuns.{Ways, refusing-ends, short-slice, long-slice}
 use Rattle.runs.proofs.WalkingRuns.{framing-blamed}
 
 abbrev pub Fine : List ℕ → Type 0
@@ -46,111 +48,76 @@ module _ (book run work : List ℕ) where
   abbrev Obeys : Outcome → Type 0
   Obeys o = Answered book run work (o .answer .number) (o .answer .blamed) (o .answer .place) (o .figures) (o .entries)
 
-  -- what is refused has a number
   abbrev o : Outcome
   o = report book run work
 
-  refuses : (a : Answer) → refusal book run work ≡ a → (a .number ≡ 0 → ⊥) → o ≡ refused a work
-  refuses a e n = given-up book run work (λ z. n (ap (λ (b : Answer). b .number) (sym e) ∙ z)) ∙ ap (λ (b : Answer). refused b work) e
-
-  of-book : (Fine book → ⊥) → Obeys o
-  of-book bad =
-      let f = book-refused book bad .blamed in
-      rw (refuses _ (book-first (bookOf book .fault) run (length work) bad ∙ blamed-is 1 (bookOf book .fault) bad) bad)
-      (record {
-        listed = omega (arith, f .known);
-        zero = (λ z. absurd (bad z), λ x. absurd (bad (x .0)));
-        nine = (λ z. absurd (omega (arith, f .known)), λ x. absurd (bad (x .0)));
-        in-book = λ _. (refl, refl, refl, f .inside);
-        in-run = λ z. absurd (bad z);
-        others = λ z. absurd (bad z);
-        unwritten = λ _. (refl, refl);
-        counted = λ z. absurd (bad z);
-      })
-
-  module _ (fine : Fine book) where
-    of-run : (Framed run → ⊥) → Obeys o
-    of-run bad =
-        let f = framing-blamed run bad in
-        rw (refuses _ (run-second (bookOf book .fault) run (length work) fine bad ∙ blamed-is 2 (framing run) bad) bad)
-        (record {
-          listed = omega (arith, f .known);
-          zero = (λ z. absurd (bad z), λ x. absurd (bad (x .1)));
-          nine = (λ z. absurd (omega (arith, f .known)), λ x. absurd (bad (x .1)));
-          in-book = λ b. absurd (b fine);
-          in-run = λ _ _. (refl, refl, refl, f .inside);
-          others = λ _ y. absurd (bad y);
-          unwritten = λ _. (refl, refl);
-          counted = λ z. absurd (bad z);
-        })
-
-    module _ (framed : Framed run) where
-      of-work : length work < workRoom → Obeys o
-      of-work h =
-          rw (refuses (plain 9) (work-third (bookOf book .fault) run (length work) fine framed h) (λ z. omega arith))
-          (record {
-            listed = omega arith;
-            zero = (λ z. absurd (omega arith), λ x. absurd (omega (arith, x .2)));
-            nine = (λ _. (fine, framed, h), λ _. refl);
-            in-book = λ b. absurd (b fine);
-            in-run = λ _ b. absurd (b framed);
-            others = λ _ _. (refl, refl);
-            unwritten = λ _. (refl, refl);
-            counted = λ z. absurd (omega arith);
-          })
-
-      counts : workRoom ≤ length work → Obeys o
-      counts h =
-          let e = nothing-refused (bookOf book .fault) run (length work) fine framed h in
-          rw (gone-through book run work (ap (λ (b : Answer). b .number) e))
-          (record {
-            listed = omega arith;
-            zero = (λ _. (fine, framed, h), λ _. refl);
-            nine = (λ z. absurd (omega arith), λ x. absurd (omega (arith, x .2)));
-            in-book = λ b. absurd (b fine);
-            in-run = λ _ b. absurd (b framed);
-            others = λ _ _. (refl, refl);
-            unwritten = λ n. absurd (n refl);
-            counted = λ _. (refl, refl);
-          })
+  -- what holds of each way down the call
+  ends : (P : Outcome → Type 0) → Ways (bookOf book .fault) run (length work) (λ a. P (pick (eqb (a .number) 0) (reported book run work) (refused a work))) → P o
+  unfolding report
+  ends P ways = refusing-ends (bookOf book .fault) run (length work) _ ways
 
   pub obeys : Obeys o
-  obeys = by-book (ℕ-discrete (bookOf book .fault .number) 0)
-    where
-      by-run : Fine book → Dec (Framed run) → Obeys o
-      by-run fine (yes y) = ⊎-elim (of-work fine y) (counts fine y) (lt-or-le (length work) workRoom)
-      by-run fine (no n) = of-run fine n
-
-      by-book : Dec (Fine book) → Obeys o
-      by-book (yes z) = by-run z (ℕ-discrete (framing run .number) 0)
-      by-book (no n) = of-book n
-
-  -- ── Every answer packs ──
+  obeys =
+      ends Obeys
+      (record {
+        in-book = λ bad. let f = book-refused book bad .blamed in
+            rw (ne-eqb (bookOf book .fault .number) 0 bad)
+            (record {
+              listed = omega (arith, f .known);
+              zero = neither bad (λ x. bad (x .0));
+              nine = neither (λ e. omega (arith, f .known)) (λ x. bad (x .0));
+              in-book = λ _. (refl, refl, refl, f .inside);
+              in-run = λ z. absurd (bad z);
+              others = λ z. absurd (bad z);
+              unwritten = λ _. (refl, refl);
+              counted = λ z. absurd (bad z);
+            });
+        in-run = λ fine bad. let f = framing-blamed run bad in
+            rw (ne-eqb (framing run .number) 0 bad)
+            (record {
+              listed = omega (arith, f .known);
+              zero = neither bad (λ x. bad (x .1));
+              nine = neither (λ e. omega (arith, f .known)) (λ x. bad (x .1));
+              in-book = λ b. absurd (b fine);
+              in-run = λ _ _. (refl, refl, refl, f .inside);
+              others = λ _ y. absurd (bad y);
+              unwritten = λ _. (refl, refl);
+              counted = λ z. absurd (bad z);
+            });
+        short-work = λ fine framed h.
+            record {
+              listed = omega arith;
+              zero = neither (λ z. omega arith) (λ x. omega (arith, x .2));
+              nine = together refl (fine, framed, h);
+              in-book = λ b. absurd (b fine);
+              in-run = λ _ b. absurd (b framed);
+              others = λ _ _. (refl, refl);
+              unwritten = λ _. (refl, refl);
+              counted = λ z. absurd (omega arith);
+            };
+        nothing = λ g.
+            record {
+              listed = omega arith;
+              zero = together refl (g .book-fine, g .run-fine, g .work-long);
+              nine = neither (λ z. omega arith) (λ x. omega (arith, x .2, g .work-long));
+              in-book = λ b. absurd (b (g .book-fine));
+              in-run = λ _ b. absurd (b (g .run-fine));
+              others = λ _ _. (refl, refl);
+              unwritten = λ n. absurd (n refl);
+              counted = λ _. (refl, refl);
+            };
+      })
 
   report-packs : Packs (o .answer) 0
-  report-packs = by-book (ℕ-discrete (bookOf book .fault .number) 0)
-    where
-      packs-as : (a : Answer) → refusal book run work ≡ a → (a .number ≡ 0 → ⊥) → Packs a 0 → Packs (o .answer) 0
-      packs-as a e n p = rw (refuses a e n) p
-
-      by-work : Fine book → Framed run → (length work < workRoom) ⊎ (workRoom ≤ length work) → Packs (o .answer) 0
-      by-work z y (inl h) =
-          packs-as (plain 9) (work-third (bookOf book .fault) run (length work) z y h) (λ e. omega arith) (plain-packs 9 0 (omega arith) (omega arith))
-      by-work z y (inr h) =
-          rw (gone-through book run work (ap (λ (b : Answer). b .number) (nothing-refused (bookOf book .fault) run (length work) z y h)))
-          (plain-packs 0 0 (omega arith) (omega arith))
-
-      by-run : Fine book → Dec (Framed run) → Packs (o .answer) 0
-      by-run z (yes y) = by-work z y (lt-or-le (length work) workRoom)
-      by-run z (no n) =
-          packs-as (blaming 2 (framing run)) (run-second (bookOf book .fault) run (length work) z n) (rw (ne-eqb (framing run .number) 0 n) n)
-          (fault-placed run 2 mostBytes (framing run) (omega arith) (omega arith) (λ m. framing-blamed run m) .packs)
-
-      by-book : Dec (Fine book) → Packs (o .answer) 0
-      by-book (yes z) = by-run z (ℕ-discrete (framing run .number) 0)
-      by-book (no n) =
-          packs-as (blaming 1 (bookOf book .fault)) (book-first (bookOf book .fault) run (length work) n) (rw (ne-eqb (bookOf book .fault .number) 0 n) n)
-          (book-placed book 1 (omega arith) .packs)
+  report-packs =
+      ends (λ (x : Outcome). Packs (x .answer) 0)
+      (record {
+        in-book = λ n. let e = ne-eqb (bookOf book .fault .number) 0 n in rw e (rw e at (book-placed book 1 (omega arith) .packs));
+        in-run = λ _ n. let e = ne-eqb (framing run .number) 0 n in
+            rw e (rw e at (fault-placed run 2 mostBytes (framing run) (omega arith) (omega arith) (λ m. framing-blamed run m) .packs));
+        short-work = λ _ _ _. plain-packs 9 0 (omega arith) (omega arith);
+        nothing = λ _. plain-packs 0 0 (omega arith) (omega arith);
+      })
 
   -- ── The theorems ──
 
@@ -169,27 +136,26 @@ module _ (book run work : List ℕ) where
           → (f : Figures) × Answered book run work (r % 2 ^ 8) (r / 2 ^ 8 % 2 ^ 4) (r / 2 ^ 12 % 2 ^ 20) f work-left × (left ≡ inARow f ++ drop figuresLong slice)
       pub no-count : r / 2 ^ 32 ≡ 0
 
-    called-short : length slice < figuresLong → (r : ℕ) (work-left left : List ℕ) → Leaves (runReport book run work slice) r work-left left → Called r work-left left
-    called-short h r work-left left l =
-        let m : Leaves (record { answer = plain 13; entries = work; slice = slice }) r work-left left = rw (short-slice book run work slice h) at l in
+    called-short : length slice < figuresLong → (r : ℕ) (work-left left : List ℕ) → Leaves (telling (plain 13) work slice) r work-left left → Called r work-left left
+    called-short h r work-left left m =
         let p = apart (plain 13) 0 (plain-packs 13 0 (omega arith) (omega arith)) in
         let number : r % 2 ^ 8 ≡ 13 = rw (m .answers) (p .number-is) in
         record {
           listed = inr number;
-          thirteen = (λ _. h, λ _. number);
+          thirteen = together number h;
           short = λ _. rw (m .answers) (p .number-is, p .blamed-is, p .place-is, m .leaves-work, m .leaves-figures);
           long = λ g. absurd (omega arith);
           no-count = rw (m .answers) (p .count-is);
         }
 
-    called-long : figuresLong ≤ length slice → (r : ℕ) (work-left left : List ℕ) → Leaves (runReport book run work slice) r work-left left → Called r work-left left
-    called-long h r work-left left l =
-        let m : Leaves (told o slice) r work-left left = rw (long-slice book run work slice h) at l in
+    called-long : figuresLong ≤ length slice → (r : ℕ) (work-left left : List ℕ) → Leaves (told o slice) r work-left left → Called r work-left left
+    unfolding told
+    called-long h r work-left left m =
         let p = apart (o .answer) 0 report-packs in
         let low : r % 2 ^ 8 ≤ 9 = rw (m .answers, p .number-is) (obeys .listed) in
         record {
           listed = inl low;
-          thirteen = (λ e. absurd (omega (arith, low, e)), λ g. absurd (omega arith));
+          thirteen = neither (λ e. omega (arith, low, e)) (λ g. omega arith);
           short = λ g. absurd (omega arith);
           long = λ _. (o .figures, rw (m .answers, m .leaves-work) (rw (p .number-is, p .blamed-is, p .place-is) obeys), m .leaves-figures);
           no-count = rw (m .answers) (p .count-is);
@@ -197,14 +163,18 @@ module _ (book run work : List ℕ) where
 
     pub dv-run-report-called : (r : ℕ) (work-left left : List ℕ) → Leaves (runReport book run work slice) r work-left left → Called r work-left left
     dv-run-report-called r work-left left l =
-        ⊎-elim (λ h. called-short h r work-left left l) (λ h. called-long h r work-left left l) (lt-or-le (length slice) figuresLong)
+        ⊎-elim
+        (λ h. called-short h r work-left left (rw (← short-slice book run work slice h (plain 13) refl) at l))
+        (λ h. called-long h r work-left left (rw (← long-slice book run work slice h) at l))
+        (lt-or-le (length slice) figuresLong)
 
     -- the two calls do the same
     pub alike : figuresLong ≤ length slice → {a : RunReport} {r : ℕ} {w v left : List ℕ}
         → Answers (report book run work) a w → Leaves (runReport book run work slice) r v left
         → (r ≡ packed (a .answer) 0) × (v ≡ w) × (left ≡ inARow (a .figures) ++ drop figuresLong slice)
+    unfolding told
     alike h {a} {r} {w} {v} {left} x l =
-        let m : Leaves (told o slice) r v left = rw (long-slice book run work slice h) at l in (
+        let m : Leaves (told o slice) r v left = rw (← long-slice book run work slice h) at l in (
           m .answers ∙ ap (λ (b : Answer). packed b 0) (sym (x .answers)),
           m .leaves-work ∙ sym (x .leaves),
           m .leaves-figures ∙ ap (λ (f : Figures). inARow f ++ drop figuresLong slice) (sym (x .figures)),

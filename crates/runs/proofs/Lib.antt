@@ -2,9 +2,9 @@ pub mod WalkingRuns
 pub mod InSlices
 pub mod AddingCells
 pub mod CountingLists
-pub mod StandingFigures
 pub mod AnswersOfSheets
 pub mod CellsShown
+pub mod FiguresInARow
 pub mod AddingSheets
 pub mod AskedSheets
 pub mod RunTheorems

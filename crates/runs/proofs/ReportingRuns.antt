@@ -1,26 +1,25 @@
 -- The ways down the call: a refused book comes first, then the run's framing, then the work slice, and else the sheets are counted and the work
 -- slice is cleared. A slice of zeros holds no figures.
 use Prim.Native.Nat.{ℕ, _≤_, _<_}
-use mathlib.Core.Path.{_≡_, refl, sym, ap, ap₂, _∙_}
+use mathlib.Core.Path.{_≡_, refl, sym, ap, _∙_}
 use mathlib.Core.List.{List, _++_}
-use mathlib.Core.Logic.{⊎-elim}
-use native.Mathlib.Decide.{ℕ-discrete}
 use native.Mathlib.Omega.{arith}
-use borrow.Author.Tests.{eq-eqb, ne-eqb, lt-ltb, le-ltb}
-use lib.ListN.{length, drop, replicate, length-replicate}
-use lib.Seq.{drop-at}
+use borrow.Author.Tests.{eq-eqb, ne-eqb, lt-ltb, le-ltb, eqb-true, eqb-false, ltb-true, ltb-false}
+use lib.Dec.{eqb, ltb}
+use lib.ListN.{length, drop, replicate}
+use Rattle.names.specs.Counted.{each}
 use Rattle.names.specs.declared.number.Fault.{Fault}
-use Rattle.names.proofs.Tests.{lt-or-le}
-use Rattle.books.specs.Answer.{plain, blaming, packed}
+use Rattle.names.proofs.Picking.{pick-ind}
+use Rattle.books.specs.Answer.{answer, plain, blaming, packed}
 use Rattle.books.specs.Book.{bookOf}
 use Rattle.books.specs.declared.answer.Answer.{Answer}
+use Rattle.books.proofs.LentEnds.{blamed-is}
 use Rattle.runs.specs.Run.{framing, sheetsOf}
-use Rattle.runs.specs.Figures.{workRoom, noFigures, figuresLong, inARow}
-use Rattle.runs.specs.Outcome.{Outcome, framed, refusal, refused, reported, report, Answers, told, runReport, Leaves}
+use Rattle.runs.specs.Figures.{workRoom, figuresOf, noFigures, figuresLong, inARow}
+use Rattle.runs.specs.Outcome.{Outcome, framed, refusal, refused, reported, report, Answers, Told, told, runReport, Leaves}
 use Rattle.runs.specs.declared.figures.Figures.{Figures}
 use Rattle.runs.specs.inner.Adding.{standing}
-use Rattle.runs.specs.inner.Reporting.{refusing, Counts, Reports}
-use Rattle.runs.proofs.StandingFigures.{stand-in-a-row}
+use Rattle.runs.specs.inner.Reporting.{refusing, Counts, telling}
 
 -- ── What is refused ──
 
@@ -42,108 +41,99 @@ module _ (f : Fault) (run : List ℕ) (entries : ℕ) where
       unfolding framed
       nothing-refused h = rw (eq-eqb (f .number) 0 z, eq-eqb (framing run .number) 0 y, le-ltb entries workRoom h) refl
 
-  -- a fault that is blamed is one
-  blamed-some : (input : ℕ) (e : Fault) → (e .number ≡ 0 → ⊥) → blaming input e .number ≡ 0 → ⊥
-  blamed-some input e n = rw (ne-eqb (e .number) 0 n) n
-
   pub record Granted : Type 0 where
     pub book-fine : f .number ≡ 0
     pub run-fine : framing run .number ≡ 0
     pub work-long : workRoom ≤ entries
 
-  pub granted : refusing f run entries .number ≡ 0 → Granted
-  granted e = by-book (ℕ-discrete (f .number) 0)
-    where
-      nine : (a : Answer) → a ≡ plain 9 → a .number ≡ 0 → ⊥
-      nine a x y = omega (arith, ap (λ (b : Answer). b .number) x, y)
+  -- what holds of each way holds of what is refused
+  pub record Ways (P : Answer → Type 0) : Type 0 where
+    pub in-book : (f .number ≡ 0 → ⊥) → P (answer (f .number) 1 (f .place))
+    pub in-run : f .number ≡ 0 → (framing run .number ≡ 0 → ⊥) → P (answer (framing run .number) 2 (framing run .place))
+    pub short-work : f .number ≡ 0 → framing run .number ≡ 0 → entries < workRoom → P (plain 9)
+    pub nothing : Granted → P (plain 0)
 
-      by-run : f .number ≡ 0 → Dec (framing run .number ≡ 0) → Granted
-      by-run z (yes y) =
-          ⊎-elim
-          (λ h. absurd (nine _ (work-third z y h) e))
-          (λ h. record { book-fine = z; run-fine = y; work-long = h })
-          (lt-or-le entries workRoom)
-      by-run z (no n) = absurd (blamed-some 2 (framing run) n (rw (run-second z n) at e))
+  pub refusing-ends : (P : Answer → Type 0) → Ways P → P (refusing f run entries)
+  unfolding framed
+  refusing-ends P ways =
+      pick-ind P (eqb (f .number) 0) (framed run entries) (blaming 1 f)
+      (λ z. let fine = eqb-true (f .number) 0 z in
+      pick-ind P (eqb (framing run .number) 0) _ (blaming 2 (framing run))
+      (λ y. let good = eqb-true (framing run .number) 0 y in
+      pick-ind P (ltb entries workRoom) (plain 9) (plain 0)
+      (λ h. ways .short-work fine good (ltb-true entries workRoom h))
+      (λ h. ways .nothing (record { book-fine = fine; run-fine = good; work-long = ltb-false entries workRoom h })))
+      (λ n. let bad = eqb-false (framing run .number) 0 n in rw (blamed-is 2 (framing run) bad) (ways .in-run fine bad)))
+      (λ n. let bad = eqb-false (f .number) 0 n in rw (blamed-is 1 f bad) (ways .in-book bad))
 
-      by-book : Dec (f .number ≡ 0) → Granted
-      by-book (yes z) = by-run z (ℕ-discrete (framing run .number) 0)
-      by-book (no n) = absurd (blamed-some 1 f n (rw (book-first n) at e))
-
-  pub granted-plain : refusing f run entries .number ≡ 0 → refusing f run entries ≡ plain 0
-  granted-plain e = let g = granted e in nothing-refused (g .book-fine) (g .run-fine) (g .work-long)
-
--- ── A slice that was cleared ──
-
-pub cleared-standing : (f : List ℕ) → standing (replicate figuresLong 0 ++ f) ≡ noFigures
-unfolding standing
-cleared-standing f = refl
-
-cleared-beyond : (f : List ℕ) → drop figuresLong (replicate figuresLong 0 ++ drop figuresLong f) ≡ drop figuresLong f
-cleared-beyond f = drop-at (replicate figuresLong 0) (drop figuresLong f) figuresLong (length-replicate {A = ℕ} figuresLong 0)
+  pub granted : refusing f run entries .number ≡ 0 → Granted × (refusing f run entries ≡ plain 0)
+  granted =
+      refusing-ends (λ a. a .number ≡ 0 → Granted × (a ≡ plain 0))
+      (record { in-book = λ n z. absurd (n z); in-run = λ _ n z. absurd (n z); short-work = λ _ _ _ z. absurd (omega arith); nothing = λ g _. (g, refl) })
 
 -- ── What is reported ──
 
--- the figures by name
-pub answers-report : (o : Outcome) (a : Answer) (f : Figures) (work row left : List ℕ) → Reports o a work row left → f ≡ standing left
-    → Answers o (record { answer = a; figures = f }) work
-answers-report o a f work row left e named = record { answers = e .answers; figures = named ∙ e .counts; leaves = e .leaves }
+-- a slice that was cleared holds no figures
+pub cleared : (figures start : List ℕ) → start ≡ replicate figuresLong 0 ++ drop figuresLong figures → start ≡ inARow noFigures ++ drop figuresLong start
+unfolding inARow
+cleared figures start e = e ∙ ap (λ (l : List ℕ). replicate figuresLong 0 ++ l) (sym (ap (drop figuresLong) e))
 
 module _ (book run entries : List ℕ) where
-  pub given-up : (refusal book run entries .number ≡ 0 → ⊥) → report book run entries ≡ refused (refusal book run entries) entries
-  unfolding report
-  given-up n = rw (ne-eqb (refusal book run entries .number) 0 n) refl
-
-  pub gone-through : refusal book run entries .number ≡ 0 → report book run entries ≡ reported book run entries
-  unfolding report
-  gone-through z = rw (eq-eqb (refusal book run entries .number) 0 z) refl
-
   -- from a slice that was cleared first
   module _ (figures start : List ℕ) (clear : start ≡ replicate figuresLong 0 ++ drop figuresLong figures) (a : Answer) (f : Fault) (read : f ≡ bookOf book .fault)
       (is : a ≡ refusing f run (length entries)) where
     answer-is : a ≡ refusal book run entries
     answer-is = is ∙ ap (λ (e : Fault). refusing e run (length entries)) read
 
-    start-beyond : drop figuresLong start ≡ drop figuresLong figures
-    start-beyond = ap (drop figuresLong) clear ∙ cleared-beyond figures
-
-    pub reports-refusal : (a .number ≡ 0 → ⊥) → Reports (report book run entries) a entries figures start
+    pub reports-refusal : (a .number ≡ 0 → ⊥) → telling a entries start ≡ told (report book run entries) figures
+    unfolding report told inARow
     reports-refusal n =
-        rw (given-up (λ z. n (ap (λ (b : Answer). b .number) answer-is ∙ z)))
-        (record { answers = answer-is; counts = ap standing clear ∙ cleared-standing (drop figuresLong figures); figures-same = start-beyond; leaves = refl })
+        let none : refusal book run entries .number ≡ 0 → ⊥ = λ z. n (ap (λ (b : Answer). b .number) answer-is ∙ z) in
+        rw (ne-eqb (refusal book run entries .number) 0 none) (λ i. telling (answer-is i) entries (clear i))
 
     pub reports-run : a .number ≡ 0 → (work left after : List ℕ) → Counts book (sheetsOf run) entries work start left
-        → after ≡ replicate workRoom 0 ++ drop workRoom work → Reports (report book run entries) a after figures left
+        → after ≡ replicate workRoom 0 ++ drop workRoom work → telling a after left ≡ told (report book run entries) figures
+    unfolding report told
     reports-run z work left after c e =
         let y : refusal book run entries .number ≡ 0 = ap (λ (b : Answer). b .number) (sym answer-is) ∙ z in
-        rw (gone-through y)
-        (record {
-          answers = answer-is ∙ granted-plain (bookOf book .fault) run (length entries) y;
-          counts = c .counts;
-          figures-same = c .beyond .figures-same ∙ start-beyond;
-          leaves = e ∙ ap (λ (l : List ℕ). replicate workRoom 0 ++ l) (c .beyond .work-same);
-        })
+        let answers = answer-is ∙ granted (bookOf book .fault) run (length entries) y .1 in
+        let works = e ∙ ap (λ (l : List ℕ). replicate workRoom 0 ++ l) (c .work-same) in
+        let counts = c .counts ∙ ap (λ (l : List ℕ). inARow (figuresOf book (sheetsOf run)) ++ drop figuresLong l) clear in
+        rw (eq-eqb (refusal book run entries .number) 0 y) (λ i. telling (answers i) (works i) (counts i))
+
+  -- the figures by name
+  standing-figures : (rest : List ℕ) → standing (inARow (report book run entries .figures) ++ rest) ≡ report book run entries .figures
+  unfolding report standing inARow figuresOf each
+  standing-figures rest =
+      pick-ind (λ (o : Outcome). standing (inARow (o .figures) ++ rest) ≡ o .figures) (eqb (refusal book run entries .number) 0) (reported book run entries)
+      (refused (refusal book run entries) entries) (λ _. refl) (λ _. refl)
+
+  pub answers-report : (a : Answer) (f : Figures) (work row left : List ℕ) → telling a work left ≡ told (report book run entries) row → f ≡ standing left
+      → Answers (report book run entries) (record { answer = a; figures = f }) work
+  unfolding told
+  answers-report a f work row left e named =
+      record {
+        answers = ap (λ (t : Told). t .answer) e;
+        figures = named ∙ ap (λ (t : Told). standing (t .slice)) e ∙ standing-figures (drop figuresLong row);
+        leaves = ap (λ (t : Told). t .entries) e;
+      }
 
   -- ── For the C host ──
 
   module _ (slice : List ℕ) where
-    pub short-slice : length slice < figuresLong → runReport book run entries slice ≡ record { answer = plain 13; entries = entries; slice = slice }
+    pub short-slice : length slice < figuresLong → (a : Answer) → a ≡ plain 13 → telling a entries slice ≡ runReport book run entries slice
     unfolding runReport
-    short-slice h = rw (lt-ltb (length slice) figuresLong h) refl
+    short-slice h a e = rw (lt-ltb (length slice) figuresLong h) (ap (λ (b : Answer). telling b entries slice) e)
 
-    pub long-slice : figuresLong ≤ length slice → runReport book run entries slice ≡ told (report book run entries) slice
+    pub long-slice : figuresLong ≤ length slice → told (report book run entries) slice ≡ runReport book run entries slice
     unfolding runReport
     long-slice h = rw (le-ltb (length slice) figuresLong h) refl
 
-    pub leaves-short : length slice < figuresLong → (a : Answer) (r : ℕ) → a ≡ plain 13 → r ≡ packed a 0 → Leaves (runReport book run entries slice) r entries slice
-    leaves-short h a r e p = rw (short-slice h) (record { answers = p ∙ ap (λ (b : Answer). packed b 0) e; leaves-work = refl; leaves-figures = refl })
-
-    pub leaves-report : figuresLong ≤ length slice → (a : Answer) (r : ℕ) (work left : List ℕ)
-        → Reports (report book run entries) a work slice left → length left ≡ length slice
-        → r ≡ packed a 0 → Leaves (runReport book run entries slice) r work left
-    leaves-report h a r work left e same p =
-        rw (long-slice h)
-        (record {
-          answers = p ∙ ap (λ (b : Answer). packed b 0) (e .answers);
-          leaves-work = e .leaves;
-          leaves-figures = stand-in-a-row left (omega arith) ∙ ap₂ (λ (f : Figures) (l : List ℕ). inARow f ++ l) (e .counts) (e .figures-same);
-        })
+    pub leaves-report : (a : Answer) (r : ℕ) (work left : List ℕ) → telling a work left ≡ runReport book run entries slice → r ≡ packed a 0
+        → Leaves (runReport book run entries slice) r work left
+    leaves-report a r work left e p =
+        record {
+          answers = p ∙ ap (λ (t : Told). packed (t .answer) 0) e;
+          leaves-work = ap (λ (t : Told). t .entries) e;
+          leaves-figures = ap (λ (t : Told). t .slice) e;
+        }

@@ -1,12 +1,12 @@
 -- A run is refused exactly for what `RunFault` says: from the sheets that were read on goes the same walk, so that it stops where a length is refused or
 -- passes the end, and nowhere else.
-use Prim.Native.Nat.{ℕ, zero, suc, _+_, _-_, _<_, _≤_}
+use Prim.Native.Nat.{ℕ, _-_, _<_, _≤_}
 use mathlib.Core.Path.{_≡_, refl, sym, _∙_, ap}
 use mathlib.Core.List.{List, [], _∷_, _++_}
 use mathlib.Core.Logic.{_↔_, _⊎_, inl, inr, ⊎-elim}
 use native.Mathlib.Omega.{arith}
-use borrow.Author.Tests.{lt-ltb, le-ltb}
-use lib.ListN.{length, take, drop}
+use borrow.Author.Tests.{lt-ltb}
+use lib.ListN.{length}
 use Rattle.names.specs.Pick.{fault}
 use Rattle.names.specs.Number.{numberAt}
 use Rattle.names.specs.declared.number.Fault.{Fault}
@@ -15,44 +15,35 @@ use Rattle.names.specs.declared.number.Read.the-variants.{Value, Refused}
 use Rattle.names.proofs.Exactly.{number-exactly}
 use Rattle.names.proofs.FirstFault.{FirstFault, first-fault}
 use Rattle.names.proofs.ReadingNumbers.{number-lies, number-refused}
-use Rattle.names.proofs.SpellingNumbers.{Bytes}
+use Rattle.names.specs.Bytes.{Bytes}
 use Rattle.names.proofs.Tests.{lt-or-le}
 use Rattle.books.specs.InTurn.{none-yet, one-more}
-use Rattle.runs.specs.Run.{mostBytes, unframed, frameAt, framingFrom, framing, sheetsOf, spellRun}
+use Rattle.runs.specs.Run.{mostBytes, unframed, frameAt, sheetIn, left, faults, framing, sheetsOf, spellRun}
 use Rattle.runs.specs.ReadsRun.{SheetStands, a-sheet, SheetsRead, RunFault, too-long, no-length, past-end}
 use Rattle.runs.specs.declared.framing.Frame.{Frame}
-use Rattle.runs.proofs.SheetsSoFar.{run-few}
 use Rattle.runs.proofs.SpelledRuns.{run-spelled, sheets-read-back}
-use Rattle.runs.proofs.WalkingRuns.{framed-refused, framed-short, framed-whole, left-end, left-stop, left-more}
+use Rattle.runs.proofs.WalkingRuns.{framed-refused, framed-short, framed-whole, frame-whole, sheet-framed, by-turns, left-end, left-stop, left-more, framing-left, run-few}
 
 module _ (run : List ℕ) where
-  -- the first fault of the lengths that are left from a place on
-  abbrev left : ℕ → Fault
-  left at = framingFrom run at (length run - at)
-
   -- ── What stands there is read ──
 
-  sheet-on : (at next : ℕ) (sheet : List ℕ) → SheetStands run at sheet next → left at ≡ left next
+  sheet-on : (at next : ℕ) (sheet : List ℕ) → SheetStands run at sheet next → left faults run at ≡ left faults run next
   sheet-on at next sheet (a-sheet len start h fits _ e) =
       let read = number-exactly run at _ .1 h in
       let lies = number-lies run at len start read in
       let whole = framed-whole run at len start read fits in
-      left-more (fault 0 0) (λ f. f) (λ f rest. rest) run at (omega (arith, lies .after, lies .inside)) (ap (λ (f : Frame). f .fault .number) whole)
-      ∙ ap (λ (f : Frame). left (f .end)) whole ∙ ap left (sym e)
+      left-more faults run at (omega (arith, lies .after, lies .inside)) (ap (λ (f : Frame). f .fault .number) whole)
+      ∙ ap (λ (f : Frame). left faults run (f .end)) whole ∙ ap (left faults run) (sym e)
 
-  sheets-on : {sheets : List (List ℕ)} {at : ℕ} → SheetsRead run sheets at → left 0 ≡ left at
-  sheets-on (none-yet _ e) = ap left (sym e)
+  sheets-on : {sheets : List (List ℕ)} {at : ℕ} → SheetsRead run sheets at → left faults run 0 ≡ left faults run at
+  sheets-on (none-yet _ e) = ap (left faults run) (sym e)
   sheets-on {at = at} (one-more before x there row here _) = sheets-on row ∙ sheet-on there at x here
-
-  reached : {sheets : List (List ℕ)} {at : ℕ} → length run ≤ mostBytes → SheetsRead run sheets at → framing run ≡ left at
-  unfolding framing
-  reached few r = rw (le-ltb mostBytes (length run) few) (ap (framingFrom run 0) (omega arith) ∙ sheets-on r)
 
   stopped : {sheets : List (List ℕ)} {at : ℕ} (f : Fault) → length run ≤ mostBytes → SheetsRead run sheets at → at < length run → 1 ≤ f .number
       → frameAt run at ≡ unframed f → framing run ≡ f
   stopped {at = at} f few r here some e =
-      reached few r
-      ∙ left-stop (fault 0 0) (λ f. f) (λ f rest. rest) run at here (λ z. omega (arith, ap (λ (g : Frame). g .fault .number) e))
+      framing-left run few ∙ sheets-on r
+      ∙ left-stop faults run at here (λ z. omega (arith, ap (λ (g : Frame). g .fault .number) e))
       ∙ ap (λ (g : Frame). g .fault) e
 
   fault-some : (f : Fault) → RunFault run f → 1 ≤ f .number
@@ -79,28 +70,28 @@ module _ (run : List ℕ) where
   out : (f : Fault) → RunFault run f → Out
   out f x = inr (rw (fault-is f x) x)
 
-  -- each turn comes nearer to the end
-  rest-out : length run ≤ mostBytes → (turns at : ℕ) (sheets : List (List ℕ)) → SheetsRead run sheets at → length run ≤ at + turns → Out
-  rest-out few zero at sheets r h = inl (reached few r ∙ left-end (fault 0 0) (λ f. f) (λ f rest. rest) run at (omega arith))
-  rest-out few (suc turns) at sheets r h =
-      ⊎-elim (λ l. go l (λ next more q d. rest-out few turns next more q d) (numberAt run at) refl)
-      (λ l. inl (reached few r ∙ left-end (fault 0 0) (λ f. f) (λ f rest. rest) run at l))
-      (lt-or-le at (length run))
+  rest-out : length run ≤ mostBytes → (at : ℕ) (sheets : List (List ℕ)) → SheetsRead run sheets at → Out
+  rest-out few =
+      by-turns run (λ at. (sheets : List (List ℕ)) → SheetsRead run sheets at → Out)
+      (λ at l sheets r. inl (framing-left run few ∙ sheets-on r ∙ left-end faults run at l))
+      (λ at l n sheets r. refused at l sheets r (numberAt run at) refl n)
+      (λ at l z rest sheets r.
+      let w = frame-whole run at z in
+      let sheet = sheetIn run (frameAt run at) in
+      rest (sheets ++ (sheet ∷ []))
+      (one-more sheets sheet at r (rw (w .is) (a-sheet (w .len) (w .next) (number-exactly run at _ .0 (w .read)) (w .fits) (sheet-framed run (w .next) (w .len)) refl)) refl))
     where
-      go : at < length run → ((next : ℕ) (more : List (List ℕ)) → SheetsRead run more next → length run ≤ next + turns → Out)
-          → (n : Read) → numberAt run at ≡ n → Out
-      go l rest (Refused f) e = out f (no-length sheets at few r l (number-exactly run at _ .0 e))
-      go l rest (Value len next) e =
-          let there = number-exactly run at _ .0 e in
-          let sheet = take len (drop next run) in
-          ⊎-elim (λ short. out (fault 1 (length run)) (past-end sheets at len next few r there short refl))
-          (λ fits. rest (next + len) (sheets ++ (sheet ∷ [])) (one-more sheets sheet at r (a-sheet len next there fits refl refl) refl)
-          (omega (arith, number-lies run at len next e .after)))
+      refused : (at : ℕ) → at < length run → (sheets : List (List ℕ)) → SheetsRead run sheets at → (n : Read) → numberAt run at ≡ n
+          → (frameAt run at .fault .number ≡ 0 → ⊥) → Out
+      refused at l sheets r (Refused f) e n = out f (no-length sheets at few r l (number-exactly run at _ .0 e))
+      refused at l sheets r (Value len next) e n =
+          ⊎-elim (λ short. out (fault 1 (length run)) (past-end sheets at len next few r (number-exactly run at _ .0 e) short refl))
+          (λ fits. absurd (n (ap (λ (f : Frame). f .fault .number) (framed-whole run at len next e fits))))
           (lt-or-le (length run - next) len)
 
   run-out : Out
   run-out =
-      ⊎-elim (λ long. out (fault 3 0) (too-long long refl)) (λ few. rest-out few (length run) 0 [] (none-yet refl refl) (omega arith))
+      ⊎-elim (λ long. out (fault 3 0) (too-long long refl)) (λ few. rest-out few 0 [] (none-yet refl refl))
       (lt-or-le mostBytes (length run))
 
   run-first : FirstFault (RunFault run) (framing run)

@@ -1,21 +1,19 @@
 -- What the figures say of a run, over the list of its sheets: every sheet has one of the ten answers, whatever the slices of a derivation that is asked, so
 -- that the counts add up; the least and the greatest ticket are tickets of accepted sheets and bound them; and where no sheet is accepted, nothing is told of tickets.
-use Prim.Native.Nat.{ℕ, _+_, _-_, _≤_, _<_}
+use Prim.Native.Nat.{ℕ, _+_, _≤_}
 use mathlib.Core.Path.{_≡_, refl, sym, ap, _∙_}
 use mathlib.Core.List.{List, [], _∷_, map}
 use mathlib.Core.Logic.{_⊎_, inl, inr}
 use native.Mathlib.Decide.{ℕ-discrete}
 use native.Mathlib.Omega.{arith}
-use borrow.Author.Count.{below-none, below-more}
 use lib.Dec.{eqb}
-use lib.ListN.{length, take, drop, replicate}
+use lib.ListN.{length, replicate}
 use Rattle.names.specs.Number.{numberAt}
 use Rattle.names.specs.Pick.{fault}
 use Rattle.names.specs.declared.number.Read.the-variants.{Value}
 use Rattle.books.specs.Book.{bookOf}
 use Rattle.books.specs.Calls.{ticketOf}
 use Rattle.books.specs.declared.answer.Answer.{Answer}
-use Rattle.books.proofs.Ordering.{sheet-cells}
 use Rattle.pieces.specs.Derivation.{Derivation, derivation}
 use Rattle.pieces.proofs.AskingAnswers.{as-derived}
 use Rattle.pieces.proofs.DerivationAnswers.{book-first}
@@ -25,10 +23,10 @@ use Rattle.runs.specs.Figures.{workRoom, treeRoom, answerOf, answering, 
 use Rattle.runs.specs.Lists.{those, howMany, addedUp, anyIn, leastOf, greatestOf}
 use Rattle.runs.specs.declared.figures.Figures.{Figures}
 use Rattle.runs.specs.declared.framing.Frame.{Frame}
-use Rattle.runs.proofs.AnswersOfSheets.{nothing-answers}
+use Rattle.runs.proofs.AnswersOfSheets.{tree-fits, of-listed, nothing-answers}
 use Rattle.runs.proofs.AskedSheets.{asked-number}
 use Rattle.runs.proofs.CountingLists.{once, how-many-none, how-many-cons, Bounds, least-bounds, greatest-bounds}
-use Rattle.runs.proofs.WalkingRuns.{framed-whole}
+use Rattle.runs.proofs.WalkingRuns.{framed-whole, sheet-framed}
 -- The answer of a sheet is 0 to 8, or 11 (`answer-listed`), and 0 exactly where book and sheet are read and the family has the sheet (`accepted-exactly`).
 pub use Rattle.runs.proofs.AnswersOfSheets.{Listed, answer-listed, accepted-exactly}
 
@@ -46,7 +44,7 @@ any-room book sheet work tree enough long = go (ℕ-discrete (bookOf book .fault
     go : Dec (bookOf book .fault .number ≡ 0)
         → derivation book sheet work tree .answer .number ≡ derivation book sheet (replicate workRoom 0) (replicate treeRoom 0) .answer .number
     go (yes z) =
-        ap (λ (a : Answer). a .number) (as-derived book sheet work tree z (omega (arith, sheet-cells sheet .area-few)) .same-answer)
+        ap (λ (a : Answer). a .number) (as-derived book sheet work tree z (omega (arith, tree-fits sheet)) .same-answer)
         ∙ asked-number book sheet work z enough
     go (no n) = ap number (book-first book sheet work tree n) ∙ sym (ap number (book-first book sheet (replicate workRoom 0) (replicate treeRoom 0) n))
 
@@ -59,44 +57,21 @@ itself n = n
 abbrev pub inAll : (ℕ → ℕ) → ℕ
 inAll f = addedUp itself (map f answersGiven)
 
-all-same : (f g : ℕ → ℕ) (l : List ℕ) → ((a : ℕ) → f a ≡ g a) → addedUp itself (map f l) ≡ addedUp itself (map g l)
-unfolding addedUp
-all-same f g [] e = refl
-all-same f g (a ∷ l) e = omega (arith, e a, all-same f g l e)
-
-both-added : (f g : ℕ → ℕ) (l : List ℕ) → addedUp itself (map (λ a. f a + g a) l) ≡ addedUp itself (map f l) + addedUp itself (map g l)
-unfolding addedUp
-both-added f g [] = omega arith
-both-added f g (a ∷ l) = omega (arith, both-added f g l)
-
 -- an answer is one of the ten, and of no two
 abbrev Once : ℕ → Type 0
 Once n = inAll (λ a. once (eqb n a)) ≡ 1
 
 once-in-all : (n : ℕ) → Listed n → Once n
 unfolding addedUp
-once-in-all n (inl h) = up-to-eight n (omega arith)
-  where
-    next : (i : ℕ) → ((k : ℕ) → k < i → Once k) → Once i → (k : ℕ) → k < i + 1 → Once k
-    next i = below-more Once i
-
-    up-to-eight : (k : ℕ) → k < 9 → Once k
-    up-to-eight = next 8 (next 7 (next 6 (next 5 (next 4 (next 3 (next 2 (next 1 (next 0 (below-none Once) refl) refl) refl) refl) refl) refl) refl) refl) refl
-once-in-all n (inr e) = rw e refl
-
-nothing-in-all : inAll (λ a. 0) ≡ 0
-unfolding addedUp
-nothing-in-all = refl
+once-in-all = of-listed Once refl refl refl refl refl refl refl refl refl refl
 
 -- the answer counts of any list of sheets add up to the number of sheets
 pub answers-add-up : (book : List ℕ) (sheets : List (List ℕ)) → inAll (got book sheets) ≡ length sheets
-unfolding got
-answers-add-up book [] = all-same (got book []) (λ a. 0) answersGiven (λ a. how-many-none (answering book a)) ∙ nothing-in-all
+unfolding got addedUp
+answers-add-up book [] = ap inAll (λ i a. how-many-none (answering book a) i)
 answers-add-up book (s ∷ sheets) =
-    let each-one =
-    all-same (got book (s ∷ sheets)) (λ a. once (eqb (answerOf book s) a) + got book sheets a) answersGiven (λ a. how-many-cons (answering book a) s sheets) in
-    let two = both-added (λ a. once (eqb (answerOf book s) a)) (got book sheets) answersGiven in
-    omega (arith, each-one, two, once-in-all (answerOf book s) (answer-listed book s), answers-add-up book sheets)
+    let counts = ap inAll (λ i a. how-many-cons (answering book a) s sheets i) in
+    omega (arith, counts, once-in-all (answerOf book s) (answer-listed book s), answers-add-up book sheets)
 
 pub counts-add-up : (book : List ℕ) (sheets : List (List ℕ)) → addedUp itself (figuresOf book sheets .answers) ≡ figuresOf book sheets .sheets
 unfolding figuresOf
@@ -157,8 +132,7 @@ empty-run = (refl, refl)
 pub no-bytes : (run : List ℕ) (at next : ℕ) → numberAt run at ≡ Value 0 next → (frameAt run at .fault ≡ fault 0 0) × (sheetIn run (frameAt run at) ≡ [])
 no-bytes run at next e =
     let whole = framed-whole run at 0 next e (omega arith) in
-    let size : next + 0 - next ≡ 0 = omega arith in
-    (ap (λ (f : Frame). f .fault) whole, ap (sheetIn run) whole ∙ ap (λ (k : ℕ). take k (drop next run)) size)
+    (ap (λ (f : Frame). f .fault) whole, ap (sheetIn run) whole ∙ sheet-framed run next 0)
 
 pub no-bytes-answers : (book : List ℕ) → bookOf book .fault .number ≡ 0 → answerOf book [] ≡ 1
 no-bytes-answers = nothing-answers

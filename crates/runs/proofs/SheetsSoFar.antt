@@ -1,34 +1,31 @@
 -- The sheets of a run are added one after the other: at each place the figures are those of the sheets before it, and these and the sheets that are
 -- left are all. There are no more sheets than bytes, so that no count runs over.
-use Prim.Native.Nat.{ℕ, _+_, _-_, _*_, _^_, _≤_, _<_}
-use mathlib.Core.Path.{_≡_, refl, sym, ap, _∙_, subst}
-use mathlib.Core.List.{List, [], _∷_, _++_, append-assoc, append-nil}
-use mathlib.Core.Logic.{_⊎_, inl, inr, ⊎-elim}
+use Prim.Native.Nat.{ℕ, zero, suc, _*_, _≤_, _<_}
+use mathlib.Core.Path.{_≡_, refl, sym, ap, _∙_}
+use mathlib.Core.List.{List, [], _∷_, _++_, map, append-assoc, append-nil}
 use native.Mathlib.Decide.{ℕ-discrete}
 use native.Mathlib.Omega.{arith}
-use borrow.Author.Tests.{lt-ltb, le-ltb}
-use lib.ListN.{length, getD, take, length-append, length-map, length-take}
+use lib.ListN.{length, getD, take, drop, length-append, length-map, length-take, List·getD-append}
 use Rattle.names.specs.Colours.{namesIn}
-use Rattle.names.specs.Pick.{fault}
-use Rattle.names.specs.declared.number.Fault.{Fault}
-use Rattle.names.proofs.Count.{left-all}
-use Rattle.names.proofs.Tests.{lt-or-le}
+use Rattle.names.specs.Counted.{each}
+use Rattle.names.specs.Spelling.{mostColours}
 use Rattle.books.specs.Lent.{contentsOf}
 use Rattle.books.specs.ContentsIn.{gridIn}
 use Rattle.books.specs.Decide.{called?}
 use Rattle.books.specs.Sheet.{sheetOf}
 use Rattle.books.specs.Size.{room}
-use Rattle.books.proofs.Ordering.{sheet-cells}
-use Rattle.runs.specs.Run.{mostBytes, frameAt, sheetIn, walkFrom, framing, sheetsOf}
-use Rattle.runs.specs.Figures.{namesShown, showing, answering, accepted, got, cellsOf, tickets, answersGiven, figuresOf, noFigures}
-use Rattle.runs.specs.Lists.{howMany, anyIn}
+use Rattle.books.proofs.NumberedCells.{sheet-cells}
+use Rattle.runs.specs.Run.{mostBytes, frameAt, sheetIn, left, faults, sheets, framing, sheetsOf}
+use Rattle.runs.specs.Figures.{workRoom, namesShown, showing, answering, accepted, got, cellsOf, tickets, answersGiven, figuresOf, noFigures, figuresLong, inARow}
+use Rattle.runs.specs.Lists.{howMany}
+use Rattle.runs.specs.declared.figures.Figures.{Figures}
 use Rattle.runs.specs.declared.framing.Frame.{Frame}
-use Rattle.runs.specs.inner.Adding.{answersFrom, cellsFrom, anyAt, standing, mostAdded, Spare}
-use Rattle.runs.specs.inner.Reporting.{Beyond, Adds, Counts}
+use Rattle.runs.specs.inner.Adding.{mostAdded, Spare}
+use Rattle.runs.specs.inner.Reporting.{Adds, Counts}
 use Rattle.runs.proofs.CountingLists.{how-many-le, added-le}
+use Rattle.runs.proofs.FiguresInARow.{ticketRow}
 use Rattle.runs.proofs.RunTheorems.{nothing-counted}
-use Rattle.runs.proofs.StandingFigures.{Counted, counted}
-use Rattle.runs.proofs.WalkingRuns.{frame-lies, left, left-end, left-stop, left-more}
+use Rattle.runs.proofs.WalkingRuns.{frame-lies, left-end, left-stop, left-more, framing-left, run-few}
 
 -- ── No count runs over ──
 
@@ -36,89 +33,77 @@ showing-few : (book : List ℕ) (c : ℕ) (sheet : List ℕ) → showing book c 
 unfolding showing
 showing-few book c sheet =
     let g = sheetOf sheet .sheet in
-    let names = namesShown (gridIn sheet g) in
-    let few = how-many-le (called? (contentsOf book) c) names in
-    let cells = length-map (take (g .rows * g .cols) (g .cells)) (λ k. getD (namesIn sheet (g .colours)) k []) in
-    omega (arith, few, cells, length-take (g .rows * g .cols) (g .cells), sheet-cells sheet .area-few)
+    let area = g .size .rows * g .size .cols in
+    let few = how-many-le (called? (contentsOf book) c) (namesShown (gridIn sheet g)) in
+    let cells = length-map (take area (g .cells)) (λ k. getD (namesIn sheet (g .colours)) k []) in
+    omega (arith, few, cells, length-take area (g .cells), sheet-cells sheet .area-few)
 
-cells-few : (book : List ℕ) (sheets : List (List ℕ)) (c : ℕ) → cellsOf book sheets c ≤ length sheets * room
+cells-few : (book : List ℕ) (l : List (List ℕ)) (c : ℕ) → cellsOf book l c ≤ length l * room
 unfolding cellsOf accepted howMany
-cells-few book sheets c =
-    omega (arith, added-le (showing book c) room (accepted book sheets) (λ s. showing-few book c s), how-many-le (answering book 0) sheets)
+cells-few book l c = omega (arith, added-le (showing book c) room (accepted book l) (λ s. showing-few book c s), how-many-le (answering book 0) l)
 
-got-few : (book : List ℕ) (sheets : List (List ℕ)) (a : ℕ) → got book sheets a ≤ length sheets
+got-few : (book : List ℕ) (l : List (List ℕ)) (a : ℕ) → got book l a ≤ length l * room
 unfolding got
-got-few book sheets a = how-many-le (answering book a) sheets
+got-few book l a = omega (arith, how-many-le (answering book a) l)
 
-any-few : (l : List ℕ) → anyIn l ≤ 1
-unfolding anyIn
-any-few [] = omega arith
-any-few (x ∷ l) = omega arith
+-- lists with no number above a bound
+module _ (most : ℕ) where
+  abbrev Few : List ℕ → Type 0
+  Few l = (i : ℕ) → getD l i 0 ≤ most
 
-pub spared : (book : List ℕ) (sheets : List (List ℕ)) (f : List ℕ) → standing f ≡ figuresOf book sheets → length sheets ≤ mostBytes → Spare mostAdded f
-spared book sheets f e few i h = go (lt-or-le i 1) (lt-or-le i cellsFrom) (lt-or-le i anyAt)
-  where
-    c : Counted book sheets f
-    c = counted book sheets f e
+  few-both : (l m : List ℕ) → Few l → Few m → Few (l ++ m)
+  few-both [] m f g i = g i
+  few-both (x ∷ l) m f g zero = f 0
+  few-both (x ∷ l) m f g (suc i) = few-both l m (λ k. f (suc k)) g i
 
-    go : (i < 1) ⊎ (1 ≤ i) → (i < cellsFrom) ⊎ (cellsFrom ≤ i) → (i < anyAt) ⊎ (anyAt ≤ i) → getD f i 0 + mostAdded < 2 ^ 32
-    go (inl z) _ _ =
-        let at : 0 ≡ i = omega arith in
-        omega (arith, ap (λ (k : ℕ). getD f k 0) at, c .sheets-are, few)
-    go (inr z) (inl l) _ =
-        let at : answersFrom + (i - 1) ≡ i = omega arith in
-        omega (arith, ap (λ (k : ℕ). getD f k 0) at, c .answers-are (i - 1) (omega arith), got-few book sheets (getD answersGiven (i - 1) 0), few)
-    go (inr z) (inr l) (inr g) =
-        let at : anyAt ≡ i = omega arith in
-        omega (arith, ap (λ (k : ℕ). getD f k 0) at, c .any-is, any-few (tickets book sheets))
-    go (inr z) (inr l) (inl g) =
-        let at : cellsFrom + (i - cellsFrom) ≡ i = omega arith in
-        omega (arith, ap (λ (k : ℕ). getD f k 0) at, c .cells-are (i - cellsFrom) (omega arith), cells-few book sheets (i - cellsFrom), few)
+  module _ (count : ℕ → ℕ) (few : (x : ℕ) → count x ≤ most) where
+    few-mapped : (l : List ℕ) → Few (map count l)
+    few-mapped [] i = omega arith
+    few-mapped (x ∷ l) zero = few x
+    few-mapped (x ∷ l) (suc i) = few-mapped l i
+
+    few-each : (n : ℕ) → Few (each n (λ x. count x ∷ []))
+    unfolding each
+    few-each zero = λ i. omega arith
+    few-each (suc n) = few-both (each n (λ x. count x ∷ [])) (count n ∷ []) (few-each n) (few-mapped (n ∷ []))
+
+spared : (book : List ℕ) (l : List (List ℕ)) (rest : List ℕ) → length l ≤ mostBytes → Spare mostAdded (inARow (figuresOf book l) ++ rest)
+unfolding inARow figuresOf each
+spared book l rest few =
+    let most = length l * room in
+    let answers = map (got book l) answersGiven in
+    let cells = each mostColours (λ c. cellsOf book l c ∷ []) in
+    let counts = (length l ∷ []) ++ (answers ++ cells) in
+    let low : Few most counts =
+    few-both most (length l ∷ []) (answers ++ cells) (few-mapped most (λ x. length l) (λ x. omega arith) (0 ∷ []))
+    (few-both most answers cells (few-mapped most (got book l) (got-few book l) answersGiven) (few-each most (cellsOf book l) (cells-few book l) mostColours)) in
+    record { long = omega arith; more = λ i h. omega (arith, List·getD-append counts (ticketRow (tickets book l) rest) 0 i h, low i) }
 
 -- ── At a place ──
-
--- the sheets from a place on, and the fault of the lengths from there on
-abbrev pub sheetsLeft : List ℕ → ℕ → List (List ℕ)
-sheetsLeft run at = left [] (λ f. []) (λ f rest. sheetIn run f ∷ rest) run at
-
-abbrev pub faultLeft : List ℕ → ℕ → Fault
-faultLeft run at = left (fault 0 0) (λ f. f) (λ f rest. rest) run at
 
 pub record SoFar (book run work figures work-now now : List ℕ) (at : ℕ) : Type 0 where
   pub inside : at ≤ length run
   pub done : List (List ℕ)
   pub few : length done ≤ at
-  pub all : done ++ sheetsLeft run at ≡ sheetsOf run
-  pub framed : faultLeft run at ≡ framing run
-  pub counts : standing now ≡ figuresOf book done
-  pub beyond : Beyond work work-now figures now
+  pub all : done ++ left sheets run at ≡ sheetsOf run
+  pub framed : left faults run at .number ≡ 0
+  pub counts : now ≡ inARow (figuresOf book done) ++ drop figuresLong figures
+  pub work-same : drop workRoom work-now ≡ drop workRoom work
   pub work-long : length work-now ≡ length work
   pub figures-long : length now ≡ length figures
 
--- a run whose framing has no fault is not too long
-pub run-few : (run : List ℕ) → framing run .number ≡ 0 → length run ≤ mostBytes
-unfolding framing
-run-few run z =
-    ⊎-elim
-    (λ h. absurd (three (rw (lt-ltb mostBytes (length run) h) at z)))
-    (λ h. h)
-    (lt-or-le mostBytes (length run))
-  where
-    three : fault 3 0 .number ≡ 0 → ⊥
-    three e = omega arith
-
 module _ (book run work figures : List ℕ) (fine : framing run .number ≡ 0) where
-  pub begins : standing figures ≡ noFigures → SoFar book run work figures work figures 0
-  unfolding framing sheetsOf
-  begins e =
+  pub begins : figures ≡ inARow noFigures ++ drop figuresLong figures → SoFar book run work figures work figures 0
+  unfolding sheetsOf
+  begins none =
       record {
         inside = omega arith;
         done = [];
         few = omega arith;
-        all = ap (λ (k : ℕ). walkFrom [] (λ f. []) (λ f rest. sheetIn run f ∷ rest) run 0 k) (left-all (length run));
-        framed = rw (le-ltb mostBytes (length run) (run-few run fine), left-all (length run)) refl;
-        counts = e ∙ sym (nothing-counted book);
-        beyond = record { figures-same = refl; work-same = refl };
+        all = refl;
+        framed = rw (framing-left run (run-few run fine)) at fine;
+        counts = none ∙ ap (λ (f : Figures). inARow f ++ drop figuresLong figures) (sym (nothing-counted book));
+        work-same = refl;
         work-long = refl;
         figures-long = refl;
       }
@@ -129,43 +114,32 @@ module _ (book run work figures : List ℕ) (fine : framing run .number ≡ 0) w
       where
         go : Dec (frameAt run at .fault .number ≡ 0) → frameAt run at .fault .number ≡ 0
         go (yes z) = z
-        go (no n) =
-            let e = sym (left-stop (fault 0 0) (λ f. f) (λ f rest. rest) run at h n) ∙ s .framed in
-            absurd (n (ap (λ (f : Fault). f .number) e ∙ fine))
+        go (no n) = absurd (n (rw (left-stop faults run at h n) at (s .framed)))
 
     pub has-spare : Spare mostAdded now
-    has-spare = spared book (s .done) now (s .counts) (omega (arith, s .few, s .inside, run-few run fine))
-
-    more-framed : at < length run → (work-next next : List ℕ) → Adds book (sheetIn run (frameAt run at)) work-now work-next now next
-        → length work-next ≡ length work-now → length next ≡ length now → SoFar book run work figures work-next next (frameAt run at .end)
-    more-framed h work-next next adds work-same now-same =
-        let z = frame-good h in
-        let f = frame-lies run at z in
-        let sheet = sheetIn run (frameAt run at) in
-        record {
-          inside = f .inside;
-          done = s .done ++ (sheet ∷ []);
-          few = omega (arith, length-append (s .done) (sheet ∷ []), s .few, f .after, f .ordered);
-          all = append-assoc (s .done) (sheet ∷ []) (sheetsLeft run (frameAt run at .end))
-              ∙ ap (λ (l : List (List ℕ)). s .done ++ l) (sym (left-more [] (λ f. []) (λ f rest. sheetIn run f ∷ rest) run at h z)) ∙ s .all;
-          framed = sym (left-more (fault 0 0) (λ f. f) (λ f rest. rest) run at h z) ∙ s .framed;
-          counts = adds .counts (s .done) (s .counts);
-          beyond = record {
-            figures-same = adds .beyond .figures-same ∙ s .beyond .figures-same;
-            work-same = adds .beyond .work-same ∙ s .beyond .work-same;
-          };
-          work-long = work-same ∙ s .work-long;
-          figures-long = now-same ∙ s .figures-long;
-        }
+    has-spare = rw (s .counts) (spared book (s .done) _ (omega (arith, s .few, s .inside, run-few run fine)))
 
     pub one-more : at < length run → (f : Frame) → f ≡ frameAt run at → (work-next next : List ℕ) → Adds book (sheetIn run f) work-now work-next now next
         → length work-next ≡ length work-now → length next ≡ length now → SoFar book run work figures work-next next (f .end)
-    one-more h f e work-next next adds work-same now-same =
-        subst (λ (x : Frame). SoFar book run work figures work-next next (x .end)) (sym e)
-        (more-framed h work-next next (subst (λ (x : Frame). Adds book (sheetIn run x) work-now work-next now next) e adds) work-same now-same)
+    one-more h f e work-next next =
+        rw e (λ adds work-same now-same.
+        let z = frame-good h in
+        let lies = frame-lies run at z in
+        let sheet = sheetIn run (frameAt run at) in
+        record {
+          inside = lies .inside;
+          done = s .done ++ (sheet ∷ []);
+          few = omega (arith, length-append (s .done) (sheet ∷ []), s .few, lies .after, lies .ordered);
+          all = append-assoc (s .done) (sheet ∷ []) (left sheets run (frameAt run at .end))
+              ∙ ap (λ (l : List (List ℕ)). s .done ++ l) (sym (left-more sheets run at h z)) ∙ s .all;
+          framed = rw (left-more faults run at h z) at (s .framed);
+          counts = adds .counts (s .done) _ (s .counts);
+          work-same = adds .work-same ∙ s .work-same;
+          work-long = work-same ∙ s .work-long;
+          figures-long = now-same ∙ s .figures-long;
+        })
 
     pub all-counted : length run ≤ at → Counts book (sheetsOf run) work work-now figures now
     all-counted h =
-        let none = left-end [] (λ f. []) (λ f rest. sheetIn run f ∷ rest) run at h in
-        let every = sym (append-nil (s .done)) ∙ ap (λ (l : List (List ℕ)). s .done ++ l) (sym none) ∙ s .all in
-        record { counts = s .counts ∙ ap (figuresOf book) every; beyond = s .beyond }
+        let every = sym (append-nil (s .done)) ∙ ap (λ (l : List (List ℕ)). s .done ++ l) (sym (left-end sheets run at h)) ∙ s .all in
+        record { counts = s .counts ∙ ap (λ (l : List (List ℕ)). inARow (figuresOf book l) ++ drop figuresLong figures) every; work-same = s .work-same }

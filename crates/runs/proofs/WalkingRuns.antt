@@ -7,17 +7,16 @@ use native.Mathlib.Decide.{ℕ-discrete}
 use native.Mathlib.Omega.{arith}
 use borrow.Author.Tests.{eq-eqb, ne-eqb, le-leb, lt-leb, le-ltb, lt-ltb, ltb-false}
 use lib.Dec.{ltb}
-use lib.ListN.{length}
+use lib.ListN.{length, take, drop}
 use Rattle.names.specs.Pick.{fault}
 use Rattle.names.specs.Number.{numberAt}
 use Rattle.names.specs.declared.number.Fault.{Fault}
 use Rattle.names.specs.declared.number.Read.the-variants.{Value, Refused}
-use Rattle.names.proofs.Count.{left-suc}
 use Rattle.names.proofs.Onwards.{onward-ind}
 use Rattle.names.proofs.Picking.{pick-ind}
 use Rattle.names.proofs.ReadingNumbers.{Blamed, blamed-later, number-lies, number-refused}
 use Rattle.names.proofs.Tests.{lt-or-le}
-use Rattle.runs.specs.Run.{mostBytes, unframed, framed, frameAt, walkFrom, framingFrom, framing}
+use Rattle.runs.specs.Run.{mostBytes, unframed, framed, frameAt, sheetIn, Walk, walkFrom, left, faults, framing}
 use Rattle.runs.specs.declared.framing.Frame.{Frame}
 
 -- ── One length ──
@@ -28,9 +27,16 @@ pub record FrameLies (run : List ℕ) (at : ℕ) (f : Frame) : Type 0 where
   pub ordered : f .start ≤ f .end
   pub inside : f .end ≤ length run
 
--- a length is fine, and its sheet lies there, or it is refused
+-- a length with no fault is a number that does not pass the end
+pub record Whole (run : List ℕ) (at : ℕ) (f : Frame) : Type 0 where
+  pub len : ℕ
+  pub next : ℕ
+  pub read : numberAt run at ≡ Value len next
+  pub fits : len ≤ length run - next
+  pub is : f ≡ framed next (next + len)
+
 abbrev Framed : List ℕ → ℕ → Frame → Type 0
-Framed run at f = ((f .fault ≡ fault 0 0) × FrameLies run at f) ⊎ Blamed run (at + 2 + length run) (f .fault)
+Framed run at f = Whole run at f ⊎ Blamed run (at + 2 + length run) (f .fault)
 
 frame-found : (run : List ℕ) (at : ℕ) → Framed run at (frameAt run at)
 unfolding frameAt
@@ -38,20 +44,25 @@ frame-found run at =
     onward-ind (Framed run at) unframed (numberAt run at) _
     (λ f e. inr (blamed-later (omega arith) (number-refused run at f e)))
     (λ len next e.
-    let n = number-lies run at len next e in
     pick-ind (Framed run at) (ltb (length run - next) len) (unframed (fault 1 (length run))) (framed next (next + len))
     (λ t. inr (record { some = omega arith; known = omega arith; inside = omega arith; near = omega arith }))
-    (λ t. inl (refl, record { after = n .after; ordered = omega arith; inside = omega (arith, n .inside, ltb-false (length run - next) len t) })))
+    (λ t. inl (record { len = len; next = next; read = e; fits = ltb-false (length run - next) len t; is = refl })))
+
+pub sheet-framed : (run : List ℕ) (next len : ℕ) → sheetIn run (framed next (next + len)) ≡ take len (drop next run)
+sheet-framed run next len = let size : next + len - next ≡ len = omega arith in ap (λ (k : ℕ). take k (drop next run)) size
 
 module _ (run : List ℕ) (at : ℕ) where
-  pub frame-lies : frameAt run at .fault .number ≡ 0 → FrameLies run at (frameAt run at)
-  frame-lies z = ⊎-elim (λ x. x .1) (λ b. absurd (omega (arith, b .some))) (frame-found run at)
+  pub frame-whole : frameAt run at .fault .number ≡ 0 → Whole run at (frameAt run at)
+  frame-whole z = ⊎-elim (λ w. w) (λ b. absurd (omega (arith, b .some))) (frame-found run at)
 
-  pub frame-fine : frameAt run at .fault .number ≡ 0 → frameAt run at .fault ≡ fault 0 0
-  frame-fine z = ⊎-elim (λ x. x .0) (λ b. absurd (omega (arith, b .some))) (frame-found run at)
+  pub frame-lies : frameAt run at .fault .number ≡ 0 → FrameLies run at (frameAt run at)
+  frame-lies z =
+      let w = frame-whole z in
+      let n = number-lies run at (w .len) (w .next) (w .read) in
+      rw (w .is) (record { after = n .after; ordered = omega arith; inside = omega (arith, n .inside, w .fits) })
 
   pub frame-refused : (frameAt run at .fault .number ≡ 0 → ⊥) → Blamed run (at + 2 + length run) (frameAt run at .fault)
-  frame-refused n = ⊎-elim (λ x. absurd (n (ap (λ (f : Fault). f .number) (x .0)))) (λ b. b) (frame-found run at)
+  frame-refused n = ⊎-elim (λ w. absurd (n (ap (λ (f : Frame). f .fault .number) (w .is)))) (λ b. b) (frame-found run at)
 
   -- as the code finds it, by the number that was read
   pub framed-refused : (f : Fault) → numberAt run at ≡ Refused f → frameAt run at ≡ unframed f
@@ -67,96 +78,74 @@ module _ (run : List ℕ) (at : ℕ) where
     unfolding frameAt
     framed-whole h = rw (e, le-ltb (length run - next) len h) refl
 
--- a length with no fault is a number that does not pass the end
-pub record Whole (run : List ℕ) (at : ℕ) (f : Frame) : Type 0 where
-  pub len : ℕ
-  pub next : ℕ
-  pub read : numberAt run at ≡ Value len next
-  pub fits : len ≤ length run - next
-  pub is : f ≡ framed next (next + len)
-
-pub frame-whole : (run : List ℕ) (at : ℕ) → frameAt run at .fault .number ≡ 0 → Whole run at (frameAt run at)
-unfolding frameAt
-frame-whole run at =
-    onward-ind (λ (f : Frame). f .fault .number ≡ 0 → Whole run at f) unframed (numberAt run at) _
-    (λ f e z. absurd (omega (arith, number-refused run at f e .some, z)))
-    (λ len next e.
-    pick-ind (λ (f : Frame). f .fault .number ≡ 0 → Whole run at f) (ltb (length run - next) len) (unframed (fault 1 (length run))) (framed next (next + len))
-    (λ t z. absurd (omega arith))
-    (λ t z. record { len = len; next = next; read = e; fits = ltb-false (length run - next) len t; is = refl }))
-
 -- ── From a place on ──
 
-module _ {A : Type 0} (done : A) (refuse : Fault → A) (more : Frame → A → A) (run : List ℕ) where
-  abbrev walk : ℕ → ℕ → A
-  walk at turns = walkFrom done refuse more run at turns
+-- what holds at the end, where a length is refused, and before a sheet where it holds after it, holds from every place on
+module _ (run : List ℕ) (P : ℕ → Type 0) (ends : (at : ℕ) → length run ≤ at → P at)
+    (stops : (at : ℕ) → at < length run → (frameAt run at .fault .number ≡ 0 → ⊥) → P at)
+    (goes : (at : ℕ) → at < length run → frameAt run at .fault .number ≡ 0 → P (frameAt run at .end) → P at) where
+  in-turns : (turns at : ℕ) → length run ≤ at + turns → P at
+  in-turns zero at h = ends at (omega arith)
+  in-turns (suc turns) at h =
+      ⊎-elim (λ l. go l (λ b. in-turns turns (frameAt run at .end) b) (ℕ-discrete (frameAt run at .fault .number) 0)) (ends at) (lt-or-le at (length run))
+    where
+      go : at < length run → (length run ≤ frameAt run at .end + turns → P (frameAt run at .end)) → Dec (frameAt run at .fault .number ≡ 0) → P at
+      go l rest (yes z) = let f = frame-lies run at z in goes at l z (rest (omega (arith, f .after, f .ordered)))
+      go l rest (no n) = stops at l n
 
-  pub walk-end : (at turns : ℕ) → length run ≤ at → walk at turns ≡ done
+  pub by-turns : (at : ℕ) → P at
+  by-turns at = in-turns (length run) at (omega arith)
+
+module _ {A : Type 0} (w : Walk A) (run : List ℕ) where
+  abbrev walk : ℕ → ℕ → A
+  walk at turns = walkFrom w run at turns
+
+  walk-end : (at turns : ℕ) → length run ≤ at → walk at turns ≡ w .done
   unfolding walkFrom
   walk-end at zero h = refl
   walk-end at (suc turns) h = rw (le-leb (length run) at h) refl
 
-  walk-none : (at : ℕ) → walk at zero ≡ done
-  unfolding walkFrom
-  walk-none at = refl
+  module _ (at : ℕ) (before : at < length run) where
+    walk-stop : (turns : ℕ) → length run ≤ at + turns → (frameAt run at .fault .number ≡ 0 → ⊥) → walk at turns ≡ w .refuse (frameAt run at .fault)
+    unfolding walkFrom
+    walk-stop zero h n = absurd (omega arith)
+    walk-stop (suc turns) h n = rw (lt-leb (length run) at before, ne-eqb (frameAt run at .fault .number) 0 n) refl
 
-  pub walk-stop : (at turns : ℕ) → at < length run → (frameAt run at .fault .number ≡ 0 → ⊥) → walk at (suc turns) ≡ refuse (frameAt run at .fault)
-  unfolding walkFrom
-  walk-stop at turns h n = rw (lt-leb (length run) at h, ne-eqb (frameAt run at .fault .number) 0 n) refl
+    walk-more : (turns : ℕ) → length run ≤ at + turns → frameAt run at .fault .number ≡ 0
+        → walk at turns ≡ w .more (sheetIn run (frameAt run at)) (walk (frameAt run at .end) (turns - 1))
+    unfolding walkFrom
+    walk-more zero h z = absurd (omega arith)
+    walk-more (suc turns) h z =
+        let one : turns ≡ suc turns - 1 = omega arith in
+        rw (lt-leb (length run) at before, eq-eqb (frameAt run at .fault .number) 0 z) (ap (λ (k : ℕ). w .more (sheetIn run (frameAt run at)) (walk (frameAt run at .end) k)) one)
 
-  pub walk-more : (at turns : ℕ) → at < length run → frameAt run at .fault .number ≡ 0
-      → walk at (suc turns) ≡ more (frameAt run at) (walk (frameAt run at .end) turns)
-  unfolding walkFrom
-  walk-more at turns h z = rw (lt-leb (length run) at h, eq-eqb (frameAt run at .fault .number) 0 z) refl
+  walk-enough : (at k m : ℕ) → length run ≤ at + k → length run ≤ at + m → walk at k ≡ walk at m
+  walk-enough =
+      by-turns run (λ at. (k m : ℕ) → length run ≤ at + k → length run ≤ at + m → walk at k ≡ walk at m)
+      (λ at l k m h g. walk-end at k l ∙ sym (walk-end at m l))
+      (λ at l n k m h g. walk-stop at l k h n ∙ sym (walk-stop at l m g n))
+      (λ at l z rest k m h g. let f = frame-lies run at z in
+      walk-more at l k h z ∙ ap (w .more (sheetIn run (frameAt run at)))
+      (rest (k - 1) (m - 1) (omega (arith, f .after, f .ordered)) (omega (arith, f .after, f .ordered))) ∙ sym (walk-more at l m g z))
 
-  pub walk-enough : (k m at : ℕ) → length run ≤ at + k → length run ≤ at + m → walk at k ≡ walk at m
-  walk-enough zero m at h g = walk-end at zero (omega arith) ∙ sym (walk-end at m (omega arith))
-  walk-enough (suc k) zero at h g = walk-end at (suc k) (omega arith) ∙ sym (walk-end at zero (omega arith))
-  walk-enough (suc k) (suc m) at h g =
-      ⊎-elim
-      (λ l. go l (λ b d. walk-enough k m (frameAt run at .end) b d) (ℕ-discrete (frameAt run at .fault .number) 0))
-      (λ l. walk-end at (suc k) l ∙ sym (walk-end at (suc m) l))
-      (lt-or-le at (length run))
-    where
-      go : at < length run → (length run ≤ frameAt run at .end + k → length run ≤ frameAt run at .end + m → walk (frameAt run at .end) k ≡ walk (frameAt run at .end) m)
-          → Dec (frameAt run at .fault .number ≡ 0) → walk at (suc k) ≡ walk at (suc m)
-      go l ih (yes z) =
-          let f = frame-lies run at z in
-          walk-more at k l z ∙ ap (more (frameAt run at)) (ih (omega (arith, f .after, f .ordered)) (omega (arith, f .after, f .ordered))) ∙ sym (walk-more at m l z)
-      go l ih (no n) = walk-stop at k l n ∙ sym (walk-stop at m l n)
-
-  -- what holds at the end, of a refusal and of a sheet before what follows it, holds of the whole
-  pub walk-ind : (P : A → Type 0) → P done → ((at : ℕ) → (frameAt run at .fault .number ≡ 0 → ⊥) → P (refuse (frameAt run at .fault)))
-      → ((f : Frame) (a : A) → P a → P (more f a)) → (turns at : ℕ) → P (walk at turns)
-  walk-ind P ends stops goes zero at = rw (walk-none at) ends
-  walk-ind P ends stops goes (suc turns) at =
-      ⊎-elim
-      (λ l. go l (walk-ind P ends stops goes turns (frameAt run at .end)) (ℕ-discrete (frameAt run at .fault .number) 0))
-      (λ l. rw (walk-end at (suc turns) l) ends)
-      (lt-or-le at (length run))
-    where
-      go : at < length run → P (walk (frameAt run at .end) turns) → Dec (frameAt run at .fault .number ≡ 0) → P (walk at (suc turns))
-      go l ih (yes z) = rw (walk-more at turns l z) (goes (frameAt run at) (walk (frameAt run at .end) turns) ih)
-      go l ih (no n) = rw (walk-stop at turns l n) (stops at n)
-
-  -- what is left from a place on
-  abbrev pub left : ℕ → A
-  left at = walk at (length run - at)
-
-  pub left-end : (at : ℕ) → length run ≤ at → left at ≡ done
+  pub left-end : (at : ℕ) → length run ≤ at → left w run at ≡ w .done
   left-end at h = walk-end at (length run - at) h
 
-  pub left-stop : (at : ℕ) → at < length run → (frameAt run at .fault .number ≡ 0 → ⊥) → left at ≡ refuse (frameAt run at .fault)
-  left-stop at h n = ap (walk at) (left-suc (length run) at h) ∙ walk-stop at (length run - (at + 1)) h n
+  pub left-stop : (at : ℕ) → at < length run → (frameAt run at .fault .number ≡ 0 → ⊥) → left w run at ≡ w .refuse (frameAt run at .fault)
+  left-stop at h n = walk-stop at h (length run - at) (omega arith) n
 
-  pub left-more : (at : ℕ) → at < length run → frameAt run at .fault .number ≡ 0 → left at ≡ more (frameAt run at) (left (frameAt run at .end))
+  pub left-more : (at : ℕ) → at < length run → frameAt run at .fault .number ≡ 0
+      → left w run at ≡ w .more (sheetIn run (frameAt run at)) (left w run (frameAt run at .end))
   left-more at h z =
       let f = frame-lies run at z in
-      let end = frameAt run at .end in
-      ap (walk at) (left-suc (length run) at h) ∙ walk-more at (length run - (at + 1)) h z
-      ∙ ap (more (frameAt run at)) (walk-enough (length run - (at + 1)) (length run - end) end (omega (arith, f .after, f .ordered)) (omega arith))
+      walk-more at h (length run - at) (omega arith) z
+      ∙ ap (w .more (sheetIn run (frameAt run at))) (walk-enough (frameAt run at .end) _ _ (omega (arith, f .after, f .ordered)) (omega arith))
 
 -- ── The framing of a run ──
+
+pub framing-left : (run : List ℕ) → length run ≤ mostBytes → framing run ≡ left faults run 0
+unfolding framing
+framing-left run few = rw (le-ltb mostBytes (length run) few) refl
 
 -- no fault, or one within the run and within the bytes that a run may have
 abbrev Ended : List ℕ → Fault → Type 0
@@ -165,13 +154,20 @@ Ended run f = (f ≡ fault 0 0) ⊎ Blamed run mostBytes f
 framing-ended : (run : List ℕ) → Ended run (framing run)
 unfolding framing
 framing-ended run =
-    pick-ind (Ended run) (ltb mostBytes (length run)) (fault 3 0) (framingFrom run 0 (length run))
+    pick-ind (Ended run) (ltb mostBytes (length run)) (fault 3 0) (left faults run 0)
     (λ t. inr (record { some = omega arith; known = omega arith; inside = omega arith; near = omega arith }))
     (λ t. let few = ltb-false mostBytes (length run) t in
-    walk-ind (fault 0 0) (λ f. f) (λ f rest. rest) run (Ended run) (inl refl)
-    (λ at n. let b = frame-refused run at n in
-    inr (record { some = b .some; known = b .known; inside = b .inside; near = omega (arith, b .inside) }))
-    (λ f a e. e) (length run) 0)
+    by-turns run (λ at. Ended run (left faults run at)) (λ at l. inl (left-end faults run at l))
+    (λ at l n. let b = frame-refused run at n in
+    rw (left-stop faults run at l n) (inr (record { some = b .some; known = b .known; inside = b .inside; near = omega (arith, b .inside) })))
+    (λ at l z e. rw (left-more faults run at l z) e) 0)
 
 pub framing-blamed : (run : List ℕ) → (framing run .number ≡ 0 → ⊥) → Blamed run mostBytes (framing run)
 framing-blamed run n = ⊎-elim (λ e. absurd (n (ap (λ (f : Fault). f .number) e))) (λ b. b) (framing-ended run)
+
+-- a run whose framing has no fault is not too long
+pub run-few : (run : List ℕ) → framing run .number ≡ 0 → length run ≤ mostBytes
+unfolding framing
+run-few run =
+    pick-ind (λ (f : Fault). f .number ≡ 0 → length run ≤ mostBytes) (ltb mostBytes (length run)) (fault 3 0) (left faults run 0)
+    (λ t z. absurd (omega arith)) (λ t z. ltb-false mostBytes (length run) t)

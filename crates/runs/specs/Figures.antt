@@ -4,7 +4,9 @@ use mathlib.Core.Bool.{Bool}
 use mathlib.Core.List.{List, [], _∷_, _++_, map}
 use lib.Dec.{eqb}
 use lib.ListN.{length, getD, replicate}
+use Rattle.names.specs.Counted.{each}
 use Rattle.names.specs.Name.{Name}
+use Rattle.names.specs.Spelling.{mostColours}
 use Rattle.books.specs.Lent.{contentsOf}
 use Rattle.books.specs.ContentsIn.{gridIn}
 use Rattle.books.specs.Calls.{ticketOf}
@@ -15,7 +17,6 @@ use Rattle.books.specs.Size.{greatest}
 use Rattle.pieces.specs.Area.{whole, treeSize}
 use Rattle.pieces.specs.Derivation.{derivation}
 use Rattle.pieces.specs.Pieces.{total}
-use Rattle.names.specs.Counted.{each}
 use Rattle.runs.specs.Lists.{those, howMany, addedUp, anyIn, leastOf, greatestOf}
 use Rattle.runs.specs.declared.figures.Figures.{Figures}
 
@@ -58,6 +59,9 @@ got book sheets a = howMany (answering book a) sheets
 abbrev pub answersGiven : List ℕ
 answersGiven = 0 ∷ 1 ∷ 2 ∷ 3 ∷ 4 ∷ 5 ∷ 6 ∷ 7 ∷ 8 ∷ 11 ∷ []
 
+abbrev pub answerCounts : ℕ
+answerCounts = 10
+
 -- the cells of a book colour, over accepted sheets only
 unfoldable pub cellsOf : List ℕ → List (List ℕ) → ℕ → ℕ
 cellsOf book sheets c = addedUp (showing book c) (accepted book sheets)
@@ -65,10 +69,6 @@ cellsOf book sheets c = addedUp (showing book c) (accepted book sheets)
 -- the tickets of the accepted sheets
 unfoldable pub tickets : List ℕ → List (List ℕ) → List ℕ
 tickets book sheets = map ticketOf (accepted book sheets)
-
--- a book has at most so many colours
-abbrev pub mostColours : ℕ
-mostColours = 64
 
 unfoldable pub figuresOf : List ℕ → List (List ℕ) → Figures
 figuresOf book sheets =
@@ -83,7 +83,7 @@ figuresOf book sheets =
 
 -- no sheets: every figure is 0
 abbrev pub noFigures : Figures
-noFigures = record { sheets = 0; answers = replicate 10 0; cells = replicate mostColours 0; any = 0; least = 0; greatest = 0 }
+noFigures = record { sheets = 0; answers = replicate answerCounts 0; cells = replicate mostColours 0; any = 0; least = 0; greatest = 0 }
 
 -- the figures one after another, as the C host gets them
 abbrev pub figuresLong : ℕ

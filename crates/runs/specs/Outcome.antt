@@ -55,7 +55,7 @@ pub record Told : Type 0 where
   pub slice : List ℕ
 
 -- the figures stand at the front of the slice, whatever is answered, and the slice beyond is as it was
-abbrev pub told : Outcome → List ℕ → Told
+unfoldable pub told : Outcome → List ℕ → Told
 told o slice = record { answer = o .answer; entries = o .entries; slice = inARow (o .figures) ++ drop figuresLong slice }
 
 -- 13 where that slice is too short, before anything is read

@@ -22,6 +22,7 @@ SheetsRead run sheets at = InTurn (SheetStands run) 0 sheets at
 -- what refuses a run: too many bytes (3), a length that ends early or is misspelt (1 or 2), or one that passes the end (1)
 pub data RunFault (run : List ℕ) (f : Fault) : Type 0 where
   too-long : mostBytes < length run → f ≡ fault 3 0 → RunFault run f
-  no-length : (sheets : List (List ℕ)) (at : ℕ) → length run ≤ mostBytes → SheetsRead run sheets at → at < length run → Reads run at (Refused f) → RunFault run f
+  no-length : (sheets : List (List ℕ)) (at : ℕ) → length run ≤ mostBytes → SheetsRead run sheets at → at < length run → Reads run at (Refused f)
+      → RunFault run f
   past-end : (sheets : List (List ℕ)) (at len next : ℕ) → length run ≤ mostBytes → SheetsRead run sheets at → Reads run at (Value len next)
       → length run - next < len → f ≡ fault 1 (length run) → RunFault run f

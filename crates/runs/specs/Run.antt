@@ -30,27 +30,35 @@ frameAt run at =
 abbrev pub sheetIn : List ℕ → Frame → List ℕ
 sheetIn run f = take (f .end - f .start) (drop (f .start) run)
 
--- The lengths from a place on, one after another: `done` at the run's end, `refuse` for the first fault, and `more` for a sheet and what follows it.
--- Every length takes a byte, so that as many turns as there are bytes reach the end.
-unfoldable pub walkFrom : {A : Type 0} → A → (Fault → A) → (Frame → A → A) → List ℕ → ℕ → ℕ → A
-walkFrom done refuse more run at zero = done
-walkFrom done refuse more run at (suc turns) =
-    pick (leb (length run) at) done
-    (faultless refuse (frameAt run at .fault) (more (frameAt run at) (walkFrom done refuse more run (frameAt run at .end) turns)))
+-- what is made of a run, sheet by sheet: `done` at its end, `refuse` for the first fault of a length, and `more` for a sheet and what follows it
+pub record Walk (A : Type 0) : Type 0 where
+  pub done : A
+  pub refuse : Fault → A
+  pub more : List ℕ → A → A
 
--- the first fault of the lengths from a place on, and the sheets
-abbrev pub framingFrom : List ℕ → ℕ → ℕ → Fault
-framingFrom run at turns = walkFrom (fault 0 0) (λ f. f) (λ f rest. rest) run at turns
+unfoldable pub walkFrom : {A : Type 0} → Walk A → List ℕ → ℕ → ℕ → A
+walkFrom w run at zero = w .done
+walkFrom w run at (suc turns) =
+    let f = frameAt run at in
+    pick (leb (length run) at) (w .done) (faultless (w .refuse) (f .fault) (w .more (sheetIn run f) (walkFrom w run (f .end) turns)))
 
-abbrev pub sheetsFrom : List ℕ → ℕ → ℕ → List (List ℕ)
-sheetsFrom run at turns = walkFrom [] (λ f. []) (λ f rest. sheetIn run f ∷ rest) run at turns
+-- from a place on: every length takes a byte, so that as many turns as there are bytes left reach the end
+abbrev pub left : {A : Type 0} → Walk A → List ℕ → ℕ → A
+left w run at = walkFrom w run at (length run - at)
+
+-- the first fault, and the sheets
+abbrev pub faults : Walk Fault
+faults = record { done = fault 0 0; refuse = λ f. f; more = λ sheet rest. rest }
+
+abbrev pub sheets : Walk (List (List ℕ))
+sheets = record { done = []; refuse = λ f. []; more = λ sheet rest. sheet ∷ rest }
 
 -- the fault of a run: 3 at 0 where it is too long, and else the first of its lengths
 unfoldable pub framing : List ℕ → Fault
-framing run = pick (ltb mostBytes (length run)) (fault 3 0) (framingFrom run 0 (length run))
+framing run = pick (ltb mostBytes (length run)) (fault 3 0) (left faults run 0)
 
 unfoldable pub sheetsOf : List ℕ → List (List ℕ)
-sheetsOf run = sheetsFrom run 0 (length run)
+sheetsOf run = left sheets run 0
 
 -- sheets one after another, each preceded by its length: the run that they make
 unfoldable pub spellRun : List (List ℕ) → List ℕ

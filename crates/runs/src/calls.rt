@@ -31,7 +31,8 @@ pub extern "C" fn dv_run_report(
     work: &mut [u32],
     figures: &mut [u32],
 ) -> u64
-    ensures { λ r. ⌜ Leaves (runReport (now (book .entry)) (now (run .entry)) (now (work .entry)) (now (figures .entry))) r (now (work .exit)) (now (figures .exit)) ⌝ }
+    ensures { λ r. ⌜ Leaves (runReport (now (book .entry)) (now (run .entry)) (now (work .entry)) (now (figures .entry))) r (now (work .exit))
+        (now (figures .exit)) ⌝ }
 {
     if figures.len() < FIGURES_LONG {
         return answer::pack(answer::unblamed(13), 0);

@@ -1,15 +1,15 @@
 // One sheet more in the figures.
 use crate::figures::ANSWERS_FROM;
-use crate::figures::ANY;
+use crate::figures::ANY_AT;
 use crate::figures::CELLS_FROM;
-use crate::figures::GREATEST;
-use crate::figures::LEAST;
+use crate::figures::GREATEST_AT;
+use crate::figures::LEAST_AT;
 use pieces::asking::Asked;
 ghost use mathlib.Core.Path.{_≡_};
-ghost use Prim.Native.Nat.{ℕ, _≤_, _<_, max};
-ghost use lib.ListN.{length, getD, take};
-ghost use Rattle.runs.specs.Figures.{figuresLong, mostColours};
-ghost use Rattle.runs.specs.inner.Adding.{countOf, answered, coloured, leastWith, ticketed, Spare, withAsked, Addable};
+ghost use Prim.Native.Nat.{_≤_, max};
+ghost use lib.ListN.{length, take};
+ghost use Rattle.runs.specs.Figures.{figuresLong};
+ghost use Rattle.runs.specs.inner.Adding.{countOf, answered, coloured, leastWith, ticketed, Answerable, Colourable, withAsked, Addable};
 
 // Which of the ten counts an answer has: 11 stands behind 0 to 8.
 fn count_of(answer: u8) -> usize
@@ -20,7 +20,7 @@ fn count_of(answer: u8) -> usize
 
 // A sheet more, with its answer.
 fn add_answer(answer: u8, figures: &mut [u32])
-    requires { ⌜ (countOf answer < 10) × (figuresLong ≤ length (now figures)) × Spare 1 (now figures) ⌝ }
+    requires { ⌜ Answerable answer (now figures) ⌝ }
     ensures { λ _. ⌜ now (figures .exit) ≡ answered (now (figures .entry)) answer ⌝ }
 {
     figures[0] += 1;
@@ -30,8 +30,7 @@ fn add_answer(answer: u8, figures: &mut [u32])
 
 // A cell more of the colour of each of the first so many cells.
 fn add_cells(cells: &[u8], count: usize, figures: &mut [u32])
-    requires { ⌜ (count ≤ length (now cells)) × ((i : ℕ) → i < count → getD (now cells) i 0 ≤ mostColours) ⌝ }
-    requires { ⌜ (figuresLong ≤ length (now figures)) × Spare count (now figures) ⌝ }
+    requires { ⌜ Colourable (now cells) count (now figures) ⌝ }
     ensures { λ _. ⌜ now (figures .exit) ≡ coloured (now (figures .entry)) (take count (now (cells .entry))) ⌝ }
 {
     let mut i = 0;
@@ -64,22 +63,21 @@ fn add_ticket(ticket: u32, figures: &mut [u32])
     requires { ⌜ figuresLong ≤ length (now figures) ⌝ }
     ensures { λ _. ⌜ now (figures .exit) ≡ ticketed (now (figures .entry)) ticket ⌝ }
 {
-    let least = least_with(figures[ANY], figures[LEAST], ticket);
-    let greatest = greatest_with(figures[GREATEST], ticket);
-    figures[LEAST] = least;
-    figures[GREATEST] = greatest;
-    figures[ANY] = 1;
+    let least = least_with(figures[ANY_AT], figures[LEAST_AT], ticket);
+    let greatest = greatest_with(figures[GREATEST_AT], ticket);
+    figures[LEAST_AT] = least;
+    figures[GREATEST_AT] = greatest;
+    figures[ANY_AT] = 1;
 }
 
 // A sheet that was asked: its answer, and where it is accepted its cells and its ticket.
-pub(crate) fn add_asked(r: Asked, figures: &mut [u32])
-    requires { ⌜ Addable r (now figures) ⌝ }
-    ensures { λ _. ⌜ now (figures .exit) ≡ withAsked (now (figures .entry)) r ⌝ }
+pub(crate) fn add_asked(r: Asked, cells: &[u8], figures: &mut [u32])
+    requires { ⌜ Addable r (now cells) (now figures) ⌝ }
+    ensures { λ _. ⌜ now (figures .exit) ≡ withAsked (now (figures .entry)) r (now (cells .entry)) ⌝ }
 {
     add_answer(r.answer.number, figures);
     if r.answer.number == 0 {
-        let cells = r.cells;
-        add_cells(&cells, r.rows * r.cols, figures);
+        add_cells(cells, r.size.rows * r.size.cols, figures);
         add_ticket(r.ticket as u32, figures);
     }
 }

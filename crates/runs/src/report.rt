@@ -7,6 +7,8 @@ use crate::framing::framing;
 use books::answer::Answer;
 use books::answer::blame;
 use books::answer::unblamed;
+use books::size::GREATEST;
+use books::size::ROOM;
 use names::number::Fault;
 use pieces::asking::Split;
 use pieces::asking::ask_sheet;
@@ -15,15 +17,15 @@ use pieces::masks::ALL_MASKS;
 ghost use mathlib.Core.Path.{_≡_};
 ghost use Prim.Native.Nat.{_≤_};
 ghost use lib.ListN.{length};
-ghost use Rattle.pieces.specs.Asking.{SplitFrom};
-ghost use Rattle.runs.specs.Run.{framing, sheetsOf};
-ghost use Rattle.runs.specs.Figures.{workRoom, noFigures, figuresLong};
-ghost use Rattle.runs.specs.Outcome.{report};
-ghost use Rattle.runs.specs.inner.Adding.{mostAdded, Spare, standing};
-ghost use Rattle.runs.specs.inner.Reporting.{refusing, Adds, Counts, Reports};
+ghost use Rattle.runs.specs.Run.{sheetsOf};
+ghost use Rattle.runs.specs.Figures.{figuresLong};
+ghost use Rattle.runs.specs.Outcome.{report, told};
+ghost use Rattle.runs.specs.inner.Reporting.{refusing, SheetDue, RunDue, Adds, Counts, telling};
 
-// The entries that the table of the greatest sheet has.
-const WORK_ROOM: usize = 6084;
+// The stretches of one cell or more in a row of the greatest sheet, and the entries that its table has: one for each of them in each direction.
+const STRETCHES: usize = GREATEST * (GREATEST + 1) / 2;
+
+const WORK_ROOM: usize = STRETCHES * STRETCHES;
 
 // One sheet more: asked of the book, and added to the figures.
 fn add_sheet(
@@ -31,15 +33,15 @@ fn add_sheet(
     split: Split,
     masks: &[u32],
     sheet: &[u8],
+    cells: &mut [u8; ROOM],
     work: &mut [u32],
     figures: &mut [u32],
 )
-    requires { ⌜ SplitFrom (now book) split (now masks) × (workRoom ≤ length (now work)) ⌝ }
-    requires { ⌜ (figuresLong ≤ length (now figures)) × Spare mostAdded (now figures) ⌝ }
+    requires { ⌜ SheetDue (now book) split (now masks) (now work) (now figures) ⌝ }
     ensures { λ _. ⌜ Adds (now (book .entry)) (now (sheet .entry)) (now (work .entry)) (now (work .exit)) (now (figures .entry)) (now (figures .exit)) ⌝ }
 {
-    let r = ask_sheet(book, split, masks, sheet, work);
-    add_asked(r, figures);
+    let r = ask_sheet(book, split, masks, sheet, cells, work);
+    add_asked(r, cells, figures);
 }
 
 // Every sheet of a run whose framing has no fault, from figures of no sheets.
@@ -51,16 +53,25 @@ fn add_sheets(
     work: &mut [u32],
     figures: &mut [u32],
 )
-    requires { ⌜ SplitFrom (now book) split (now masks) × (workRoom ≤ length (now work)) ⌝ }
-    requires { ⌜ (framing (now run) .number ≡ 0) × (figuresLong ≤ length (now figures)) × (standing (now figures) ≡ noFigures) ⌝ }
-    ensures { λ _. ⌜ Counts (now (book .entry)) (sheetsOf (now (run .entry))) (now (work .entry)) (now (work .exit)) (now (figures .entry)) (now (figures .exit)) ⌝ }
+    requires { ⌜ RunDue (now book) split (now masks) (now run) (now work) (now figures) ⌝ }
+    ensures { λ _. ⌜ Counts (now (book .entry)) (sheetsOf (now (run .entry))) (now (work .entry)) (now (work .exit)) (now (figures .entry))
+        (now (figures .exit)) ⌝ }
 {
     let mut at = 0;
+    let mut cells = [0u8; ROOM];
     while at < run.len() {
         let f = frame_at(run, at);
         let start = f.start;
         let end = f.end;
-        add_sheet(book, split, masks, &run[start..end], work, figures);
+        add_sheet(
+            book,
+            split,
+            masks,
+            &run[start..end],
+            &mut cells,
+            work,
+            figures,
+        );
         at = end;
     }
 }
@@ -85,7 +96,8 @@ fn refused(fault: Fault, run: &[u8], entries: usize) -> Answer
 // Reports a run into a slice of figures. Where something is refused, every figure is 0 and the work slice is as it was.
 pub(crate) fn report_into(book: &[u8], run: &[u8], work: &mut [u32], figures: &mut [u32]) -> Answer
     requires { ⌜ figuresLong ≤ length (now figures) ⌝ }
-    ensures { λ r. ⌜ Reports (report (now (book .entry)) (now (run .entry)) (now (work .entry))) r (now (work .exit)) (now (figures .entry)) (now (figures .exit)) ⌝ }
+    ensures { λ r. ⌜ telling r (now (work .exit)) (now (figures .exit))
+        ≡ told (report (now (book .entry)) (now (run .entry)) (now (work .entry))) (now (figures .entry)) ⌝ }
 {
     clear(figures, FIGURES_LONG);
     let mut masks = [0u32; ALL_MASKS];

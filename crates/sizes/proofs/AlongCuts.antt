@@ -10,8 +10,9 @@ use Rattle.books.specs.declared.rule.Dir.the-variants.{Across as across, Down a
 use Rattle.books.specs.declared.rule.Dir.{Dir}
 use Rattle.pieces.specs.Filling.{cutsOf}
 use Rattle.pieces.proofs.Gathered.{gathered-same}
-use Rattle.sizes.specs.Size.{Size, reach}
-use Rattle.sizes.specs.Table.{slot, sizeAt, sizeCuts}
+use Rattle.books.specs.declared.size.Size.{Size}
+use Rattle.sizes.specs.Size.{reach}
+use Rattle.sizes.specs.Table.{slot, slotSize, sizeCuts}
 use Rattle.sizes.specs.inner.Along.{along}
 use Rattle.sizes.proofs.Slots.{slot-of-size, firstOf, stepOf, first-place, rest-place}
 
@@ -25,10 +26,10 @@ module _ (fire : Dir → ℕ → ℕ → ℕ) (n : ℕ) (t : List ℕ) where
 
   -- as the code has the places
   module _ (k : ℕ) where
-    pub beside-cuts : along (fire across) t (k - k % n) k 1 (k % n) ≡ sizeCuts fire n t (sizeAt n k) across
+    pub beside-cuts : along (fire across) t (k - k % n) k 1 (k % n) ≡ sizeCuts fire n t (slotSize n k) across
     beside-cuts =
         let row : k / n + 1 - 1 ≡ k / n = omega arith in
-        along-cuts (sizeAt n k) across _ _ _ (rw row (omega (arith, div-add-mod' k n))) (sym (slot-of-size n k)) (omega arith)
+        along-cuts (slotSize n k) across _ _ _ (rw row (omega (arith, div-add-mod' k n))) (sym (slot-of-size n k)) (omega arith)
 
-    pub above-cuts : along (fire down) t (k % n) k n (k / n) ≡ sizeCuts fire n t (sizeAt n k) down
-    above-cuts = along-cuts (sizeAt n k) down _ _ _ (omega arith) (sym (slot-of-size n k)) (omega arith)
+    pub above-cuts : along (fire down) t (k % n) k n (k / n) ≡ sizeCuts fire n t (slotSize n k) down
+    above-cuts = along-cuts (slotSize n k) down _ _ _ (omega arith) (sym (slot-of-size n k)) (omega arith)

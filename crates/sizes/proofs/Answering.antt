@@ -11,12 +11,12 @@ use lib.Dec.{eqb, ltb}
 use lib.ListN.{length, length-append}
 use Rattle.names.specs.Pick.{pick}
 use Rattle.names.proofs.Picking.{pick-ind}
-use Rattle.names.proofs.SpellingNumbers.{Bytes}
+use Rattle.names.specs.Bytes.{Bytes}
 use Rattle.books.specs.Answer.{plain, blaming, Packs}
 use Rattle.books.specs.Book.{bookOf}
 use Rattle.books.specs.Contents.{Contents}
 use Rattle.books.specs.Lent.{contentsOf}
-use Rattle.books.specs.Size.{greatest, room}
+use Rattle.books.specs.Size.{greatest, sizeBy as by}
 use Rattle.books.specs.declared.answer.Answer.{Answer}
 use Rattle.books.proofs.Packing.{plain-packs, book-placed}
 use Rattle.books.proofs.ReadingBooks.{book-lies, book-accepted}
@@ -25,7 +25,6 @@ use Rattle.pieces.specs.Asking.{keptWith, splitBook}
 use Rattle.pieces.specs.Masks.{allMasks}
 use Rattle.pieces.specs.declared.asking.Split.{Split}
 use Rattle.pieces.proofs.AskingSheets.{kept-fault, kept-start, kept-from, book-serves}
-use Rattle.sizes.specs.Size.{by}
 use Rattle.sizes.specs.Card.{sized?, sizesOf}
 use Rattle.sizes.specs.Outcome.{Outcome, refused, carded, roomed, sizeCard, Answers}
 use Rattle.sizes.specs.Table.{tableBy}
@@ -69,7 +68,7 @@ module _ (book before : List ℕ) {split : Split} {masks : List ℕ} (is : keptW
     lacks fine short e = rw (no-room book slice (accepted fine) short) (record { answers = e; counts = refl; leaves = refl })
 
     pub writes : length before ≡ allMasks → Bytes book → split .fault .number ≡ 0 → greatest ≤ length slice → a ≡ plain 0 → (n : ℕ) (after : List ℕ)
-        → RowsWrote (rowsOf (tableBy masks (split .joins) greatest room) greatest (split .start) greatest) slice n after
+        → RowsWrote (rowsOf (tableBy masks (split .joins) greatest (greatest * greatest)) greatest (split .start) greatest) slice n after
         → Answers (sizeCard book slice) (record { answer = a; sizes = n }) after
     writes long bytes fine roomy e n after wrote =
         let b = contentsOf book in

@@ -13,7 +13,7 @@ use Rattle.names.specs.Counted.{each}
 use Rattle.names.specs.Name.{listed}
 use Rattle.names.specs.declared.number.Fault.{Fault}
 use Rattle.names.proofs.Listing.{listed-found}
-use Rattle.names.proofs.SpellingNumbers.{Bytes}
+use Rattle.names.specs.Bytes.{Bytes}
 use Rattle.books.specs.Answer.{packed}
 use Rattle.books.specs.Book.{bookOf}
 use Rattle.books.specs.Contents.{Contents}
@@ -37,6 +37,7 @@ use Rattle.pieces.specs.Pieces.{total}
 use Rattle.pieces.proofs.CellsFirst.{cell-before}
 use Rattle.pieces.proofs.Demand2Numbers.{dv-derive-numbers}
 use Rattle.sizes.specs.Outcome.{sizeCard, Leaves}
+use Rattle.sizes.specs.Gets.{Gets0}
 use Rattle.sizes.specs.Promise.{Sized}
 use Rattle.sizes.proofs.CardTheorems.{dv-size-card-holds, bit-exactly}
 use Rattle.sizes.proofs.Demand1.{dv-size-card-answered}
@@ -63,10 +64,7 @@ module _ (b : Contents) (a : ℕ) (p : Picture) (derived : Derives b a p) where
       record {
         colours-ok = keeps .colours-ok;
         ticket-few = omega arith;
-        rows-some = derives-rows derived;
-        rows-few = hr;
-        cols-some = some-cols;
-        cols-few = hc;
+        within = record { rows-some = derives-rows derived; rows-few = hr; cols-some = some-cols; cols-few = hc };
         cells-all = each-length (number b p) area;
         cells-fit = λ k h.
             let low : k < area = omega (arith, each-length (number b p) area) in
@@ -86,15 +84,6 @@ module _ (b : Contents) (a : ℕ) (p : Picture) (derived : Derives b a p) where
 
 -- ── The theorem ──
 
--- some bytes of a sheet of r rows and c columns get 0 from `dv_derive`, whatever the slices, if they are long enough
-pub record Gets0 (book : List ℕ) (r c : ℕ) : Type 0 where
-  pub sheet : List ℕ
-  pub bytes : Bytes sheet
-  pub rows-are : sizeOf sheet .rows ≡ r
-  pub cols-are : sizeOf sheet .columns ≡ c
-  pub gets-0 : (work tree work-left tree-left : List ℕ) (n : ℕ) → total r c ≤ length work → treeSize (whole r c) ≤ length tree
-      → LeavesPacked (derivation book sheet work tree) n work-left tree-left → n % 2 ^ 8 ≡ 0
-
 module _ (book : List ℕ) (bytes : Bytes book) (fine : bookOf book .fault .number ≡ 0) where
   abbrev contents : Contents
   contents = contentsOf book
@@ -106,7 +95,7 @@ module _ (book : List ℕ) (bytes : Bytes book) (fine : bookOf book .fault .numb
       let kept = grid-keeps contents (contents .start) (x .sheet) (x .derived) keeps (omega (arith, x .rows-are)) (omega (arith, x .cols-are)) in
       let (read, is) = sheet-read-back g kept in
       let rows-are : sizeOf (spellSheet g) .rows ≡ r = ap (λ (y : Grid). y .rows) is ∙ x .rows-are in
-      let cols-are : sizeOf (spellSheet g) .columns ≡ c = ap (λ (y : Grid). y .cols) is ∙ x .cols-are in
+      let cols-are : sizeOf (spellSheet g) .cols ≡ c = ap (λ (y : Grid). y .cols) is ∙ x .cols-are in
       let member = derives-same (grid-same contents (contents .start) (x .sheet) (x .derived)) (x .derived) in
       record {
         sheet = spellSheet g;
@@ -123,7 +112,7 @@ module _ (book : List ℕ) (bytes : Bytes book) (fine : bookOf book .fault .numb
 
 -- every sheet that gets 0 has a size that the family has
 pub derived-sized : (book sheet work tree work-left tree-left : List ℕ) (n : ℕ) → LeavesPacked (derivation book sheet work tree) n work-left tree-left
-    → n % 2 ^ 8 ≡ 0 → Sized (contentsOf book) (sizeOf sheet .rows) (sizeOf sheet .columns)
+    → n % 2 ^ 8 ≡ 0 → Sized (contentsOf book) (sizeOf sheet .rows) (sizeOf sheet .cols)
 derived-sized book sheet work tree work-left tree-left n left zero =
     let (fine, room, member) = dv-derive-numbers book sheet work tree left .zero .0 zero in
     record { sheet = pictureOf sheet; derived = member; rows-are = refl; cols-are = refl }

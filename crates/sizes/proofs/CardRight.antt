@@ -14,7 +14,7 @@ use Rattle.books.specs.Contents.{Contents}
 use Rattle.names.specs.Bits.{bit}
 use Rattle.names.proofs.Bits.{bit-zero, bit-high, same-bit, same-bits}
 use Rattle.pieces.proofs.Entries.{bits-lt, bits-has, has-bits}
-use Rattle.sizes.specs.Size.{by}
+use Rattle.books.specs.Size.{sizeBy as by}
 use Rattle.sizes.specs.Promise.{Sized, SizeCard}
 use Rattle.sizes.specs.Card.{sized?, cardRow, card}
 use Rattle.sizes.proofs.Listing.{each-length, each-at}

@@ -17,13 +17,13 @@ use Rattle.names.specs.Pick.{pick}
 use Rattle.names.proofs.Tests.{true-or-false}
 use Rattle.books.specs.Contents.{Contents}
 use Rattle.books.specs.Keeps.{Keeps}
-use Rattle.books.specs.Size.{greatest, room}
+use Rattle.books.specs.Size.{greatest, sizeBy as by}
 use Rattle.names.specs.Counted.{each}
 use Rattle.names.specs.Bits.{bit, bits}
 use Rattle.pieces.specs.Rights.{Serves}
 use Rattle.pieces.specs.declared.masks.Joins.{Joins}
 use Rattle.pieces.proofs.Entries.{bits-lt, bits-has, has-bits}
-use Rattle.sizes.specs.Size.{Size, by}
+use Rattle.books.specs.declared.size.Size.{Size}
 use Rattle.sizes.specs.Test.{hasSize?}
 use Rattle.sizes.specs.Card.{sized?, cardRow, card, sizesOf, setBits}
 use Rattle.sizes.specs.Table.{slot, tableBy}
@@ -132,9 +132,9 @@ module _ (b : Contents) (n : ℕ) (t : List ℕ) (right : Right b n (n * n) t) (
 -- ── The card by masks that serve the book ──
 
 module _ (b : Contents) (keeps : Keeps b) (masks : List ℕ) (j : Joins) (serves : Serves (b .rules) masks j) (before : List ℕ) (count : ℕ) (after : List ℕ)
-    (wrote : RowsWrote (rowsOf (tableBy masks j greatest room) greatest (b .start) greatest) before count after) where
-  rows-are : rowsOf (tableBy masks j greatest room) greatest (b .start) greatest ≡ card b greatest
-  rows-are = rows-right b greatest _ (table-right b keeps masks j serves greatest room (omega arith) (omega arith)) (keeps .sound .start-fits)
+    (wrote : RowsWrote (rowsOf (tableBy masks j greatest (greatest * greatest)) greatest (b .start) greatest) before count after) where
+  rows-are : rowsOf (tableBy masks j greatest (greatest * greatest)) greatest (b .start) greatest ≡ card b greatest
+  rows-are = rows-right b greatest _ (table-right b keeps masks j serves greatest (greatest * greatest) (omega arith) (omega arith)) (keeps .sound .start-fits)
 
   pub card-counted : count ≡ length (sizesOf b greatest)
   card-counted = wrote .counted ∙ ap setBits rows-are ∙ sizes-counted b greatest

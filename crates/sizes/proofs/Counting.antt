@@ -12,7 +12,7 @@ use Rattle.books.specs.Contents.{Contents}
 use Rattle.names.specs.Counted.{each}
 use Rattle.names.specs.Bits.{bits}
 use Rattle.pieces.proofs.Entries.{bits-lt}
-use Rattle.sizes.specs.Size.{by}
+use Rattle.books.specs.Size.{sizeBy as by}
 use Rattle.sizes.specs.Card.{sized?, cardRow, card, sizesOf, setBits}
 
 -- ── One row ──

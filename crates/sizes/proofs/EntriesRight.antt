@@ -10,18 +10,18 @@ use lib.ListN.{length, getD, set, replicate, length-set}
 use lib.Seq.{getD-set-same, getD-set-other}
 use Rattle.books.specs.Contents.{Contents}
 use Rattle.books.specs.Keeps.{Sound, Keeps}
-use Rattle.books.specs.Size.{room}
+use Rattle.books.specs.Size.{room, sizeBy as by}
 use Rattle.books.specs.declared.rule.Dir.the-variants.{Across as across, Down as down}
 use Rattle.books.specs.declared.rule.Dir.{Dir}
-use Rattle.pieces.specs.Filling.{cutsOf}
 use Rattle.pieces.specs.Firing.{fireOf, paintedOf}
 use Rattle.pieces.specs.Rights.{Fires, Painted, Serves}
 use Rattle.pieces.specs.declared.masks.Joins.{Joins}
 use Rattle.pieces.proofs.PartsRight.{cell-right, parts-right}
 use Rattle.pieces.proofs.ServingMasks.{fire-serves, painted-serves}
-use Rattle.sizes.specs.Size.{Size, by, reach}
+use Rattle.books.specs.declared.size.Size.{Size}
+use Rattle.sizes.specs.Size.{reach}
 use Rattle.sizes.specs.HasSize.{sizes}
-use Rattle.sizes.specs.Table.{slot, sizeAt, at, entryOf, withEntry, withEntries, sizesBy, tableBy}
+use Rattle.sizes.specs.Table.{slot, slotSize, at, entryOf, withEntry, withEntries, sizesBy, tableBy}
 use Rattle.sizes.specs.inner.Entries.{entry, OfTable, Right}
 use Rattle.sizes.proofs.Slots.{first-within, rest-within, first-before, rest-before, size-at-slot}
 use Rattle.sizes.proofs.Testing.{size-decided}
@@ -36,7 +36,7 @@ first-slot n s h w =
     rw (er, ec) (omega (arith, zero-mul n))
 
 at-first : (n : ℕ) (s : Size) → OfTable n s → slot n s ≡ 0 → s ≡ by 1 1
-at-first n s w z = sym (size-at-slot n s w) ∙ ap (sizeAt n) z ∙ rw (zero-div, zero-mod)
+at-first n s w z = sym (size-at-slot n s w) ∙ ap (slotSize n) z ∙ rw (zero-div, zero-mod)
 
 module _ (b : Contents) (sound : Sound b) (fire : Dir → ℕ → ℕ → ℕ) (fires : Fires (b .rules) fire) (n : ℕ) where
   entry-right : (t : List ℕ) (s : Size) → OfTable n s → Right b n (slot n s) t → 2 < s .rows + s .cols → entryOf fire n t s ≡ entry b s
@@ -56,7 +56,7 @@ module _ (b : Contents) (sound : Sound b) (fire : Dir → ℕ → ℕ → ℕ) (
       go (yes l) = getD-set-other t k (slot n s) _ 0 (λ q. omega arith) ∙ old s w l
       go (no l) =
           let here : slot n s ≡ k = omega arith in
-          let is : sizeAt n k ≡ s = ap (sizeAt n) (sym here) ∙ size-at-slot n s w in
+          let is : slotSize n k ≡ s = ap (slotSize n) (sym here) ∙ size-at-slot n s w in
           rw here (getD-set-same t k _ 0 less) ∙ ap (entryOf fire n t) is
           ∙ entry-right t s w (λ q v g. old q v (omega arith)) (go-large (decLt 2 (s .rows + s .cols)))
         where
@@ -77,7 +77,7 @@ module _ (b : Contents) (sound : Sound b) (fire : Dir → ℕ → ℕ → ℕ) (
 
 -- one entry more, as the code writes it
 pub one-written : (fire : Dir → ℕ → ℕ → ℕ) (n due : ℕ) (before t : List ℕ) (e : ℕ) → 1 ≤ due → t ≡ withEntries fire n (due - 1) before
-    → e ≡ entryOf fire n t (sizeAt n due) → set t due e ≡ withEntries fire n (due + 1 - 1) before
+    → e ≡ entryOf fire n t (slotSize n due) → set t due e ≡ withEntries fire n (due + 1 - 1) before
 unfolding withEntries
 one-written fire n zero before t e some is right = absurd (omega arith)
 one-written fire n (suc k) before t e some is right =

@@ -7,59 +7,31 @@ use mathlib.Core.List.{List}
 use mathlib.Core.Logic.{_↔_, ⊎-elim}
 use native.Mathlib.Nat.{le-refl, mul-le-mul}
 use native.Mathlib.Omega.{arith}
-use borrow.Author.Tests.{lt-ltb, ltb-true, le-leb, leb-true}
+use borrow.Author.Tests.{lt-ltb}
 use lib.Dec.{eqb, ltb}
 use lib.ListN.{getD}
 use Rattle.names.specs.Bits.{bit}
-use Rattle.names.proofs.SpellingNumbers.{Bytes}
-use Rattle.names.proofs.Tests.{true-or-false, and-both, and-make, and-on, and-off}
+use Rattle.names.specs.Bytes.{Bytes}
+use Rattle.names.proofs.Tests.{true-or-false, and-on, and-off}
 use Rattle.books.specs.Contents.{Contents}
-use Rattle.books.specs.Keeps.{Keeps}
-use Rattle.books.specs.Size.{greatest, room}
+use Rattle.books.specs.Keeps.{Keeps, mostMotifs}
+use Rattle.books.specs.Size.{greatest, room, Within, within?, sizeBy as by}
 use Rattle.books.proofs.ReadingBooks.{book-accepted}
+use Rattle.books.proofs.SizesWithin.{within-exactly}
 use Rattle.pieces.specs.Asking.{SplitFrom}
 use Rattle.pieces.specs.Rights.{Serves}
 use Rattle.pieces.specs.declared.asking.Split.{Split}
 use Rattle.pieces.specs.declared.masks.Joins.{Joins}
 use Rattle.pieces.proofs.AskingSheets.{kept-start, book-serves}
-use Rattle.sizes.specs.Size.{by}
 use Rattle.sizes.specs.Promise.{Sized}
-use Rattle.sizes.specs.Card.{sized?, card, within, onCard, hasOn}
-use Rattle.sizes.specs.Table.{slot, tableBy, entryBits, hasSizeBy}
+use Rattle.sizes.specs.Card.{sized?, card, hasOn}
+use Rattle.sizes.specs.Table.{slot, tableBy, hasSizeBy}
 use Rattle.sizes.specs.inner.Entries.{OfTable}
 use Rattle.sizes.proofs.CardRight.{sized-decided, card-right}
 use Rattle.sizes.proofs.CardRows.{entry-tells}
 use Rattle.books.specs.Lent.{contentsOf}
 use Rattle.sizes.proofs.EntriesRight.{table-right}
 use Rattle.sizes.proofs.Slots.{row-more}
-
--- ── The places of a card ──
-
--- rows and columns that a card has
-pub record Placed (m n : ℕ) : Type 0 where
-  pub rows-some : 1 ≤ m
-  pub rows-few : m ≤ greatest
-  pub cols-some : 1 ≤ n
-  pub cols-few : n ≤ greatest
-
-pub on-card : (m n : ℕ) → Placed m n → onCard m n ≡ true
-unfolding onCard within
-on-card m n p =
-    and-make (within m) _ (and-make (ltb 0 m) _ (lt-ltb 0 m (p .rows-some)) (le-leb m greatest (p .rows-few)))
-    (and-make (ltb 0 n) _ (lt-ltb 0 n (p .cols-some)) (le-leb n greatest (p .cols-few)))
-
-pub placed : (m n : ℕ) → onCard m n ≡ true → Placed m n
-unfolding onCard within
-placed m n e =
-    let (r, c) = and-both (within m) _ e in
-    let (x, y) = and-both (ltb 0 m) _ r in
-    let (z, w) = and-both (ltb 0 n) _ c in
-    record {
-      rows-some = ltb-true 0 m x;
-      rows-few = leb-true m greatest y;
-      cols-some = ltb-true 0 n z;
-      cols-few = leb-true n greatest w;
-    }
 
 -- ── By masks that serve a book ──
 
@@ -70,7 +42,7 @@ last-slot m n hm hn =
     omega (arith, row-more (m - 1) n, ap (λ (k : ℕ). k * n) e)
 
 module _ (b : Contents) (keeps : Keeps b) (masks : List ℕ) (j : Joins) (serves : Serves (b .rules) masks j) (m n : ℕ) where
-  told : Placed m n → eqb (bit (getD (tableBy masks j n (m * n)) (m * n - 1) 0) (b .start)) 1 ≡ sized? b (m - 1) (n - 1)
+  told : Within greatest m n → eqb (bit (getD (tableBy masks j n (m * n)) (m * n - 1) 0) (b .start)) 1 ≡ sized? b (m - 1) (n - 1)
   unfolding sized?
   told p =
       let er : suc (m - 1) ≡ m = omega (arith, p) in
@@ -85,12 +57,12 @@ module _ (b : Contents) (keeps : Keeps b) (masks : List ℕ) (j : Joins) (serves
   pub has-size-told : hasSizeBy masks j (b .start) m n ≡ hasOn b m n
   unfolding hasSizeBy hasOn
   has-size-told =
-      let low : b .start < entryBits = omega (arith, keeps .sound .start-fits, keeps .motifs-few) in
-      and-on (ltb (b .start) entryBits) _ (lt-ltb (b .start) entryBits low)
+      let low : b .start < mostMotifs = omega (arith, keeps .sound .start-fits, keeps .motifs-few) in
+      and-on (ltb (b .start) mostMotifs) _ (lt-ltb (b .start) mostMotifs low)
       ∙ ⊎-elim
-      (λ e. and-on (onCard m n) _ e ∙ told (placed m n e) ∙ sym (and-on (onCard m n) _ e))
-      (λ e. and-off (onCard m n) _ e ∙ sym (and-off (onCard m n) _ e))
-      (true-or-false (onCard m n))
+      (λ e. and-on (within? greatest m n) _ e ∙ told (within-exactly greatest m n .0 e) ∙ sym (and-on (within? greatest m n) _ e))
+      (λ e. and-off (within? greatest m n) _ e ∙ sym (and-off (within? greatest m n) _ e))
+      (true-or-false (within? greatest m n))
 
 -- ── By what is kept of an accepted book: exactly the sizes of the family, and the bits of its card ──
 
@@ -103,10 +75,10 @@ module _ (book : List ℕ) (bytes : Bytes book) (split : Split) (masks : List �
       ap (λ (a : ℕ). hasSizeBy masks (split .joins) a m n) (kept-start book (from .before) (from .is))
       ∙ has-size-told (contentsOf book) (book-accepted book bytes (from .accepted) .keeps) masks (split .joins) (book-serves book split masks from) m n
 
-  module _ (p : Placed m n) where
+  module _ (p : Within greatest m n) where
     pub placed-has : has ≡ sized? (contentsOf book) (m - 1) (n - 1)
     unfolding hasOn
-    placed-has = has-size-holds ∙ and-on (onCard m n) _ (on-card m n p)
+    placed-has = has-size-holds ∙ and-on (within? greatest m n) _ (within-exactly greatest m n .1 p)
 
     pub size-exactly : (has ≡ true) ↔ Sized (contentsOf book) m n
     size-exactly =

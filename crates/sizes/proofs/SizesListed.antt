@@ -9,7 +9,8 @@ use lib.ListN.{length, getD}
 use Rattle.names.specs.Pick.{pick}
 use Rattle.names.specs.Counted.{each}
 use Rattle.books.specs.Contents.{Contents}
-use Rattle.sizes.specs.Size.{Size, by}
+use Rattle.books.specs.declared.size.Size.{Size}
+use Rattle.books.specs.Size.{sizeBy as by}
 use Rattle.sizes.specs.Promise.{Sized}
 use Rattle.sizes.specs.Card.{sized?, sizesOf}
 use Rattle.sizes.proofs.CardRight.{sized-decided}

@@ -14,7 +14,8 @@ use Rattle.books.specs.Search.{paint as cell, join as join-sizes}
 use Rattle.books.proofs.Gluing.{glued-joined}
 use Rattle.books.proofs.NothingEmpty.{derives-size}
 use Rattle.books.proofs.SamePictures.{derives-same}
-use Rattle.sizes.specs.Size.{Size, by}
+use Rattle.books.specs.declared.size.Size.{Size}
+use Rattle.books.specs.Size.{sizeBy as by}
 use Rattle.sizes.specs.HasSize.{HasSize}
 use Rattle.sizes.specs.Promise.{SomeSheet}
 

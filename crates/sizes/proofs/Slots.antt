@@ -7,8 +7,10 @@ use native.Mathlib.Omega.{arith}
 use lib.Arith.{digits-div, digits-mod}
 use Rattle.books.specs.declared.rule.Dir.the-variants.{Across as across, Down as down}
 use Rattle.books.specs.declared.rule.Dir.{Dir}
-use Rattle.sizes.specs.Size.{Size, by, reach, firstPart, restPart}
-use Rattle.sizes.specs.Table.{slot, sizeAt}
+use Rattle.books.specs.declared.size.Size.{Size}
+use Rattle.books.specs.Size.{sizeBy as by}
+use Rattle.sizes.specs.Size.{reach, firstPart, restPart}
+use Rattle.sizes.specs.Table.{slot, slotSize}
 use Rattle.sizes.specs.inner.Entries.{OfTable}
 
 -- So many rows of n places, and one more.
@@ -38,14 +40,14 @@ module _ (n : ℕ) (s : Size) (w : OfTable n s) where
   rest-before down k h l = omega (arith, row-fits (s .rows - k - 1) (s .rows - 1) n (omega arith), w .cols-some, w .cols-few)
 
   -- A slot tells its size, ...
-  pub size-at-slot : sizeAt n (slot n s) ≡ s
+  pub size-at-slot : slotSize n (slot n s) ≡ s
   size-at-slot =
       let row : slot n s / n ≡ s .rows - 1 = digits-div (s .rows - 1) (omega (arith, w .cols-some, w .cols-few)) in
       let col : slot n s % n ≡ s .cols - 1 = digits-mod (s .rows - 1) (omega (arith, w .cols-some, w .cols-few)) in
       ap₂ by (omega (arith, row, w .rows-some)) (omega (arith, col, w .cols-some))
 
 -- ... and a size its slot.
-pub slot-of-size : (n k : ℕ) → slot n (sizeAt n k) ≡ k
+pub slot-of-size : (n k : ℕ) → slot n (slotSize n k) ≡ k
 slot-of-size n k =
     let row : k / n + 1 - 1 ≡ k / n = omega arith in
     let col : k % n + 1 - 1 ≡ k % n = omega arith in

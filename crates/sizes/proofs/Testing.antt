@@ -11,7 +11,8 @@ use Rattle.books.specs.declared.rule.Dir.the-variants.{Across as across, Down a
 use Rattle.books.specs.declared.rule.Dir.{Dir}
 use Rattle.books.specs.Search.{Lessens}
 use Rattle.books.proofs.Searches.{one-cell, searched}
-use Rattle.sizes.specs.Size.{Size, reach, firstPart, restPart}
+use Rattle.books.specs.declared.size.Size.{Size}
+use Rattle.sizes.specs.Size.{reach, firstPart, restPart}
 use Rattle.sizes.specs.HasSize.{sizes, HasSize}
 use Rattle.sizes.specs.Test.{hasSize?}
 

@@ -3,13 +3,12 @@ use Prim.Native.Nat.{ℕ, suc, _+_, _-_}
 use mathlib.Core.Bool.{Bool}
 use mathlib.Core.List.{List, [], _∷_}
 use lib.Count.{ones}
-use lib.Dec.{ltb, leb}
 use Rattle.names.specs.Pick.{pick, andThen}
 use Rattle.books.specs.Contents.{Contents}
-use Rattle.books.specs.Size.{greatest}
+use Rattle.books.specs.Size.{greatest, within?, sizeBy as by}
 use Rattle.names.specs.Counted.{each}
 use Rattle.names.specs.Bits.{bits}
-use Rattle.sizes.specs.Size.{Size, by}
+use Rattle.books.specs.declared.size.Size.{Size}
 use Rattle.sizes.specs.Test.{hasSize?}
 
 -- whether the family has the size at a slot of the card: i + 1 rows and j + 1 columns
@@ -32,14 +31,6 @@ unfoldable pub setBits : List ℕ → ℕ
 setBits [] = 0
 setBits (x ∷ xs) = ones x + setBits xs
 
--- whether a card has so many rows, or columns, ...
-unfoldable pub within : ℕ → Bool
-within n = andThen (ltb 0 n) (λ _. leb n greatest)
-
--- ... and so whether it has a place for a size of m rows and n columns
-unfoldable pub onCard : ℕ → ℕ → Bool
-onCard m n = andThen (within m) (λ _. within n)
-
--- whether the card of a family has the size
+-- whether the card of a family has the size of m rows and n columns
 unfoldable pub hasOn : Contents → ℕ → ℕ → Bool
-hasOn b m n = andThen (onCard m n) (λ _. sized? b (m - 1) (n - 1))
+hasOn b m n = andThen (within? greatest m n) (λ _. sized? b (m - 1) (n - 1))

@@ -7,7 +7,8 @@ use lib.ListN.{length}
 use Rattle.books.specs.Contents.{Contents}
 use Rattle.books.specs.Search.{Cutting, Gives}
 use Rattle.names.specs.Pick.{andThen}
-use Rattle.sizes.specs.Size.{Size, reach, firstPart, restPart}
+use Rattle.books.specs.declared.size.Size.{Size}
+use Rattle.sizes.specs.Size.{reach, firstPart, restPart}
 
 abbrev pub sizes : Contents → Cutting Size
 sizes b =

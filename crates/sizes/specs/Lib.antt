@@ -6,3 +6,4 @@ pub mod Card
 pub mod Table
 pub mod Outcome
 pub mod inner
+pub mod Gets

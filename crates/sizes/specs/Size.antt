@@ -1,14 +1,9 @@
 -- Sizes: so many rows and columns, and how they come apart across and down. A size has no colours.
 use Prim.Native.Nat.{ℕ, _-_}
+use Rattle.books.specs.Size.{sizeBy as by}
+use Rattle.books.specs.declared.size.Size.{Size}
 use Rattle.books.specs.declared.rule.Dir.the-variants.{Across as across, Down as down}
 use Rattle.books.specs.declared.rule.Dir.{Dir}
-
-pub record Size : Type 0 where
-  pub rows : ℕ
-  pub cols : ℕ
-
-abbrev pub by : ℕ → ℕ → Size
-by r c = record { rows = r; cols = c }
 
 -- how far a size reaches in a direction: its columns, or its rows
 abbrev pub reach : Dir → Size → ℕ

@@ -7,14 +7,15 @@ use lib.Dec.{eqb, ltb}
 use lib.ListN.{getD, set, replicate}
 use Rattle.names.specs.Bits.{bit}
 use Rattle.names.specs.Pick.{andThen}
-use Rattle.books.specs.Size.{room}
+use Rattle.books.specs.Keeps.{mostMotifs}
+use Rattle.books.specs.Size.{greatest, room, within?, sizeBy as by}
 use Rattle.books.specs.declared.rule.Dir.the-variants.{Across as across, Down as down}
 use Rattle.books.specs.declared.rule.Dir.{Dir}
 use Rattle.pieces.specs.Filling.{cutsOf}
 use Rattle.pieces.specs.Firing.{fireOf, paintedOf}
 use Rattle.pieces.specs.declared.masks.Joins.{Joins}
-use Rattle.sizes.specs.Size.{Size, by, reach, firstPart, restPart}
-use Rattle.sizes.specs.Card.{onCard}
+use Rattle.books.specs.declared.size.Size.{Size}
+use Rattle.sizes.specs.Size.{reach, firstPart, restPart}
 
 -- ── The table ──
 
@@ -22,8 +23,8 @@ use Rattle.sizes.specs.Card.{onCard}
 abbrev pub slot : ℕ → Size → ℕ
 slot n s = (s .rows - 1) * n + (s .cols - 1)
 
-abbrev pub sizeAt : ℕ → ℕ → Size
-sizeAt n k = by (k / n + 1) (k % n + 1)
+abbrev pub slotSize : ℕ → ℕ → Size
+slotSize n k = by (k / n + 1) (k % n + 1)
 
 abbrev pub at : ℕ → List ℕ → Size → ℕ
 at n t s = getD t (slot n s) 0
@@ -37,7 +38,7 @@ entryOf fire n t s = bitOr (sizeCuts fire n t s across) (sizeCuts fire n t s dow
 
 -- with the entry of a slot, by those before it
 abbrev pub withEntry : (Dir → ℕ → ℕ → ℕ) → ℕ → ℕ → List ℕ → List ℕ
-withEntry fire n k t = set t k (entryOf fire n t (sizeAt n k))
+withEntry fire n k t = set t k (entryOf fire n t (slotSize n k))
 
 -- with the entries of so many slots after the first
 unfoldable pub withEntries : (Dir → ℕ → ℕ → ℕ) → ℕ → ℕ → List ℕ → List ℕ
@@ -53,11 +54,8 @@ sizesBy fire painted n end t = withEntries fire n (end - 1) (set t 0 painted)
 abbrev pub tableBy : List ℕ → Joins → ℕ → ℕ → List ℕ
 tableBy masks j n end = sizesBy (fireOf masks j) (paintedOf masks) n end (replicate room 0)
 
--- an entry has a bit for each of so many motifs
-abbrev pub entryBits : ℕ
-entryBits = 32
-
--- whether a motif has the size of m rows and n columns: its bit in the last entry of a table that is no larger. No size beyond a card is had, and none by a motif beyond
--- the last.
+-- whether a motif has the size of m rows and n columns: its bit in the last entry of a table that is no larger. No size beyond a card is had, and none
+-- by a motif beyond the last.
 unfoldable pub hasSizeBy : List ℕ → Joins → ℕ → ℕ → ℕ → Bool
-hasSizeBy masks j a m n = andThen (ltb a entryBits) (λ _. andThen (onCard m n) (λ _. eqb (bit (getD (tableBy masks j n (m * n)) (m * n - 1) 0) a) 1))
+hasSizeBy masks j a m n =
+    andThen (ltb a mostMotifs) (λ _. andThen (within? greatest m n) (λ _. eqb (bit (getD (tableBy masks j n (m * n)) (m * n - 1) 0) a) 1))

@@ -3,7 +3,7 @@ use Prim.Native.Nat.{ℕ, _+_}
 use mathlib.Core.Bool.{Bool}
 use Rattle.books.specs.Contents.{Contents}
 use Rattle.books.specs.Search.{givesIn}
-use Rattle.sizes.specs.Size.{Size}
+use Rattle.books.specs.declared.size.Size.{Size}
 use Rattle.sizes.specs.HasSize.{sizes}
 
 unfoldable pub hasSize? : Contents → ℕ → Size → Bool

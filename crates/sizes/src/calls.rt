@@ -31,7 +31,7 @@ pub fn size_card(book: &[u8], card: &mut [u32]) -> CardAnswer
             sizes: 0,
         };
     }
-    let sizes = write_card(&masks, split.joins, split.start, card);
+    let sizes = write_card(&masks, split.joins, split.start, GREATEST, card);
     CardAnswer {
         answer: answer::unblamed(0),
         sizes,

@@ -7,10 +7,10 @@ ghost use Prim.Native.Nat.{_+_, _*_, _≤_, _<_};
 ghost use lib.ListN.{length};
 ghost use Rattle.books.specs.Size.{room};
 ghost use Rattle.pieces.specs.Firing.{fireOf, paintedOf};
-ghost use Rattle.sizes.specs.Table.{sizeAt, entryOf, sizesBy};
+ghost use Rattle.sizes.specs.Table.{slotSize, entryOf, sizesBy};
 ghost use Rattle.sizes.specs.inner.Along.{along};
 
-// Every join of one direction at every cut of a size: the first part goes on from its first entry, the second goes back from the entry that is due.
+// Every join of one direction at every cut of a size: from cut to cut the first part goes on from its first entry, and the second back from the entry due.
 fn along(
     sizes: &[u32],
     masks: &[u32],
@@ -25,13 +25,11 @@ fn along(
     ensures { λ x. ⌜ x ≡ along (fireOf (now (masks .entry)) joins d) (now (sizes .entry)) first due step cuts ⌝ }
 {
     let mut found = 0u32;
-    let mut front = first;
-    let mut back = due;
     let mut k = 0;
     while k < cuts {
-        back -= step;
-        found |= masks::fire(masks, joins, d, sizes[front], sizes[back]);
-        front += step;
+        let l = sizes[first + k * step];
+        let r = sizes[due - (k + 1) * step];
+        found |= masks::fire(masks, joins, d, l, r);
         k += 1;
     }
     found
@@ -40,7 +38,7 @@ fn along(
 // The entry of a size of more than 1 by 1, from the entries of its parts.
 fn entry_at(sizes: &[u32], masks: &[u32], joins: Joins, cols: usize, due: usize) -> u32
     requires { ⌜ (1 ≤ cols) × (due < length (now sizes)) ⌝ }
-    ensures { λ x. ⌜ x ≡ entryOf (fireOf (now (masks .entry)) joins) cols (now (sizes .entry)) (sizeAt cols due) ⌝ }
+    ensures { λ x. ⌜ x ≡ entryOf (fireOf (now (masks .entry)) joins) cols (now (sizes .entry)) (slotSize cols due) ⌝ }
 {
     let row = due / cols;
     let col = due % cols;

@@ -1,23 +1,32 @@
--- The cells are those of the sheet that was read, and 144 at most, so that neither product wraps.
+-- The cells are those of the sheet that was read, few enough that neither product wraps.
+use Prim.Native.Nat.{_*_, _≤_}
+use mathlib.Core.Path.{_≡_, ap}
 use native.Mathlib.Omega.{arith}
 use denote.Ref.{now}
+use Rattle.books.specs.Lookups.{sizeOf}
+use Rattle.books.specs.Size.{room}
+use Rattle.books.specs.declared.size.Size.{Size}
 use Rattle.belongs.proofs.NodesGiven.{cells-few}
 use borrow.Author.Needs.{needs}
 use Rattle.belongs.proofs.nodes.Statement.{statement}
 use Rattle.belongs.proofs.nodes.Tie as tie
 
-mul-cells : tie.Need-mul-cells
-mul-cells c = let area = rw (← c .before .before .read-sheet .ensures) at (cells-few (now (c .before .before .before .before .args .sheet))) in omega arith
+-- After the size was asked for: the product is that of the sheet's rows and columns, ...
+cells : (c : tie.After-sheet-size) → let s = now (c .before .before .args .sheet) in
+    c .sheet-size .result .rows * c .sheet-size .result .cols ≡ sizeOf s .rows * sizeOf s .cols
+cells c = ap (λ (z : Size). z .rows * z .cols) (c .sheet-size .ensures)
 
-mul-result : tie.Need-mul-result
-mul-result c = let area = rw (← c .before .before .before .read-sheet .ensures) at (cells-few (now (c .before .before .before .before .before .args .sheet))) in omega arith
-
-returns : tie.Need-returns
-returns c = rw (← c .before .before .before .read-sheet .ensures) (omega arith)
-
-returns-2 : tie.Need-returns-2
-returns-2 c = rw (← c .before .before .before .read-sheet .ensures) (omega arith)
+-- ... and small.
+area : (c : tie.After-sheet-size) → c .sheet-size .result .rows * c .sheet-size .result .cols ≤ room
+area c = omega (arith, cells c, cells-few (now (c .before .before .args .sheet)))
 
 pub nodes-spec : {M : Type 1} → statement M
 nodes-spec =
-    tie.close (tie.spec (λ c κs. search needs) mul-cells returns mul-result (λ c. search needs) returns-2)
+    tie.close
+    (tie.spec
+    (λ c κs. search needs)
+    (λ c. omega (arith, area (c .before)))
+    (λ c. omega (arith, cells (c .before .before)))
+    (λ c. omega (arith, area (c .before .before)))
+    (λ c. search needs)
+    (λ c. omega (arith, cells (c .before .before))))

@@ -1,7 +1,6 @@
 -- Which combination is asked for, and what it makes of a rule.
 use Rattle.books.specs.Contents.{Contents}
 use Rattle.books.specs.declared.rule.Dir.the-variants.{Across as across, Down as down}
-use Rattle.books.specs.declared.rule.Dir.{Dir}
 use Rattle.books.specs.declared.rule.Rule.{Rule}
 use Rattle.books.specs.declared.rule.Body.{Body}
 use Rattle.families.specs.Combine.{either-of, joined, repeated, rebodied, turned, swapped}

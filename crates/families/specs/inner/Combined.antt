@@ -2,6 +2,7 @@
 use Prim.Native.Nat.{ℕ, _+_, _≤_}
 use mathlib.Core.List.{List, [], _∷_}
 use Rattle.books.specs.Picture.{joins}
+use Rattle.books.specs.Keeps.{mostMotifs, mostRules}
 use Rattle.books.specs.declared.rule.Dir.{Dir}
 use Rattle.books.specs.declared.family.Family.{Family}
 use Rattle.families.specs.Combine.{copies}
@@ -29,7 +30,7 @@ addedBy (Joined way) f g = 1
 pub record PairFits (p : Pairing) (f g : Family) : Type 0 where
   pub own : Sized f
   pub other : Fitted g
-  pub room : f .count + g .count + addedBy p f g ≤ 200
+  pub room : f .count + g .count + addedBy p f g ≤ mostRules
 
 unfoldable pub pairRules : Pairing → Family → Family → List ℕ → Rules
 pairRules EitherOf f g numbers =
@@ -42,8 +43,8 @@ pairRules (Joined way) f g numbers =
 -- one family as it is read, with room for the copies under a new start and the rule that joins
 pub record RepeatFits (f : Family) (new : ℕ) : Type 0 where
   pub own : Sized f
-  pub new-fits : new ≤ 32
-  pub room : f .count + headed (f .start) (standing (rulesOf f)) + 1 ≤ 200
+  pub new-fits : new ≤ mostMotifs
+  pub room : f .count + headed (f .start) (standing (rulesOf f)) + 1 ≤ mostRules
 
 unfoldable pub repeatedRules : Dir → Family → ℕ → Rules
 repeatedRules d f new =

@@ -4,6 +4,7 @@ use mathlib.Core.Path.{_≡_}
 use mathlib.Core.List.{List, map}
 use lib.ListN.{length, getD, take}
 use lib.Seq.{sets}
+use Rattle.books.specs.Keeps.{mostRules}
 use Rattle.books.specs.declared.rule.Rule.{Rule}
 use Rattle.families.specs.Combine.{movedRule}
 use Rattle.families.specs.declared.gathering.Rules.{Rules}
@@ -24,7 +25,7 @@ raisedBy by numbers = movedRule (λ a. by + a) (λ c. getD numbers c 0)
 abbrev pub changed : (Rule → Rule) → Rules → Rules
 changed t l = record { count = l .count; rules = sets (l .rules) 0 (map t (standing l)) }
 
--- a row of 200 places, of which no more are taken
+-- a row with a place for as many rules as a book may have, of which no more are taken
 pub record Rows (l : Rules) : Type 0 where
-  pub few : l .count ≤ 200
-  pub places-all : length (l .rules) ≡ 200
+  pub few : l .count ≤ mostRules
+  pub places-all : length (l .rules) ≡ mostRules

@@ -3,7 +3,7 @@ use mathlib.Core.List.{List, List·Memᴰ}
 use Prim.Native.Nat.{ℕ, _≤_, _<_}
 use Rattle.names.specs.Spelling.{mostColours}
 use Rattle.books.specs.ContentsIn.{contentsIn}
-use Rattle.books.specs.Keeps.{RuleFits, Keeps}
+use Rattle.books.specs.Keeps.{mostMotifs, RuleFits, Keeps}
 use Rattle.books.specs.declared.family.Family.{Family}
 use Rattle.books.specs.declared.rule.Rule.{Rule}
 use Rattle.families.specs.inner.Merges.{Lists}
@@ -16,14 +16,14 @@ rulesOf f = record { count = f .count; rules = f .rules }
 -- its counts and its start keep their ranges
 pub record Sized (f : Family) : Type 0 where
   pub colours-few : f .colours .count ≤ mostColours
-  pub motifs-few : f .motifs ≤ 32
+  pub motifs-few : f .motifs ≤ mostMotifs
   pub start-fits : f .start < f .motifs
   pub rows : Rows (rulesOf f)
 
 -- ... its rules fit the greatest counts
 pub record Fitted (f : Family) : Type 0 where
   pub sized : Sized f
-  pub fits : (r : Rule) → List·Memᴰ r (standing (rulesOf f)) → RuleFits 32 mostColours r
+  pub fits : (r : Rule) → List·Memᴰ r (standing (rulesOf f)) → RuleFits mostMotifs mostColours r
 
 -- ... its contents keep the rules of a book, and its colours are parts of the lent one
 pub record Lent (s : List ℕ) (f : Family) : Type 0 where

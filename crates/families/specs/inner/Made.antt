@@ -9,7 +9,7 @@ use Rattle.books.specs.declared.family.Family.{Family}
 use Rattle.books.specs.Contents.{Contents}
 use Rattle.books.specs.ContentsIn.{contentsIn}
 use Rattle.books.specs.Draft.{draftIn, DraftFits}
-use Rattle.families.specs.Within.{within?}
+use Rattle.families.specs.Limits.{withinLimits?}
 use Rattle.families.specs.inner.Asked.{paired, alone}
 use Rattle.families.specs.declared.asked.Pairing.{Pairing}
 use Rattle.families.specs.declared.asked.Single.{Single}
@@ -33,7 +33,7 @@ tooMuch f = record { within = false; draft = record { family = f; more = noColou
 
 -- the names are parts of two lent books, s and t
 pub record Makes (s t : List ℕ) (c : Contents) (m : Made) : Type 0 where
-  pub tested : m .within ≡ within? c
+  pub tested : m .within ≡ withinLimits? c
   pub drafted : m .within ≡ true → draftIn s t (m .draft) ≡ c
   pub ready : DraftFits (m .draft)
 

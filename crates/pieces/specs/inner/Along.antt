@@ -4,7 +4,7 @@ use mathlib.Core.List.{List}
 use lib.ListN.{getD, drop}
 use Rattle.books.specs.declared.rule.Dir.{Dir}
 use Rattle.books.specs.declared.rule.Dir.the-variants.{Across as across, Down as down}
-use Rattle.pieces.specs.Masks.{mostRules}
+use Rattle.books.specs.Keeps.{mostRules}
 use Rattle.pieces.specs.Firing.{gathered, firedAt}
 use Rattle.pieces.specs.inner.Course.{step, after}
 use Rattle.pieces.specs.declared.course.Course.{Course}

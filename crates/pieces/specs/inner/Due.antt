@@ -4,14 +4,14 @@ use Prim.Native.Nat.{ℕ, _+_, _≤_}
 use mathlib.Core.Path.{_≡_}
 use mathlib.Core.Bool.{true}
 use mathlib.Core.List.{List}
-use lib.ListN.{length, take}
+use lib.ListN.{length}
+use Rattle.books.specs.Keeps.{mostRules}
 use Rattle.books.specs.declared.rule.Rule.{Rule}
 use Rattle.pieces.specs.declared.part.Part.{Part}
 use Rattle.pieces.specs.declared.part.Parts.{Parts}
-use Rattle.pieces.specs.declared.piece.Size.{Size}
+use Rattle.books.specs.declared.size.Size.{Size}
 use Rattle.pieces.specs.Area.{treeSize}
 use Rattle.pieces.specs.inner.Fitted.{Fitted, PartFitted}
-use Rattle.pieces.specs.Masks.{mostRules}
 use Rattle.pieces.specs.inner.Seen.{On, wholeOf, Ready, hasBit, seen}
 use Rattle.pieces.specs.inner.TreeWrote.{partRoom, partsRoom}
 
@@ -33,8 +33,8 @@ pub record PartsDue (s : Size) (work colours : List ℕ) (rules : List Rule) (x 
   pub rest-fitted : PartFitted (seen s work colours) rules (x .rest)
 
 -- and for a whole sheet, where a rule need fit only if the start motif has its bit there
-pub record SheetDue (s : Size) (work colours : List ℕ) (rules : List Rule) (count start : ℕ) (tree : List ℕ) : Type 0 where
+pub record SheetDue (s : Size) (work colours : List ℕ) (rules : List Rule) (start : ℕ) (tree : List ℕ) : Type 0 where
   pub ready : Ready s work colours
-  pub few : count ≤ mostRules
+  pub few : length rules ≤ mostRules
   pub room : treeSize (wholeOf s) ≤ length tree
-  pub fitted : hasBit s work start (wholeOf s) ≡ true → Fitted (seen s work colours) (take count rules) start (wholeOf s)
+  pub fitted : hasBit s work start (wholeOf s) ≡ true → Fitted (seen s work colours) rules start (wholeOf s)

@@ -31,7 +31,7 @@ Suits v q (Across l r) = (k : ℕ) × BothSet (v .has) across l r q k
 Suits v q (Down u w) = (k : ℕ) × BothSet (v .has) down u w q k
 
 -- a rule with head a fits
-pub record RuleFits (v : View) (rules : List Rule) (a : ℕ) (q : Piece) : Type 0 where
+pub record SomeFits (v : View) (rules : List Rule) (a : ℕ) (q : Piece) : Type 0 where
   pub number : ℕ
   pub body : Body
   pub below : number < length rules
@@ -47,7 +47,7 @@ pub data NodeOf (v : View) (rules : List Rule) : ℕ → Piece → ℕ → Piece
       → NodeOf v rules r (restPart d k q) x y → NodeOf v rules a q x y
 
 pub record Fitted (v : View) (rules : List Rule) (a : ℕ) (q : Piece) : Type 0 where
-  pub at-each : {x : ℕ} {y : Piece} → NodeOf v rules a q x y → RuleFits v rules x y
+  pub at-each : {x : ℕ} {y : Piece} → NodeOf v rules a q x y → SomeFits v rules x y
 
 abbrev pub PartFitted : View → List Rule → Part → Type 0
 PartFitted v rules x = Fitted v rules (x .motif) (x .piece)

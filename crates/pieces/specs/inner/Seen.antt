@@ -5,17 +5,15 @@ use mathlib.Core.List.{List}
 use lib.Dec.{eqb}
 use lib.ListN.{length, getD}
 use Rattle.names.specs.Pick.{andThen}
+use Rattle.books.specs.Size.{Within}
+use Rattle.books.specs.declared.size.Size.{Size}
+use Rattle.pieces.specs.Most.{most}
 use Rattle.pieces.specs.declared.piece.Piece.{Piece}
-use Rattle.pieces.specs.declared.piece.Size.{Size}
 use Rattle.pieces.specs.declared.part.Parts.{Parts}
 use Rattle.pieces.specs.Pieces.{Inside, total}
 use Rattle.pieces.specs.Area.{whole}
 use Rattle.pieces.specs.View.{View}
 use Rattle.pieces.specs.Largest.{marked}
-use Rattle.pieces.specs.inner.Room.{Room}
-
-abbrev pub sized : ℕ → ℕ → Size
-sized m n = record { rows = m; cols = n }
 
 -- a piece of the sheet, and the whole of it
 abbrev pub On : Size → Piece → Type 0
@@ -41,7 +39,7 @@ bothHave has x = andThen (has (x .first .motif) (x .first .piece)) (λ _. has (x
 
 -- the sheet is of a size that the code has room for, and the table long enough for it; ...
 pub record Tabled (s : Size) (work : List ℕ) : Type 0 where
-  pub sizes : Room (s .rows) (s .cols)
+  pub sizes : Within most (s .rows) (s .cols)
   pub entries : total (s .rows) (s .cols) ≤ length work
 
 -- ... and there is a colour for each cell
@@ -55,7 +53,7 @@ pub record TabledAt (s : Size) (work : List ℕ) (q : Piece) : Type 0 where
   pub on : On s q
 
 pub record Coloured (s : Size) (colours : List ℕ) (q : Piece) : Type 0 where
-  pub sizes : Room (s .rows) (s .cols)
+  pub sizes : Within most (s .rows) (s .cols)
   pub cells : s .rows * s .cols ≤ length colours
   pub on : On s q
 

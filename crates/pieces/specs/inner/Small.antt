@@ -1,17 +1,15 @@
--- The rules that have a place among the masks: motifs among 32 bits, and colours among 64.
+-- The rules that have a place among the masks: motifs among the bits of an entry, and colours among the painters.
 use Prim.Native.Nat.{ℕ, _≤_, _<_}
 use mathlib.Core.List.{List}
 use lib.ListN.{length, getD}
-use Rattle.books.specs.Keeps.{RuleFits}
+use Rattle.names.specs.Spelling.{mostColours}
+use Rattle.books.specs.Keeps.{RuleFits, mostMotifs, mostRules}
 use Rattle.books.specs.Rules.{noRule}
 use Rattle.books.specs.declared.rule.Rule.{Rule}
-use Rattle.pieces.specs.Masks.{mostRules}
 
 abbrev pub Small : Rule → Type 0
-Small r = RuleFits 32 64 r
+Small r = RuleFits mostMotifs mostColours r
 
--- the first so many do
-pub record SmallRules (rs : List Rule) (count : ℕ) : Type 0 where
-  pub few : count ≤ mostRules
-  pub held : count ≤ length rs
-  pub small : (i : ℕ) → i < count → Small (getD rs i noRule)
+pub record SmallRules (rules : List Rule) : Type 0 where
+  pub few : length rules ≤ mostRules
+  pub small : (i : ℕ) → i < length rules → Small (getD rules i noRule)

@@ -1,11 +1,10 @@
 -- The reason as the code finds it, from a slice that holds the table of a picture.
-use Prim.Native.Nat.{ℕ, _*_, _≤_}
+use Prim.Native.Nat.{ℕ, _*_}
 use mathlib.Core.Bool.{Bool}
 use mathlib.Core.List.{List}
 use lib.Dec.{eqb, ltb}
 use lib.ListN.{getD}
 use Rattle.names.specs.Pick.{pick, andThen}
-use Rattle.books.specs.Size.{greatest}
 use Rattle.books.specs.declared.answer.Answer.{Answer}
 use Rattle.names.specs.Counted.{least}
 use Rattle.pieces.specs.Largest.{largestIn}
@@ -13,13 +12,6 @@ use Rattle.reasons.specs.declared.calls.WhyNot.{WhyNot}
 use Rattle.reasons.specs.declared.reason.Reason.{Reason}
 use Rattle.reasons.specs.declared.reason.Reason.the-variants.{NoReason, NoSuchSize}
 use Rattle.reasons.specs.Why.{cellReason, pieceReason}
-
--- rows and columns that a sheet may have
-pub record OfSheet (m n : ℕ) : Type 0 where
-  pub rows-some : 1 ≤ m
-  pub rows-few : m ≤ greatest
-  pub cols-some : 1 ≤ n
-  pub cols-few : n ≤ greatest
 
 -- no motif derives the piece at a slot
 unfoldable pub bare : List ℕ → ℕ → Bool

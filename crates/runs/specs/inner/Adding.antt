@@ -5,33 +5,35 @@ use mathlib.Core.List.{List, [], _∷_}
 use lib.Dec.{eqb}
 use lib.ListN.{length, getD, set, take, drop}
 use Rattle.names.specs.Pick.{pick}
+use Rattle.names.specs.Spelling.{mostColours}
 use Rattle.books.specs.Size.{room}
+use Rattle.books.specs.declared.size.Size.{Size}
 use Rattle.pieces.specs.declared.asking.Asked.{Asked}
-use Rattle.runs.specs.Figures.{mostColours, figuresLong}
+use Rattle.runs.specs.Figures.{answerCounts, figuresLong}
 use Rattle.runs.specs.declared.figures.Figures.{Figures}
 
 abbrev pub answersFrom : ℕ
 answersFrom = 1
 
 abbrev pub cellsFrom : ℕ
-cellsFrom = 11
+cellsFrom = answersFrom + answerCounts
 
 abbrev pub anyAt : ℕ
-anyAt = 75
+anyAt = cellsFrom + mostColours
 
 abbrev pub leastAt : ℕ
-leastAt = 76
+leastAt = anyAt + 1
 
 abbrev pub greatestAt : ℕ
-greatestAt = 77
+greatestAt = anyAt + 2
 
 -- the figures that stand in a slice
 unfoldable pub standing : List ℕ → Figures
 standing f =
     record {
       sheets = getD f 0 0;
-      answers = take 10 (drop answersFrom f);
-      cells = take 64 (drop cellsFrom f);
+      answers = take answerCounts (drop answersFrom f);
+      cells = take mostColours (drop cellsFrom f);
       any = getD f anyAt 0;
       least = getD f leastAt 0;
       greatest = getD f greatestAt 0;
@@ -61,17 +63,34 @@ leastWith any least ticket = pick (eqb any 0) ticket (min least ticket)
 unfoldable pub ticketed : List ℕ → ℕ → List ℕ
 ticketed f t = set (set (set f leastAt (leastWith (getD f anyAt 0) (getD f leastAt 0) t)) greatestAt (max (getD f greatestAt 0) t)) anyAt 1
 
--- every count, of sheets, answers or cells, and what stands behind them, has room for so many more
-abbrev pub Spare : ℕ → List ℕ → Type 0
-Spare n f = (i : ℕ) → i ≤ anyAt → getD f i 0 + n < 2 ^ 32
+-- ── What is asked for ──
+
+-- a slice holds the figures, and each of their counts has room for so many more
+pub record Spare (n : ℕ) (f : List ℕ) : Type 0 where
+  pub long : figuresLong ≤ length f
+  pub more : (i : ℕ) → i < anyAt → getD f i 0 + n < 2 ^ 32
+
+-- an answer that is counted
+pub record Answerable (answer : ℕ) (f : List ℕ) : Type 0 where
+  pub counted : countOf answer < answerCounts
+  pub spare : Spare 1 f
+
+-- so many cells, each of a colour that is counted
+pub record Colourable (cells : List ℕ) (count : ℕ) (f : List ℕ) : Type 0 where
+  pub all : count ≤ length cells
+  pub low : (i : ℕ) → i < count → getD cells i 0 < mostColours
+  pub spare : Spare count f
 
 -- ── A sheet that was asked ──
 
+abbrev pub areaOf : Size → ℕ
+areaOf z = z .rows * z .cols
+
 -- its answer, and where it is accepted its cells and its ticket
-unfoldable pub withAsked : List ℕ → Asked → List ℕ
-withAsked f r =
+unfoldable pub withAsked : List ℕ → Asked → List ℕ → List ℕ
+withAsked f r cells =
     pick (eqb (r .answer .number) 0)
-    (ticketed (coloured (answered f (r .answer .number)) (take (r .rows * r .cols) (r .cells))) (r .ticket))
+    (ticketed (coloured (answered f (r .answer .number)) (take (areaOf (r .size)) cells)) (r .ticket))
     (answered f (r .answer .number))
 
 -- what it can add to a count: itself and its answer, and its cells
@@ -79,11 +98,10 @@ abbrev pub mostAdded : ℕ
 mostAdded = room + 2
 
 -- the figures have room for it
-pub record Addable (r : Asked) (f : List ℕ) : Type 0 where
-  pub counted : countOf (r .answer .number) < 10
-  pub long : figuresLong ≤ length f
+pub record Addable (r : Asked) (cells f : List ℕ) : Type 0 where
+  pub counted : countOf (r .answer .number) < answerCounts
   pub spare : Spare mostAdded f
-  pub cells-room : length (r .cells) ≡ room
-  pub area-few : r .rows * r .cols ≤ room
-  pub cells-low : (i : ℕ) → i < r .rows * r .cols → getD (r .cells) i 0 ≤ mostColours
+  pub area-few : areaOf (r .size) ≤ room
+  pub cells-all : areaOf (r .size) ≤ length cells
+  pub cells-low : r .answer .number ≡ 0 → (i : ℕ) → i < areaOf (r .size) → getD cells i 0 < mostColours
   pub ticket-fits : r .ticket < 2 ^ 32

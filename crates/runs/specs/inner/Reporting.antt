@@ -1,39 +1,48 @@
--- What the functions that report a run leave in the slice of the figures and in the work slice.
+-- What the functions that report a run ask for, and what they leave in the slice of the figures and in the work slice.
 use mathlib.Core.Path.{_≡_}
 use mathlib.Core.List.{List, [], _∷_, _++_}
-use Prim.Native.Nat.{ℕ}
+use Prim.Native.Nat.{ℕ, _≤_}
 use lib.Dec.{eqb}
-use lib.ListN.{drop}
+use lib.ListN.{length, drop}
 use Rattle.names.specs.Pick.{pick}
 use Rattle.names.specs.declared.number.Fault.{Fault}
 use Rattle.books.specs.Answer.{blaming}
 use Rattle.books.specs.declared.answer.Answer.{Answer}
-use Rattle.runs.specs.Figures.{workRoom, figuresOf, figuresLong}
-use Rattle.runs.specs.Outcome.{Outcome, framed}
-use Rattle.runs.specs.inner.Adding.{standing}
+use Rattle.pieces.specs.Asking.{SplitFrom}
+use Rattle.pieces.specs.declared.asking.Split.{Split}
+use Rattle.runs.specs.Run.{framing}
+use Rattle.runs.specs.Figures.{workRoom, figuresOf, noFigures, figuresLong, inARow}
+use Rattle.runs.specs.Outcome.{Told, framed}
+use Rattle.runs.specs.inner.Adding.{mostAdded, Spare}
 
 -- what is refused of a book that was read with a fault or with none, of a run and of so many entries
 abbrev pub refusing : Fault → List ℕ → ℕ → Answer
 refusing f run entries = pick (eqb (f .number) 0) (framed run entries) (blaming 1 f)
 
--- neither slice changes beyond what is lent for
-pub record Beyond (work work-left figures left : List ℕ) : Type 0 where
-  pub figures-same : drop figuresLong left ≡ drop figuresLong figures
-  pub work-same : drop workRoom work-left ≡ drop workRoom work
+-- a book that was split, a work slice with room for the greatest sheet, and figures with room for a sheet more
+pub record SheetDue (book : List ℕ) (split : Split) (masks work figures : List ℕ) : Type 0 where
+  pub from-book : SplitFrom book split masks
+  pub work-long : workRoom ≤ length work
+  pub spare : Spare mostAdded figures
 
--- the figures of any sheets become those of one sheet more
+-- the same with a run whose framing has no fault, and figures of no sheets
+pub record RunDue (book : List ℕ) (split : Split) (masks run work figures : List ℕ) : Type 0 where
+  pub from-book : SplitFrom book split masks
+  pub run-fine : framing run .number ≡ 0
+  pub work-long : workRoom ≤ length work
+  pub none : figures ≡ inARow noFigures ++ drop figuresLong figures
+
+-- the figures of any sheets become those of one sheet more; neither slice changes beyond what is lent for
 pub record Adds (book sheet work work-left figures left : List ℕ) : Type 0 where
-  pub counts : (so-far : List (List ℕ)) → standing figures ≡ figuresOf book so-far → standing left ≡ figuresOf book (so-far ++ (sheet ∷ []))
-  pub beyond : Beyond work work-left figures left
+  pub counts : (so-far : List (List ℕ)) (rest : List ℕ) → figures ≡ inARow (figuresOf book so-far) ++ rest
+      → left ≡ inARow (figuresOf book (so-far ++ (sheet ∷ []))) ++ rest
+  pub work-same : drop workRoom work-left ≡ drop workRoom work
 
 -- the figures are those of these sheets
 pub record Counts (book : List ℕ) (sheets : List (List ℕ)) (work work-left figures left : List ℕ) : Type 0 where
-  pub counts : standing left ≡ figuresOf book sheets
-  pub beyond : Beyond work work-left figures left
+  pub counts : left ≡ inARow (figuresOf book sheets) ++ drop figuresLong figures
+  pub work-same : drop workRoom work-left ≡ drop workRoom work
 
--- the answer, the figures and the work slice are those of an outcome
-pub record Reports (o : Outcome) (a : Answer) (work-left figures left : List ℕ) : Type 0 where
-  pub answers : a ≡ o .answer
-  pub counts : standing left ≡ o .figures
-  pub figures-same : drop figuresLong left ≡ drop figuresLong figures
-  pub leaves : work-left ≡ o .entries
+-- an answer, and both slices as they are left
+abbrev pub telling : Answer → List ℕ → List ℕ → Told
+telling a entries slice = record { answer = a; entries = entries; slice = slice }

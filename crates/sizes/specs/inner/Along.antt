@@ -1,5 +1,5 @@
--- The cuts of a size in one direction as the code goes along them: from cut to cut the first part goes on by a step, from its first entry, and the second part goes back by
--- it, from the entry that is due.
+-- The cuts of a size in one direction as the code goes along them: from cut to cut the first part goes on by a step, from its first entry, and the
+-- second part goes back by it, from the entry that is due.
 use Prim.Native.Nat.{ℕ, _+_, _-_, _*_}
 use mathlib.Core.List.{List}
 use lib.ListN.{getD}

@@ -4,7 +4,7 @@ use mathlib.Core.Path.{_≡_}
 use mathlib.Core.List.{List}
 use Rattle.books.specs.Contents.{Contents}
 use Rattle.names.specs.Bits.{bits}
-use Rattle.sizes.specs.Size.{Size}
+use Rattle.books.specs.declared.size.Size.{Size}
 use Rattle.sizes.specs.Test.{hasSize?}
 use Rattle.sizes.specs.Table.{slot, at}
 

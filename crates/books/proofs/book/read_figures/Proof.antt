@@ -22,7 +22,11 @@ returns-3 c =
     let count = c .before in
     let start = count .before .before .before .before in
     let motifs = start .before .before .before .before in
-    simp ((sym (motifs .before .before .read-in .ensures) ∙ motifs .r2 .given .1), (sym (start .before .before .read-below .ensures) ∙ start .q2 .given .1), (sym (count .before .before .read-in2 .ensures) ∙ count .p .given .1))
+    simp (
+      sym (motifs .before .before .read-in .ensures) ∙ motifs .r2 .given .1,
+      sym (start .before .before .read-below .ensures) ∙ start .q2 .given .1,
+      sym (count .before .before .read-in2 .ensures) ∙ count .p .given .1,
+    )
 
 returns-4 : tie.Need-returns-4
 unfolding figuresAt
@@ -30,7 +34,11 @@ returns-4 c =
     let count = c .before in
     let start = count .before .before .before .before in
     let motifs = start .before .before .before .before in
-    simp ((sym (motifs .before .before .read-in .ensures) ∙ motifs .r2 .given .1), (sym (start .before .before .read-below .ensures) ∙ start .q2 .given .1), (sym (count .before .before .read-in2 .ensures) ∙ count .p2 .given .1))
+    simp (
+      sym (motifs .before .before .read-in .ensures) ∙ motifs .r2 .given .1,
+      sym (start .before .before .read-below .ensures) ∙ start .q2 .given .1,
+      sym (count .before .before .read-in2 .ensures) ∙ count .p2 .given .1,
+    )
 
 pub read-figures-spec : {M : Type 1} → statement M
 read-figures-spec =

@@ -11,12 +11,24 @@ returns c = simp (← c .refused-book .ensures, ne-eqb _ _ (c .before .if1 .take
 
 returns-2 : tie.Need-returns-2
 unfolding ruledAt
-returns-2 c = simp (← c .refused-book2 .ensures, eq-eqb _ _ (c .before .before .if1 .left), lt-ltb _ _ (c .before .if2 .taken))
+returns-2 c =
+    let more = c .before .before in
+    simp (eq-eqb _ _ (more .before .if1 .left), lt-ltb _ _ (more .if2 .taken), ← c .before .fault .ensures) (c .refused-book2 .ensures)
 
 returns-3 : tie.Need-returns-3
 unfolding ruledAt
-returns-3 c = simp (eq-eqb _ _ (c .before .before .if1 .left), le-ltb _ _ (c .before .if2 .left))
+returns-3 c =
+    let whole = c .before .before in
+    simp (c .fault2 .ensures, eq-eqb _ _ (whole .before .if1 .left), le-ltb _ _ (whole .if2 .left))
 
 pub with-rules-spec : {M : Type 1} → statement M
 with-rules-spec =
-    tie.close (tie.spec (λ c κs. search needs) returns (λ c κs. search needs) returns-2 returns-3)
+    tie.close
+    (tie.spec
+    (λ c κs. search needs)
+    returns
+    (λ c κs. search needs)
+    (λ c κs. search needs)
+    returns-2
+    (λ c κs. search needs)
+    returns-3)

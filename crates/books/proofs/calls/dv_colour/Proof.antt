@@ -26,13 +26,16 @@ element-copy-out-len c = omega (arith, places (c .before) .few)
 
 mul-result : tie.Need-mul-result
 mul-result c =
-    let len : Fits w8 (getD (c .before .before .before .before .before .read-book .result .family .colours .lens) (c .before .before .before .before .before .before .before .args .number) 0) = search needs in
+    let read = c .before .before .before .before .before in
+    let len : Fits w8 (getD (read .read-book .result .family .colours .lens) (read .before .before .args .number) 0) = search needs in
     omega arith
 
 add-result : tie.Need-add-result
 add-result c =
-    let start : Fits w16 (getD (c .before .before .before .before .before .read-book .result .family .colours .starts) (c .before .before .before .before .before .before .before .args .number) 0) = search needs in
-    let len : Fits w8 (getD (c .before .before .before .before .before .read-book .result .family .colours .lens) (c .before .before .before .before .before .before .before .args .number) 0) = search needs in
+    let read = c .before .before .before .before .before in
+    let number = read .before .before .args .number in
+    let start : Fits w16 (getD (read .read-book .result .family .colours .starts) number 0) = search needs in
+    let len : Fits w8 (getD (read .read-book .result .family .colours .lens) number 0) = search needs in
     omega arith
 
 returns : tie.Need-returns

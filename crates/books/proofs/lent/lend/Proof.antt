@@ -1,8 +1,8 @@
--- The rules are laid out one after the other: after i turns the rows are those of the first i rules. More than all are not laid out.
+-- The rules are laid out one after the other: after i turns the first i rows are theirs. More than all are not laid out.
 use Prim.Native.Nat.{_-_, _≤_, _<_}
 use mathlib.Core.Path.{_≡_, refl, ap, _∙_}
-use mathlib.Core.Logic.{⊎-elim}
 use native.Mathlib.Omega.{arith}
+use Rattle.books.specs.Keeps.{mostRules}
 use Rattle.books.specs.RuleBytes.{lentRules}
 use Rattle.books.proofs.LentRules.{lent-next, lent-all}
 use borrow.Author.Needs.{needs}
@@ -10,44 +10,36 @@ use Rattle.books.proofs.lent.lend.Statement.{statement}
 use Rattle.books.proofs.lent.lend.Tie as tie
 
 abbrev Inv-loop : tie.InvT-loop
-Inv-loop count rules end rows₀ i₀ rows i = (i ≤ end) × (rows ≡ lentRules rules i)
+Inv-loop count rows₀ rules i₀ rows i = (i ≤ mostRules) × (i ≤ count) × (rows ≡ lentRules rules i)
 
 abbrev μ-loop : tie.MeasureT-loop
-μ-loop count rules end rows₀ i₀ rows i = end - i
-
--- How many are laid out: at most all, and where fewer are asked for, so many.
-module _ (t : tie.Joined1 Inv-loop μ-loop) where
-  end-few : t .if1 .end ≤ 200
-  end-few = ⊎-elim (λ w. omega (arith, w .0, w .1)) (λ w. omega (arith, w .0, w .1)) (t .if1 .came)
-
-  end-all : let a = t .before .args in lentRules (a .t1) (t .if1 .end) ≡ lentRules (a .t1) (a .count)
-  end-all =
-      ⊎-elim
-      (λ w. rw (w .1) (lent-all (t .before .args .t1) _ (omega arith) (omega (arith, w .0))))
-      (λ w. ap (lentRules _) (w .1))
-      (t .if1 .came)
-
-abbrev laid : tie.In-loop Inv-loop μ-loop → tie.Joined1 Inv-loop μ-loop
-laid l = l .before .before
-
-inside : (l : tie.In-loop Inv-loop μ-loop) → l .before .loop .i < 200
-inside l = omega (arith, l .loop-test .taken, end-few (laid l))
+μ-loop count rows₀ rules i₀ rows i = mostRules - i
 
 loop-holds : tie.Need-loop-holds Inv-loop μ-loop
 unfolding lentRules
-loop-holds c = (omega arith, refl)
-
-loop-again : tie.Need-loop-again Inv-loop μ-loop
-loop-again c =
-    let l = c .before .before in
-    let inv = l .before .loop .inv in
-    (omega (arith, l .loop-test .taken), rw (inv .1) (lent-next (laid l .before .args .t1) _ (l .before .loop .i) (omega (arith, inside l)) (inside l) (c .four .ensures)))
+loop-holds c = (omega arith, omega arith, refl)
 
 returns : tie.Need-returns Inv-loop μ-loop
 returns c =
-    let t = c .before in
-    let e : t .loop .i ≡ t .before .if1 .end = omega (arith, t .loop .inv .0, c .loop-test .left) in
-    t .loop .inv .1 ∙ ap (lentRules _) e ∙ end-all (t .before)
+    let l = c .before .before in
+    l .loop .inv .2 ∙ ap (lentRules (l .before .before .args .t1)) (c .if1 .taken)
+
+loop-again : tie.Need-loop-again Inv-loop μ-loop
+loop-again c =
+    let l = c .before .before .before .before in
+    let inv = l .loop .inv in
+    let inside : l .loop .i < mostRules = c .before .before .before .loop-test .taken in
+    let less : l .loop .i < l .before .before .args .count = omega (arith, inv .1, c .before .before .if1 .left) in (
+      omega (arith, inside),
+      omega (arith, less),
+      rw (inv .2) (lent-next (l .before .before .args .t1) _ (l .loop .i) (omega (arith, inside)) inside (c .four .ensures)),
+    )
+
+returns-2 : tie.Need-returns-2 Inv-loop μ-loop
+returns-2 c =
+    let l = c .before in
+    let all : l .loop .i ≡ mostRules = omega (arith, l .loop .inv .0, c .loop-test .left) in
+    l .loop .inv .2 ∙ ap (lentRules (l .before .before .args .t1)) all ∙ lent-all (l .before .before .args .t1) (l .before .before .args .count) (omega arith) (omega (arith, l .loop .inv .1, all))
 
 pub lend-spec : {M : Type 1} → statement M
 lend-spec =
@@ -56,12 +48,13 @@ lend-spec =
     Inv-loop
     μ-loop
     loop-holds
-    (λ c. let h = inside c in search needs)
-    (λ c. inside c)
+    returns
+    (λ c. search needs)
+    (λ c. search needs)
     (λ c κs. search needs)
-    (λ c. let h = inside (c .before .before) in search needs)
-    (λ c. inside (c .before .before))
-    (λ c. let h = inside (c .before .before) in search needs)
+    (λ c. search needs)
+    (λ c. search needs)
+    (λ c. search needs)
     (λ c. search needs)
     loop-again
-    returns)
+    returns-2)

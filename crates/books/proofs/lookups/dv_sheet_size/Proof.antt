@@ -8,7 +8,7 @@ use borrow.Author.Needs.{needs}
 use Rattle.books.proofs.lookups.dv_sheet_size.Statement.{statement}
 use Rattle.books.proofs.lookups.dv_sheet_size.Tie as tie
 
-few : (c : tie.After-sheet-size) → (c .sheet-size .result .rows ≤ greatest) × (c .sheet-size .result .columns ≤ greatest)
+few : (c : tie.After-sheet-size) → (c .sheet-size .result .rows ≤ greatest) × (c .sheet-size .result .cols ≤ greatest)
 few c = rw (c .sheet-size .ensures) (size-few (now (c .before .before .args .sheet)))
 
 mul-result : tie.Need-mul-result

@@ -7,8 +7,9 @@ use Rattle.books.proofs.LookingUp.{count-few, found-read, missing-read}
 use borrow.Author.Needs.{needs}
 use Rattle.books.proofs.lookups.rule.Statement.{statement}
 use Rattle.books.proofs.lookups.rule.Tie as tie
+use Rattle.books.specs.Keeps.{mostRules}
 
-few : (c : tie.Then1) → c .before .before .read-book .result .family .count ≤ 200
+few : (c : tie.Then1) → c .before .before .read-book .result .family .count ≤ mostRules
 few c = rw (c .before .before .read-book .ensures) (count-few (now (c .before .before .before .before .args .book)))
 
 mul-found : tie.Need-mul-found

@@ -26,7 +26,16 @@ returns c =
     let one = spellNames (namesIn (now (a .first)) (a .c)) in
     let two = spellNames (namesIn (now (a .second)) (a .more)) in
     let whole = ap length (colours-spelled (now (a .first)) (now (a .second)) (a .c) (a .more)) in
-    omega (arith, whole, length-append count (one ++ two), length-append one two, spell-few (a .c .count + a .more .count), c .before .before .spelled-len .ensures, c .before .names-len .ensures, c .names-len2 .ensures)
+    omega (
+      arith,
+      whole,
+      length-append count (one ++ two),
+      length-append one two,
+      spell-few (a .c .count + a .more .count),
+      c .before .before .spelled-len .ensures,
+      c .before .names-len .ensures,
+      c .names-len2 .ensures,
+    )
 
 pub colours-len-spec : {M : Type 1} → statement M
 colours-len-spec =

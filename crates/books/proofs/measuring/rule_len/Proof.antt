@@ -12,7 +12,9 @@ add-result : tie.Need-add-result
 add-result c = omega (arith, spell-few (c .before .before .before .args .r .head), c .body-len .ensures)
 
 returns : tie.Need-returns
-returns c = omega (arith, length-append (spellNumber (c .before .before .before .args .r .head)) (spellBody (c .before .before .before .args .r .body)), spell-few (c .before .before .before .args .r .head), c .body-len .ensures)
+returns c =
+    let r = c .before .before .before .args .r in
+    omega (arith, length-append (spellNumber (r .head)) (spellBody (r .body)), spell-few (r .head), c .body-len .ensures)
 
 pub rule-len-spec : {M : Type 1} → statement M
 rule-len-spec =

@@ -34,7 +34,7 @@ loop-again c =
     (omega arith, simp (left-suc _ _ less, rule) at (c .before .before .before .before .before .loop .inv .1))
 
 returns-2 : tie.Need-returns-2 Inv-loop μ-loop
-returns-2 c = simp (left-none _ _ (c .loop-test .left)) at (c .before .loop .inv .1)
+returns-2 c = rw (c .fault .ensures) (simp (left-none _ _ (c .before .loop-test .left)) at (c .before .before .loop .inv .1))
 
 pub read-rules-spec : {M : Type 1} → statement M
 read-rules-spec =
@@ -54,4 +54,5 @@ read-rules-spec =
     (λ c. omega arith)
     (λ c. omega arith)
     loop-again
+    (λ c κs. tt)
     returns-2)

@@ -13,7 +13,7 @@ returns : tie.Need-returns
 returns c =
     let tested = c .before .before .before .before .before .before .before in
     let within = tested .if1 .taken in
-    let w = draft-wrote (began tested .pre .ready) (c .before .before .before .before .write-book .ensures) in
+    let w = draft-wrote (began tested .pre) (c .before .before .before .before .write-book .ensures) in
     simp (within, written-by) (record { answers = simp (c .before .unblamed .ensures, w .answers) at (c .pack .ensures); leaves = w .leaves })
 
 returns-2 : tie.Need-returns-2

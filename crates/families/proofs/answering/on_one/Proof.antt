@@ -1,13 +1,12 @@
--- A refused book is blamed; of an accepted one the combination is made, which keeps the rules, so that its length can be answered, and finished.
+-- A refused book is blamed; of an accepted one the combination is made and finished.
 use Prim.Native.Nat.{ℕ}
-use mathlib.Core.List.{List}
+use mathlib.Core.List.{List, []}
 use denote.Ref.{now}
-use Rattle.books.specs.Contents.{Contents}
 use Rattle.books.specs.ContentsIn.{contentsIn}
 use Rattle.families.specs.inner.Lent.{Lent}
 use Rattle.families.specs.inner.Asked.{alone}
 use Rattle.families.proofs.Reading.{read-lent, read-accepted, blamed-leaves}
-use Rattle.families.proofs.Finishing.{alone-keeps, finishes, finished-leaves}
+use Rattle.families.proofs.Finishing.{finished-leaves}
 use borrow.Author.Needs.{needs}
 use Rattle.families.proofs.answering.on_one.Statement.{statement}
 use Rattle.families.proofs.answering.on_one.Tie as tie
@@ -38,13 +37,7 @@ make-single-requires : tie.Need-make-single-requires
 make-single-requires c κs = book-lent (c .before) .fitted .sized
 
 finish-requires : tie.Need-finish-requires
-finish-requires c κs =
-    let accepted = c .before .before .before in
-    let r = read (accepted .before) in
-    let single = began r .args .single in
-    let contents : Contents = contentsIn (book r) (r .read-book .result .family) in
-    finishes (book r) (book r) (alone single contents) (c .before .make-single .result) (c .before .make-single .ensures (book r) (book r))
-    (alone-keeps single contents (book-lent accepted .keeps))
+finish-requires c κs = c .before .make-single .ensures [] [] .ready
 
 returns-2 : tie.Need-returns-2
 returns-2 c =

@@ -1,4 +1,4 @@
--- A refused second book is blamed; of two accepted ones the combination is made, which keeps the rules, so that its length can be answered, and finished.
+-- A refused second book is blamed; of two accepted ones the combination is made and finished.
 use Prim.Native.Nat.{ℕ}
 use mathlib.Core.List.{List}
 use denote.Ref.{now}
@@ -7,7 +7,7 @@ use Rattle.books.specs.ContentsIn.{contentsIn}
 use Rattle.families.specs.inner.Lent.{Lent}
 use Rattle.families.specs.inner.Asked.{paired}
 use Rattle.families.proofs.Reading.{read-lent, read-accepted, blamed-leaves}
-use Rattle.families.proofs.Finishing.{paired-keeps, finishes, finished-leaves}
+use Rattle.families.proofs.Finishing.{finished-leaves}
 use borrow.Author.Needs.{needs}
 use Rattle.families.proofs.answering.on_second.Statement.{statement}
 use Rattle.families.proofs.answering.on_second.Tie as tie
@@ -45,12 +45,7 @@ make-pair-requires : tie.Need-make-pair-requires
 make-pair-requires c κs = (began (read (c .before .before)) .pre, second-lent (c .before))
 
 finish-requires : tie.Need-finish-requires
-finish-requires c κs =
-    let accepted = c .before .before .before in
-    let r = read (accepted .before) in
-    let a = began r .args in
-    finishes (now (a .first)) (second r) (paired (a .pairing) (firstIn r) (secondIn r)) (c .before .make-pair .result) (c .before .make-pair .ensures)
-    (paired-keeps (a .pairing) (firstIn r) (secondIn r) (began r .pre .keeps) (second-lent accepted .keeps))
+finish-requires c κs = c .before .make-pair .ensures .ready
 
 returns-2 : tie.Need-returns-2
 returns-2 c =

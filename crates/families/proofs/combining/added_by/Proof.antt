@@ -1,4 +1,4 @@
--- Each pairing is a line of the definition; a start has at most 200 rules.
+-- Each pairing is a line of the definition; a start has no more rules than its book.
 use native.Mathlib.Omega.{arith}
 use Rattle.families.proofs.AddingRules.{copied-few}
 use borrow.Author.Needs.{needs}

@@ -4,12 +4,14 @@ use mathlib.Core.Path.{_≡_, refl, ap}
 use mathlib.Core.Logic.{⊎-elim}
 use native.Mathlib.Omega.{arith}
 use borrow.Author.Needs.{needs}
+use borrow.Author.Tests.{eq-eqb, ne-eqb}
 use lib.ListN.{length, drop}
 use lib.Seq.{sets}
+use Rattle.books.specs.Keeps.{mostRules}
 use Rattle.families.specs.Combine.{copies}
 use Rattle.families.specs.inner.Gathered.{standing}
 use Rattle.families.proofs.Counting.{copies-length}
-use Rattle.families.proofs.AddingRules.{one-written, left-none, copies-here, copies-elsewhere}
+use Rattle.families.proofs.AddingRules.{one-written, left-none, copied-next}
 use Rattle.families.proofs.gathering.add_copies.Statement.{statement}
 use Rattle.families.proofs.gathering.add_copies.Tie as tie
 
@@ -26,22 +28,13 @@ loop-holds : tie.Need-loop-holds Inv-loop μ-loop
 loop-holds c = (omega arith, refl, refl)
 
 -- a rule that is to be copied has a place
-placed : (c : tie.Then1 Inv-loop μ-loop) → c .before .before .before .before .loop .at < 200
+placed : (c : tie.Then1 Inv-loop μ-loop) → c .before .before .before .before .loop .at < mostRules
 placed c =
     let a = c .before .before .before .before .before .before .args in
     let p = c .before .before .before .before .before .before .pre in
     let l = c .before .before .before .before .loop in
-    let here = ap length (copies-here (a .t2) (p .1) (a .head) (l .i) (c .before .before .before .loop-test .taken) (a .new) (c .if1 .taken)) in
+    let here = ap length (copied-next (a .t2) (p .1) (a .head) (l .i) (c .before .before .before .loop-test .taken) (eq-eqb _ _ (c .if1 .taken)) (a .new)) in
     omega (arith, p .0, l .inv .1, here, copies-length (a .new) (a .head) (standing (a .t2)))
-
-mul-rules : tie.Need-mul-rules Inv-loop μ-loop
-mul-rules c = omega (arith, placed c)
-
-array-set-from-rules : tie.Need-array-set-from-rules Inv-loop μ-loop
-array-set-from-rules c = omega (arith, placed c)
-
-add-at : tie.Need-add-at Inv-loop μ-loop
-add-at c = omega (arith, placed c)
 
 loop-again : tie.Need-loop-again Inv-loop μ-loop
 loop-again c =
@@ -51,11 +44,11 @@ loop-again c =
     let less = c .before .before .before .loop-test .taken in
     ⊎-elim
     (λ w.
-    let here = copies-here (a .t2) rows (a .head) (l .i) less (a .new) (w .0 .taken) in
+    let here = copied-next (a .t2) rows (a .head) (l .i) less (eq-eqb _ _ (w .0 .taken)) (a .new) in
     let inv = simp here at (l .inv) in
     simp (w .1, w .2, one-written) (omega arith, omega (arith, inv .1), inv .2))
     (λ w.
-    let elsewhere = copies-elsewhere (a .t2) rows (a .head) (l .i) less (a .new) (w .0 .left) in
+    let elsewhere = copied-next (a .t2) rows (a .head) (l .i) less (ne-eqb _ _ (w .0 .left)) (a .new) in
     let inv = simp elsewhere at (l .inv) in
     simp (w .1, w .2) (omega arith, inv .1, inv .2))
     (c .if1 .came)
@@ -80,9 +73,9 @@ add-copies-spec =
     (λ c. omega arith)
     (λ c. search needs)
     (λ c. omega arith)
-    mul-rules
-    array-set-from-rules
-    add-at
+    (λ c. omega (arith, placed c))
+    (λ c. omega (arith, placed c))
+    (λ c. omega (arith, placed c))
     (λ c. omega arith)
     (λ c. omega arith)
     loop-again

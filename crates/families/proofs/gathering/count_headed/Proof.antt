@@ -4,10 +4,11 @@ use mathlib.Core.Path.{_≡_, ap}
 use mathlib.Core.Logic.{⊎-elim}
 use native.Mathlib.Omega.{arith}
 use borrow.Author.Needs.{needs}
+use borrow.Author.Tests.{eq-eqb, ne-eqb}
 use lib.ListN.{drop}
 use Rattle.families.specs.inner.Counts.{headed}
 use Rattle.families.specs.inner.Gathered.{standing}
-use Rattle.families.proofs.AddingRules.{left-none, headed-here, headed-elsewhere}
+use Rattle.families.proofs.AddingRules.{left-none, headed-next}
 use Rattle.families.proofs.gathering.count_headed.Statement.{statement}
 use Rattle.families.proofs.gathering.count_headed.Tie as tie
 
@@ -24,8 +25,8 @@ loop-again c =
     let i = c .before .before .before .before .loop .i in
     let less = c .before .before .before .loop-test .taken in
     ⊎-elim
-    (λ w. omega (arith, headed-here (a .t1) rows (a .head) i less (w .0 .taken)))
-    (λ w. omega (arith, headed-elsewhere (a .t1) rows (a .head) i less (w .0 .left)))
+    (λ w. omega (arith, headed-next (a .t1) rows (a .head) i less (eq-eqb _ _ (w .0 .taken))))
+    (λ w. omega (arith, headed-next (a .t1) rows (a .head) i less (ne-eqb _ _ (w .0 .left))))
     (c .if1 .came)
 
 returns : tie.Need-returns Inv-loop μ-loop

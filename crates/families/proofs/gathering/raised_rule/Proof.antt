@@ -5,33 +5,6 @@ use borrow.Author.Needs.{needs}
 use Rattle.families.proofs.gathering.raised_rule.Statement.{statement}
 use Rattle.families.proofs.gathering.raised_rule.Tie as tie
 
-array-read-t17 : tie.Need-array-read-t17
-array-read-t17 c = simp (c .before .body .given .1) at (c .before .before .before .before .pre .1 .body-fits)
-
-add-t19 : tie.Need-add-t19
-add-t19 c =
-    let p = c .before .before .before .before .pre in
-    let fits = simp (c .before .body2 .given .1) at (p .1 .body-fits) in
-    omega (arith, fits, p .0)
-
-add-t20 : tie.Need-add-t20
-add-t20 c =
-    let p = c .before .before .before .before .pre in
-    let fits = simp (c .before .body2 .given .1) at (p .1 .body-fits) in
-    omega (arith, fits, p .0)
-
-add-t22 : tie.Need-add-t22
-add-t22 c =
-    let p = c .before .before .before .before .pre in
-    let fits = simp (c .before .body3 .given .1) at (p .1 .body-fits) in
-    omega (arith, fits, p .0)
-
-add-t23 : tie.Need-add-t23
-add-t23 c =
-    let p = c .before .before .before .before .pre in
-    let fits = simp (c .before .body3 .given .1) at (p .1 .body-fits) in
-    omega (arith, fits, p .0)
-
 returns : tie.Need-returns
 unfolding raisedBy
 returns c = simp (c .before .body .given .1)
@@ -52,13 +25,13 @@ raised-rule-spec =
     (λ c. search needs)
     (λ c. search needs)
     (λ c. search needs)
-    array-read-t17
+    (λ c. simp (c .before .body .given .1) at (c .before .before .before .before .pre .1 .body-fits))
     (λ c. search needs)
-    add-t19
-    add-t20
+    (λ c. let p = c .before .before .before .before .pre in omega (arith, simp (c .before .body2 .given .1) at (p .1 .body-fits), p .0))
+    (λ c. let p = c .before .before .before .before .pre in omega (arith, simp (c .before .body2 .given .1) at (p .1 .body-fits), p .0))
     (λ c. search needs)
-    add-t22
-    add-t23
+    (λ c. let p = c .before .before .before .before .pre in omega (arith, simp (c .before .body3 .given .1) at (p .1 .body-fits), p .0))
+    (λ c. let p = c .before .before .before .before .pre in omega (arith, simp (c .before .body3 .given .1) at (p .1 .body-fits), p .0))
     returns
     returns-2
     returns-3)

@@ -4,10 +4,11 @@ use mathlib.Core.Path.{_≡_, sym, _∙_}
 use native.Mathlib.Omega.{arith}
 use denote.Ref.{now}
 use Rattle.books.specs.ContentsIn.{contentsIn}
-use Rattle.families.specs.Within.{few?, within?}
+use Rattle.books.specs.Keeps.{mostRules}
+use Rattle.families.specs.Limits.{countsWithin?, withinLimits?}
 use Rattle.families.specs.inner.Asked.{paired}
 use Rattle.families.specs.inner.Combined.{addedBy}
-use Rattle.families.proofs.Testing.{few-true}
+use Rattle.families.proofs.Testing.{counts-within}
 use Rattle.families.proofs.AddingRules.{added-few}
 use Rattle.families.proofs.Drafts.{exceeding-makes}
 use Rattle.families.proofs.DraftsOfTwo.{pair-test, pair-makes}
@@ -23,34 +24,28 @@ abbrev began : tie.After-struct-known6 → tie.Start
 began c = merged c .before .before .before
 
 -- the counts of rules are small
-counted : (c : tie.After-struct-known6) → let a = began c .args in (a .f .count + a .g .count ≤ 400) × (c .before .before .before .before .added-by .result ≤ 400)
+counted : (c : tie.After-struct-known6) → let a = began c .args in (a .f .count + a .g .count ≤ mostRules + mostRules) × (c .before .before .before .before .added-by .result ≤ mostRules + mostRules)
 counted c =
     let a = began c .args in
     let own = began c .pre .0 .fitted .sized in
     let other = began c .pre .1 .fitted .sized in
     (omega (arith, own .rows .few, other .rows .few), omega (arith, added-few (a .pairing) (a .f) (a .g) own other, c .before .before .before .before .added-by .ensures))
 
-add-within-3 : tie.Need-add-within-3
-add-within-3 c = omega (arith, counted c)
-
-add-within-4 : tie.Need-add-within-4
-add-within-4 c = omega (arith, counted c)
-
 -- the test, and what it says where it holds
-counts : (c : tie.After-within) → let a = began (c .before) .args in
-    c .within .result
-    ≡ few? (a .f .colours .count + merged (c .before) .merge .result .more .count) (a .f .motifs + a .g .motifs + 1) (a .f .count + a .g .count + addedBy (a .pairing) (a .f) (a .g))
-counts c = simp (c .before .before .before .before .before .added-by .ensures) at (c .within .ensures)
+counts : (c : tie.After-counts-within) → let a = began (c .before) .args in
+    c .counts-within .result
+    ≡ countsWithin? (a .f .colours .count + merged (c .before) .merge .result .more .count) (a .f .motifs + a .g .motifs + 1) (a .f .count + a .g .count + addedBy (a .pairing) (a .f) (a .g))
+counts c = simp (c .before .before .before .before .before .added-by .ensures) at (c .counts-within .ensures)
 
-tested : (c : tie.After-within) → let a = began (c .before) .args in
-    c .within .result ≡ within? (paired (a .pairing) (contentsIn (now (a .first)) (a .f)) (contentsIn (now (a .second)) (a .g)))
+tested : (c : tie.After-counts-within) → let a = began (c .before) .args in
+    c .counts-within .result ≡ withinLimits? (paired (a .pairing) (contentsIn (now (a .first)) (a .f)) (contentsIn (now (a .second)) (a .g)))
 tested c =
     let a = began (c .before) .args in
     let p = began (c .before) .pre in
     counts c ∙ sym (pair-test (now (a .first)) (now (a .second)) (a .f) (a .g) _ (p .0) (p .1) (merged (c .before) .merge .ensures) (a .pairing))
 
-room : (c : tie.Then1) → let a = began (c .before .before) .args in a .f .count + a .g .count + addedBy (a .pairing) (a .f) (a .g) ≤ 200
-room c = few-true _ _ _ (sym (counts (c .before)) ∙ c .if1 .taken) .2
+room : (c : tie.Then1) → let a = began (c .before .before) .args in a .f .count + a .g .count + addedBy (a .pairing) (a .f) (a .g) ≤ mostRules
+room c = counts-within _ _ _ (sym (counts (c .before)) ∙ c .if1 .taken) .2
 
 pair-rules-requires : tie.Need-pair-rules-requires
 pair-rules-requires c κs =
@@ -86,8 +81,8 @@ make-pair-spec =
     (λ c κs. search needs)
     (λ c. search needs)
     (λ c. search needs)
-    add-within-3
-    add-within-4
+    (λ c. omega (arith, counted c))
+    (λ c. omega (arith, counted c))
     (λ c κs. search needs)
     pair-rules-requires
     add-drafting

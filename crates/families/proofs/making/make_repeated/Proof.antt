@@ -4,12 +4,13 @@ use mathlib.Core.Path.{_≡_, sym, _∙_}
 use mathlib.Core.List.{List}
 use native.Mathlib.Omega.{arith}
 use Rattle.books.specs.ContentsIn.{contentsIn}
+use Rattle.books.specs.Keeps.{mostRules}
 use Rattle.families.specs.Combine.{repeated}
 use Rattle.families.specs.inner.Counts.{headed}
 use Rattle.families.specs.inner.Gathered.{standing}
 use Rattle.families.specs.inner.Lent.{rulesOf}
-use Rattle.families.specs.Within.{few?, within?}
-use Rattle.families.proofs.Testing.{few-true}
+use Rattle.families.specs.Limits.{countsWithin?, withinLimits?}
+use Rattle.families.proofs.Testing.{counts-within}
 use Rattle.families.proofs.AddingRules.{copied-few}
 use Rattle.families.proofs.Drafts.{exceeding-makes, repeated-test, repeated-makes}
 use borrow.Author.Needs.{needs}
@@ -24,27 +25,21 @@ abbrev began : tie.After-struct-known2 → tie.Start
 began c = copied c .before
 
 -- the counts of rules are small
-counted : (c : tie.After-struct-known2) → (began c .args .f .count ≤ 200) × (copied c .start-rules .result ≤ 200)
+counted : (c : tie.After-struct-known2) → (began c .args .f .count ≤ mostRules) × (copied c .start-rules .result ≤ mostRules)
 counted c = (began c .pre .rows .few, omega (arith, copied-few (began c .args .f) (began c .pre), copied c .start-rules .ensures))
 
-add-within-2 : tie.Need-add-within-2
-add-within-2 c = omega (arith, counted c)
-
-add-within-3 : tie.Need-add-within-3
-add-within-3 c = omega (arith, counted c)
-
 -- the test, and what it says where it holds
-counts : (c : tie.After-within) → let f = began (c .before) .args .f in
-    c .within .result ≡ few? (f .colours .count) (f .motifs + 1) (f .count + headed (f .start) (standing (rulesOf f)) + 1)
-counts c = rw (copied (c .before) .start-rules .ensures) at (c .within .ensures)
+counts : (c : tie.After-counts-within) → let f = began (c .before) .args .f in
+    c .counts-within .result ≡ countsWithin? (f .colours .count) (f .motifs + 1) (f .count + headed (f .start) (standing (rulesOf f)) + 1)
+counts c = rw (copied (c .before) .start-rules .ensures) at (c .counts-within .ensures)
 
-tested : (c : tie.After-within) (s : List ℕ) → let a = began (c .before) .args in c .within .result ≡ within? (repeated (a .way) (contentsIn s (a .f)))
+tested : (c : tie.After-counts-within) (s : List ℕ) → let a = began (c .before) .args in c .counts-within .result ≡ withinLimits? (repeated (a .way) (contentsIn s (a .f)))
 tested c s =
     let a = began (c .before) .args in
     counts c ∙ sym (repeated-test s s (a .f) (began (c .before) .pre) (a .way))
 
-room : (c : tie.Then1) → let f = began (c .before .before) .args .f in f .count + headed (f .start) (standing (rulesOf f)) + 1 ≤ 200
-room c = few-true _ _ _ (sym (counts (c .before)) ∙ c .if1 .taken) .2
+room : (c : tie.Then1) → let f = began (c .before .before) .args .f in f .count + headed (f .start) (standing (rulesOf f)) + 1 ≤ mostRules
+room c = counts-within _ _ _ (sym (counts (c .before)) ∙ c .if1 .taken) .2
 
 repeated-rules-requires : tie.Need-repeated-rules-requires
 repeated-rules-requires c κs =
@@ -69,8 +64,8 @@ make-repeated-spec =
     (tie.spec
     (λ c κs. search needs)
     (λ c. search needs)
-    add-within-2
-    add-within-3
+    (λ c. omega (arith, counted c))
+    (λ c. omega (arith, counted c))
     (λ c κs. search needs)
     repeated-rules-requires
     (λ c κs. search needs)

@@ -31,7 +31,7 @@ returns-2 : tie.Need-returns-2 Inv-loop μ-loop
 returns-2 c =
     let there = c .before .before .before in
     let turn = there .before in
-    simp (left-suc _ _ (turn .loop-test .taken), lt-leb _ _ (there .if1 .left), ← c .before .least-at .ensures, lt-ltb _ _ (c .if2 .taken))
+    simp (left-suc _ _ (turn .loop-test .taken), lt-leb _ _ (there .if1 .left), ← c .before .least-byte .ensures, lt-ltb _ _ (c .if2 .taken))
     at (turn .before .loop .inv .1)
 
 returns-3 : tie.Need-returns-3 Inv-loop μ-loop
@@ -41,7 +41,7 @@ returns-3 c =
     let turn = there .before in
     let low = le-ltb _ _ (c .before .if2 .left) in
     let high : 126 < byte (turn .before) = omega (arith, c .if3 .taken) in
-    simp (left-suc _ _ (turn .loop-test .taken), lt-leb _ _ (there .if1 .left), ← least .least-at .ensures, low, lt-ltb _ _ high)
+    simp (left-suc _ _ (turn .loop-test .taken), lt-leb _ _ (there .if1 .left), ← least .least-byte .ensures, low, lt-ltb _ _ high)
     at (turn .before .loop .inv .1)
 
 loop-again : tie.Need-loop-again Inv-loop μ-loop
@@ -52,7 +52,7 @@ loop-again c =
     let low = le-ltb _ _ (c .before .if2 .left) in
     let high : byte (turn .before) ≤ 126 = omega (arith, c .if3 .left) in (
       omega arith,
-      simp (left-suc _ _ (turn .loop-test .taken), lt-leb _ _ (there .if1 .left), ← least .least-at .ensures, low, le-ltb _ _ high)
+      simp (left-suc _ _ (turn .loop-test .taken), lt-leb _ _ (there .if1 .left), ← least .least-byte .ensures, low, le-ltb _ _ high)
           at (turn .before .loop .inv .1),
     )
 

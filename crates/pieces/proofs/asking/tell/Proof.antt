@@ -17,15 +17,15 @@ use Rattle.pieces.proofs.asking.tell.Tie as tie
 abbrev began : tie.After-fits2 → tie.Start
 began t = t .before .before .before .before .before .before .before
 
-shows : (t : tie.After-fits2) → Shows (began t .args .s)
+shows : (t : tie.After-fits2) → let a = began t .args in Shows (a .s) (now (a .cells))
 shows t = began t .pre (t .before .before .before .if1 .left)
 
-enough : (t : tie.After-fits2) → let a = began t .args in total (a .s .rows) (a .s .cols) ≤ length (now (a .work))
+enough : (t : tie.After-fits2) → let a = began t .args in total (a .s .size .rows) (a .s .size .cols) ≤ length (now (a .work))
 enough t = le-trans (le-of-eq (sym (t .before .before .count .ensures .0))) (t .before .if2 .left)
 
 -- After the table was filled: where the masks were held to their number.
 abbrev tested : tie.After-fill-from → tie.After-fits2
-tested w = w .before .before .before .before .before
+tested w = w .before .before .before .before
 
 returns : tie.Need-returns
 unfolding toldBy
@@ -42,19 +42,19 @@ returns-2 c =
     let k = c .before .before in
     let a = k .before .before .before .before .before .args in
     let short = lt-of-lt-of-le (c .before .if2 .taken) (le-of-eq (k .count .ensures .0)) in
-    rw (c .unblamed .ensures, eq-eqb (a .s .fault .number) 0 (k .before .if1 .left), lt-ltb (length (now (a .work))) (total (a .s .rows) (a .s .cols)) short)
+    rw (c .unblamed .ensures, eq-eqb (a .s .fault .number) 0 (k .before .if1 .left), lt-ltb (length (now (a .work))) (total (a .s .size .rows) (a .s .size .cols)) short)
 
 fill-from-requires : tie.Need-fill-from-requires
 fill-from-requires c κs =
-    let y = c .before .before .before in
+    let y = c .before .before in
     let t = y .before in
     let s = shows t in
-    (record { sizes = s .sizes; entries = enough t }, fitting-fit _ _ (sym (t .fits2 .ensures) ∙ y .if3 .taken), s .cells)
+    (record { sizes = s .sizes; entries = enough t }, fitting-fit _ _ (sym (t .fits2 .ensures) ∙ y .if3 .taken), s .painted)
 
 whole-sheet-requires : tie.Need-whole-sheet-requires
 whole-sheet-requires c κs =
     let w = c .before .before .before in
-    record { sizes = shows (tested w) .sizes; entries = le-trans (enough (tested w)) (le-of-eq (sym (w .fill-from .kept .1 .1 .1 .1 .1 .0))) }
+    record { sizes = shows (tested w) .sizes; entries = le-trans (enough (tested w)) (le-of-eq (sym (w .fill-from .kept .1 .1 .1 .1 .0))) }
 
 returns-3 : tie.Need-returns-3
 unfolding toldBy
@@ -66,10 +66,10 @@ returns-3 c =
       c .unblamed2 .ensures,
       c .before .whole-sheet .ensures,
       eq-eqb (a .s .fault .number) 0 (t .before .before .before .if1 .left),
-      le-ltb (length (now (a .work))) (total (a .s .rows) (a .s .cols)) (enough t),
-      sym (t .fits2 .ensures) ∙ w .before .before .before .before .if3 .taken,
+      le-ltb (length (now (a .work))) (total (a .s .size .rows) (a .s .size .cols)) (enough t),
+      sym (t .fits2 .ensures) ∙ w .before .before .before .if3 .taken,
     )
-    (ap (judgedBy (a .s .rows) (a .s .cols) (a .start)) (w .fill-from .ensures))
+    (ap (judgedBy (a .s .size .rows) (a .s .size .cols) (a .start)) (w .fill-from .ensures))
 
 returns-4 : tie.Need-returns-4
 unfolding toldBy
@@ -79,7 +79,7 @@ returns-4 c =
     rw (
       c .unblamed3 .ensures,
       eq-eqb (a .s .fault .number) 0 (t .before .before .before .if1 .left),
-      le-ltb (length (now (a .work))) (total (a .s .rows) (a .s .cols)) (enough t),
+      le-ltb (length (now (a .work))) (total (a .s .size .rows) (a .s .size .cols)) (enough t),
       sym (t .fits2 .ensures) ∙ c .before .if3 .left,
     )
 
@@ -93,7 +93,6 @@ tell-spec =
     (λ c κs. search needs)
     returns-2
     (λ c κs. search needs)
-    (λ c. search needs)
     fill-from-requires
     whole-sheet-requires
     (λ c κs. search needs)

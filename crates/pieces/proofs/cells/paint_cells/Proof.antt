@@ -4,7 +4,7 @@ use mathlib.Core.List.{List}
 use Prim.Native.Nat.{ℕ, _+_, _-_, _≤_}
 use native.Mathlib.Omega.{arith}
 use lib.ListN.{length, getD, set, length-set}
-use Rattle.books.proofs.Ordering.{one-numbered}
+use Rattle.books.proofs.NumberedCells.{one-numbered}
 use Rattle.pieces.specs.Masks.{paintersFrom}
 use Rattle.pieces.specs.Filling.{paintedBy}
 use borrow.Author.Needs.{needs}

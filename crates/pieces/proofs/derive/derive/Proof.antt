@@ -1,124 +1,167 @@
--- An order with a fault is answered with it, one for which a slice is too short with that, and else what the table tells is the answer.
+-- A book or a sheet with a fault is answered with it, slices that are too short with that, and else what the table tells is the answer.
 use mathlib.Core.Path.{_≡_, refl, sym, ap, _∙_}
-use Prim.Native.Nat.{_≤_}
+use Prim.Native.Nat.{ℕ, _≤_}
 use native.Mathlib.Nat.{le-trans, le-of-eq}
+use mathlib.Core.List.{List}
 use lib.ListN.{length}
+use lib.Seq.{length-take-le}
 use denote.Ref.{now}
-use Rattle.names.proofs.SpellingNumbers.{Bytes}
+use Rattle.names.specs.Bytes.{Bytes}
 use Rattle.books.specs.Answer.{plain}
-use Rattle.pieces.specs.Area.{whole, treeSize}
-use Rattle.pieces.specs.Pieces.{total}
+use Rattle.books.proofs.LentRules.{rows-held}
+use Rattle.pieces.specs.inner.ForTable.{Shows}
+use Rattle.pieces.specs.inner.Verdict.{lacking}
+use Rattle.pieces.proofs.AskingSheets.{read-shows}
+use Rattle.pieces.proofs.Deriving.{book-blamed, rows-small, masks-fit, sheet-blamed, room-lacks, nodes-fit, derived-as}
 use Rattle.pieces.proofs.Lacking.{nothing-lacks}
-use Rattle.pieces.proofs.Orders.{Ordered, refused, ordered, lacks, fit, told}
 use borrow.Author.Needs.{needs}
 use Rattle.pieces.proofs.derive.derive.Statement.{statement}
 use Rattle.pieces.proofs.derive.derive.Tie as tie
 
--- After the order was read: where the call began.
-abbrev began : tie.After-read-order → tie.Start
-began k = k .before .before .before .before .before
+-- Back from a call to the one before it: the book read, the sheet numbered, the slices held to it, the rules split, the table filled.
+abbrev began : tie.After-read-rules → tie.Start
+began r = r .before .before .before .before .before .before
 
--- After an order with no fault was held to the slices' lengths: where it was read, and what it gives.
-abbrev order-read : tie.After-lack → tie.After-read-order
-order-read l = l .before .before .before
+abbrev book-read : tie.After-number-sheet → tie.After-read-rules
+book-read n = n .before .before .before .before .before .before .before .before
 
-book-bytes : (k : tie.After-read-order) → Bytes (now (began k .args .book))
-book-bytes k i = k .before .before .before .before .shared-slice-known .given i .fits
+abbrev sheet-read : tie.After-lack → tie.After-number-sheet
+sheet-read l = l .before .before .before
 
-sheet-bytes : (k : tie.After-read-order) → Bytes (now (began k .args .sheet))
-sheet-bytes k i = k .before .before .before .shared-slice-known2 .given i .fits
+abbrev tested : tie.After-split → tie.After-lack
+tested p = p .before .before .before .before
 
-kept : (l : tie.After-lack) → Ordered (order-read l .read-order .result)
-kept l = let k = order-read l in ordered _ _ (k .read-order .ensures) (book-bytes k) (sheet-bytes k) (l .before .if1 .left)
+abbrev rules-split : tie.After-fill-from → tie.After-split
+rules-split t = t .before .before .before .before .before
 
--- After the table was filled: where the slices' lengths were tested, and that they suffice. After it was judged: where it was filled.
-abbrev tested : tie.After-fill-table → tie.After-lack
-tested t = t .before .before .before .before .before .before
+book-bytes : (r : tie.After-read-rules) → Bytes (now (began r .args .book))
+book-bytes r i = r .before .before .before .before .before .shared-slice-known .given i .fits
 
-abbrev judged : tie.After-judge → tie.After-fill-table
-judged j = j .before .before .before .before .before .before
+sheet-bytes : (r : tie.After-read-rules) → Bytes (now (began r .args .sheet))
+sheet-bytes r i = r .before .before .before .before .shared-slice-known2 .given i .fits
 
-nothing : (t : tie.After-fill-table) → tested t .lack .result ≡ 0
-nothing t = t .before .before .before .before .before .if2 .left
+-- What was read, with no fault.
+abbrev book-fine : (n : tie.After-number-sheet) → book-read n .read-rules .result .fault .number ≡ 0
+book-fine n = n .before .before .before .before .before .before .if1 .left
 
-enough : (l : tie.After-lack) → l .lack .result ≡ 0 →
-    let o = order-read l .read-order .result in
-    let a = began (order-read l) .args in
-    (total (o .rows) (o .cols) ≤ length (now (a .work))) × (treeSize (whole (o .rows) (o .cols)) ≤ length (now (a .tree)))
-enough l z = nothing-lacks _ _ _ _ (sym (l .lack .ensures) ∙ z)
+abbrev sheet-fine : (p : tie.After-split) → sheet-read (tested p) .number-sheet .result .fault .number ≡ 0
+sheet-fine p = tested p .before .if2 .left
+
+abbrev cells : tie.After-number-sheet → List ℕ
+cells n = n .number-sheet .last .1 .1 .1 .1 .1 .0
+
+sheet-shows : (n : tie.After-number-sheet) → n .number-sheet .result .fault .number ≡ 0 → Shows (n .number-sheet .result) (cells n)
+sheet-shows n = let a = began (book-read n) .args in read-shows (now (a .book)) _ (now (a .sheet)) (n .number-sheet .ensures)
+
+held : (r : tie.After-read-rules) → r .read-rules .result .rules ≤ length (r .read-rules .last .1 .0)
+held r = rows-held (now (began r .args .book)) (r .read-rules .ensures)
+
+-- After the rules were split: nothing lacks, so that the slices are long enough.
+nothing : (p : tie.After-split) → let l = tested p in
+    let a = began (book-read (sheet-read l)) .args in
+    let z = sheet-read l .number-sheet .result .size in
+    lacking (z .rows) (z .cols) (length (now (a .work))) (length (now (a .tree))) ≡ 0
+nothing p = sym (tested p .lack .ensures) ∙ p .before .before .before .if3 .left
 
 returns : tie.Need-returns
 returns c =
-    let k = c .before .before .before in
-    let a = began k .args in
-    rw (refused _ _ (k .read-order .ensures) (now (a .work)) (now (a .tree)) (c .before .if1 .taken))
-    (record { answers = refl; leaves-work = refl; leaves-tree = refl })
-
-lack-requires : tie.Need-lack-requires
-lack-requires c κs =
-    let k = c .before .before in
-    ordered _ _ (k .read-order .ensures) (book-bytes k) (sheet-bytes k) (c .if1 .left) .sizes
+    let r = c .before .before .before in
+    let a = began r .args in
+    rw (book-blamed (now (a .book)) (r .read-rules .ensures) (now (a .sheet)) (now (a .work)) (now (a .tree)) (c .before .if1 .taken))
+    (record { answers = c .blame .ensures; leaves-work = refl; leaves-tree = refl })
 
 returns-2 : tie.Need-returns-2
 returns-2 c =
-    let l = c .before .before in
-    let k = order-read l in
-    let a = began k .args in
-    rw (lacks _ _ (k .read-order .ensures) (book-bytes k) (sheet-bytes k) (l .before .if1 .left) (now (a .work)) (now (a .tree))
-    (λ z. c .before .if2 .taken (l .lack .ensures ∙ z)))
-    (record { answers = c .unblamed .ensures ∙ ap plain (l .lack .ensures); leaves-work = refl; leaves-tree = refl })
-
-fill-table-requires : tie.Need-fill-table-requires
-fill-table-requires c κs =
-    let z = c .before .before .before .before in
-    let o = kept (z .before) in
-    (o .rules-small, record { sizes = o .sizes; entries = enough (z .before) (z .if2 .left) .0 }, o .cells)
-
-slice-aggregate-judge : tie.Need-slice-aggregate-judge
-slice-aggregate-judge c = sym (kept (tested (c .before .before .before .before)) .cells-room)
-
-judge-requires : tie.Need-judge-requires
-judge-requires c κs =
-    let t = c .before .before .before .before .before in
-    let l = tested t in
-    let o = kept l in
-    let room = enough l (nothing t) in
-    let long = le-trans (room .0) (le-of-eq (sym (t .fill-table .kept .1 .1 .1 .1 .1 .0))) in
-    let k = order-read l in
-    let a = began k .args in
-    let none = sym (l .lack .ensures) ∙ nothing t in
-    record {
-      ready = record { tabled = record { sizes = o .sizes; entries = long }; cells = o .cells .all };
-      few = o .rules-small .few;
-      room = room .1;
-      fitted = fit _ _ (k .read-order .ensures) (book-bytes k) (sheet-bytes k) (l .before .if1 .left) (now (a .work)) (now (a .tree)) none _ (t .fill-table .ensures);
-    }
+    let n = c .before .before .before in
+    let r = book-read n in
+    let a = began r .args in
+    rw (sheet-blamed (now (a .book)) (now (a .sheet)) (r .read-rules .ensures) (n .number-sheet .ensures) (book-fine n) (now (a .work)) (now (a .tree)) (c .before .if2 .taken))
+    (record { answers = c .blame2 .ensures; leaves-work = refl; leaves-tree = refl })
 
 returns-3 : tie.Need-returns-3
 returns-3 c =
+    let l = c .before .before in
+    let n = sheet-read l in
+    let r = book-read n in
+    let a = began r .args in
+    let lacks = room-lacks (now (a .book)) (now (a .sheet)) (r .read-rules .ensures) (n .number-sheet .ensures) (book-fine n) (now (a .work)) (now (a .tree)) in
+    rw (lacks (l .before .if2 .left) (λ z. c .before .if3 .taken (l .lack .ensures ∙ z)))
+    (record { answers = c .unblamed .ensures ∙ ap plain (l .lack .ensures); leaves-work = refl; leaves-tree = refl })
+
+split-requires : tie.Need-split-requires
+split-requires c κs =
+    let n = sheet-read (c .before .before .before) in
+    let r = book-read n in
+    (rows-small (now (began r .args .book)) (r .read-rules .ensures) (book-fine n), refl)
+
+fill-from-requires : tie.Need-fill-from-requires
+fill-from-requires c κs =
+    let p = c .before .before .before .before in
+    let n = sheet-read (tested p) in
+    let r = book-read n in
+    let shows = sheet-shows n (sheet-fine p) in (
+      record { sizes = shows .sizes; entries = nothing-lacks _ _ _ _ (nothing p) .0 },
+      masks-fit (now (began r .args .book)) (r .read-rules .ensures) (book-fine n) (p .split .ensures),
+      shows .painted,
+    )
+
+judge-requires : tie.Need-judge-requires
+judge-requires c κs =
+    let t = c .before .before .before .before .before .before in
+    let p = rules-split t in
+    let n = sheet-read (tested p) in
+    let r = book-read n in
+    let a = began r .args in
+    let shows = sheet-shows n (sheet-fine p) in
+    let enough = nothing-lacks _ _ _ _ (nothing p) in
+    let long = le-trans (enough .0) (le-of-eq (sym (t .fill-from .kept .1 .1 .1 .1 .0))) in
+    let fit = nodes-fit (now (a .book)) (now (a .sheet)) (r .read-rules .ensures) (n .number-sheet .ensures) (book-fine n) (now (a .work)) (now (a .tree)) (sheet-fine p)
+    (book-bytes r) (sheet-bytes r) (nothing p) (p .split .ensures) in
+    record {
+      ready = record { tabled = record { sizes = shows .sizes; entries = long }; cells = shows .painted .all };
+      few = rows-small (now (a .book)) (r .read-rules .ensures) (book-fine n) .few;
+      room = enough .1;
+      fitted = rw (t .fill-from .ensures) fit;
+    }
+
+returns-4 : tie.Need-returns-4
+returns-4 c =
     let j = c .before .before .before in
-    let t = judged j in
-    let l = tested t in
-    let k = order-read l in
-    let a = began k .args in
-    let none = sym (l .lack .ensures) ∙ nothing t in
-    rw (told _ _ (k .read-order .ensures) (book-bytes k) (sheet-bytes k) (l .before .if1 .left) (now (a .work)) (now (a .tree)) none _ (t .fill-table .ensures))
-    (record { answers = c .unblamed2 .ensures ∙ ap plain (j .judge .ensures .answers); leaves-work = refl; leaves-tree = j .judge .ensures .leaves })
+    let t = j .before .before .before .before .before .before .before in
+    let p = rules-split t in
+    let n = sheet-read (tested p) in
+    let r = book-read n in
+    let a = began r .args in
+    let is = derived-as (now (a .book)) (now (a .sheet)) (r .read-rules .ensures) (n .number-sheet .ensures) (book-fine n) (now (a .work)) (now (a .tree)) (sheet-fine p)
+    (book-bytes r) (sheet-bytes r) (nothing p) (p .split .ensures) in
+    let told = rw (t .fill-from .ensures) at (j .judge .ensures) in
+    rw is (record { answers = c .unblamed2 .ensures ∙ ap plain (told .answers); leaves-work = t .fill-from .ensures; leaves-tree = told .leaves })
 
 pub derive-spec : {M : Type 1} → statement M
 derive-spec =
     tie.close
     (tie.spec
     (λ c κs. search needs)
+    (λ c κs. search needs)
     returns
-    lack-requires
+    (λ c κs. search needs)
     (λ c κs. search needs)
     returns-2
+    (λ c κs. sheet-shows (c .before .before) (c .if2 .left) .sizes)
+    (λ c κs. search needs)
+    returns-3
+    (λ c. held (book-read (sheet-read (c .before))))
+    (λ c. sym (length-take-le _ _ (held (book-read (sheet-read (c .before .before))))))
     (λ c. search needs)
-    fill-table-requires
-    slice-aggregate-judge
+    split-requires
+    (λ c. search needs)
+    (λ c. let p = c .before .before .before in sym (sheet-shows (sheet-read (tested p)) (sheet-fine p) .cells-room))
+    fill-from-requires
+    (λ c. held (book-read (sheet-read (tested (rules-split (c .before .before))))))
+    (λ c. sym (length-take-le _ _ (held (book-read (sheet-read (tested (rules-split (c .before .before .before))))))))
+    (λ c. let p = rules-split (c .before .before .before .before .before) in sym (sheet-shows (sheet-read (tested p)) (sheet-fine p) .cells-room))
     judge-requires
     (λ c κs. search needs)
     (λ c. search needs)
     (λ c. search needs)
-    returns-3)
+    returns-4)

@@ -11,10 +11,10 @@ returns : tie.Need-returns
 unfolding lacking
 returns c =
     let a = c .before .before .args in
-    rw (lt-ltb (a .entries) (total (a .rows) (a .cols)) (rw (c .before .count .ensures .0) at (c .if1 .taken)))
+    rw (lt-ltb (a .entries) (total (a .size .rows) (a .size .cols)) (rw (c .before .count .ensures .0) at (c .if1 .taken)))
 
 -- After the first test was not taken: the work slice is long enough.
-enough : (c : tie.Else1) → let a = c .before .before .args in total (a .rows) (a .cols) ≤ a .entries
+enough : (c : tie.Else1) → let a = c .before .before .args in total (a .size .rows) (a .size .cols) ≤ a .entries
 enough c = rw (c .before .count .ensures .0) at (c .if1 .left)
 
 returns-2 : tie.Need-returns-2

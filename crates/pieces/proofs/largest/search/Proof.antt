@@ -14,23 +14,23 @@ use Rattle.pieces.proofs.largest.search.Statement.{statement}
 use Rattle.pieces.proofs.largest.search.Tie as tie
 
 abbrev Inv-loop : tie.InvT-loop
-Inv-loop work motif m n end best₀ area₀ p₀ k₀ best area p k = Searching (marked m n work motif) m n best area p k
+Inv-loop work motif z end best₀ area₀ p₀ k₀ best area p k = Searching (marked (z .rows) (z .cols) work motif) (z .rows) (z .cols) best area p k
 
 abbrev μ-loop : tie.MeasureT-loop
-μ-loop work motif m n end best₀ area₀ p₀ k₀ best area p k = end - k
+μ-loop work motif z end best₀ area₀ p₀ k₀ best area p k = end - k
 
 -- At the loop: where the function began. In the loop: the slot that is due is one of the table.
 abbrev began : tie.At-loop Inv-loop μ-loop → tie.Start Inv-loop μ-loop
 began t = t .before .before .before
 
-due : (c : tie.In-loop Inv-loop μ-loop) → let a = began (c .before) .args in c .before .loop .k < total (a .m) (a .n)
+due : (c : tie.In-loop Inv-loop μ-loop) → let z = began (c .before) .args .size in c .before .loop .k < total (z .rows) (z .cols)
 due c = lt-of-lt-of-le (c .loop-test .taken) (le-of-eq (c .before .before .count .ensures .0))
 
 -- The area that was counted is that of the piece due, by the test of its entry.
 counted : (t : tie.After-area-with Inv-loop μ-loop) →
     let l = t .before .before .before in
     let a = began l .args in
-    t .area-with .result ≡ areaIf (marked (a .m) (a .n) (now (a .work)) (a .motif) (l .loop .p)) (l .loop .p)
+    t .area-with .result ≡ areaIf (marked (a .size .rows) (a .size .cols) (now (a .work)) (a .motif) (l .loop .p)) (l .loop .p)
 unfolding marked
 counted t = rw (t .before .before .before .loop .inv .here) (t .area-with .ensures)
 

@@ -7,8 +7,8 @@ use denote.Ref.{now}
 use lib.ListN.{length}
 use Rattle.names.proofs.Count.{part-rest}
 use Rattle.books.specs.declared.rule.Dir.the-variants.{Across as across, Down as down}
+use Rattle.books.specs.Keeps.{mostRules}
 use Rattle.pieces.specs.Firing.{fireOf}
-use Rattle.pieces.specs.Masks.{mostRules}
 use Rattle.pieces.specs.inner.Along.{allFired}
 use Rattle.pieces.specs.inner.ForTable.{MasksFit}
 use Rattle.pieces.proofs.AllCuts.{window-fires, window-long}

@@ -1,6 +1,7 @@
 -- The tests are those of the definition.
 use borrow.Author.Tests.{eq-eqb, ne-eqb, le-leb, lt-leb}
-use Rattle.pieces.specs.Masks.{mostRules, allMasks}
+use Rattle.books.specs.Keeps.{mostRules}
+use Rattle.pieces.specs.Masks.{allMasks}
 use Rattle.pieces.specs.Firing.{fitting}
 use Rattle.pieces.proofs.masks.fits.Statement.{statement}
 use Rattle.pieces.proofs.masks.fits.Tie as tie

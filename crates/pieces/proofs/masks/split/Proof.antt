@@ -1,69 +1,71 @@
 -- The rules are put one after the other: what is left, split from here, is the whole.
-use mathlib.Core.Path.{_≡_, refl, sym, ap, ap₂, _∙_}
+use mathlib.Core.Path.{_≡_, refl, sym, ap, _∙_}
 use mathlib.Core.List.{List, _∷_}
 use Prim.Native.Nat.{ℕ, _+_, _-_, _≤_, _<_}
 use native.Mathlib.Numerals.{add-one}
 use native.Mathlib.Omega.{arith}
-use lib.ListN.{length, getD, take, drop, drop-of-length-le}
-use lib.Seq.{getD-take, drop-cons, length-take-le}
+use lib.ListN.{length, getD, drop, drop-of-length-le, length-map}
+use lib.Seq.{drop-cons}
 use Rattle.names.proofs.Count.{left-suc}
+use Rattle.books.specs.RuleBytes.{ruleIn, rulesIn}
 use Rattle.books.specs.Rules.{noRule}
 use Rattle.books.specs.declared.rule.Rule.{Rule}
+use Rattle.books.proofs.LentRules.{rule-of-row}
 use Rattle.pieces.specs.Masks.{Masked, masked, noJoins, putBody, splitFrom, splitOf}
 use Rattle.pieces.proofs.Splitting.{PlacesFor, more-places}
 use borrow.Author.Needs.{needs}
 use Rattle.pieces.proofs.masks.split.Statement.{statement}
 use Rattle.pieces.proofs.masks.split.Tie as tie
 
--- one after the other of the first so many
-module _ (rules : List Rule) (count : ℕ) (held : count ≤ length rules) (s : Masked) where
-  one-split : (i : ℕ) → i < count → let q = getD rules i noRule in
-      splitFrom (drop i (take count rules)) s ≡ splitFrom (drop (i + 1) (take count rules)) (putBody s (q .head) (q .body))
+-- one rule after the other
+module _ (rules : List Rule) (s : Masked) where
+  one-split : (i : ℕ) → i < length rules → let q = getD rules i noRule in
+      splitFrom (drop i rules) s ≡ splitFrom (drop (i + 1) rules) (putBody s (q .head) (q .body))
   unfolding splitFrom
-  one-split i h =
-      let low : i < length (take count rules) = omega (arith, length-take-le count rules held) in
-      ap (λ (l : List Rule). splitFrom l s)
-      (drop-cons (take count rules) i noRule low
-      ∙ ap₂ (λ (q : Rule) (n : ℕ). q ∷ drop n (take count rules)) (getD-take count rules i noRule h) (sym (add-one i)))
+  one-split i h = ap (λ (l : List Rule). splitFrom l s) (drop-cons rules i noRule h ∙ ap (λ (n : ℕ). getD rules i noRule ∷ drop n rules) (sym (add-one i)))
 
-  all-split : (i : ℕ) → count ≤ i → splitFrom (drop i (take count rules)) s ≡ s
+  all-split : (i : ℕ) → length rules ≤ i → splitFrom (drop i rules) s ≡ s
   unfolding splitFrom
-  all-split i h = rw (drop-of-length-le (take count rules) {i = i} (omega (arith, length-take-le count rules held)))
+  all-split i h = rw (drop-of-length-le rules {i = i} h)
 
 abbrev Inv-loop : tie.InvT-loop
-Inv-loop count masks₀ family joins₀ i₀ masks joins i =
-    (i ≤ count) × PlacesFor (count - i) (masked masks joins)
-    × (splitFrom (drop i (take count family)) (masked masks joins) ≡ splitFrom (take count family) (masked masks₀ joins₀))
+Inv-loop rules masks₀ joins₀ i₀ masks joins i =
+    (i ≤ length rules) × PlacesFor (length rules - i) (masked masks joins)
+    × (splitFrom (drop i (rulesIn rules)) (masked masks joins) ≡ splitFrom (rulesIn rules) (masked masks₀ joins₀))
 
 abbrev μ-loop : tie.MeasureT-loop
-μ-loop count masks₀ family joins₀ i₀ masks joins i = count - i
+μ-loop rules masks₀ joins₀ i₀ masks joins i = length rules - i
 
 loop-holds : tie.Need-loop-holds Inv-loop μ-loop
 loop-holds c =
     let k = c .before .before in
     let s = k .before .before .before in
-    (omega arith, record { long = omega (arith, k .clear .kept .0, s .pre .1); free = omega (arith, s .pre .0 .few) }, refl)
+    (omega arith, record { long = omega (arith, k .clear .kept .0, s .pre .1); free = omega (arith, s .pre .0 .few, length-map (s .args .rules .now) ruleIn) }, refl)
 
 put-rule-requires : tie.Need-put-rule-requires Inv-loop μ-loop
 put-rule-requires c κs =
     let t = c .before .before .before in
     let v = t .loop .inv .1 in
     let s = t .before .before .before .before .before .before in
-    (v .long, omega (arith, v .free), omega (arith, v .free), s .pre .0 .small (t .loop .i) (c .before .before .loop-test .taken))
+    let rows = s .args .rules .now in
+    let low : t .loop .i < length (rulesIn rows) = omega (arith, c .before .before .loop-test .taken, length-map rows ruleIn) in
+    (v .long, omega (arith, v .free), omega (arith, v .free), rw (← rule-of-row rows (t .loop .i)) (s .pre .0 .small (t .loop .i) low))
 
 loop-again : tie.Need-loop-again Inv-loop μ-loop
 loop-again c =
     let p = c .before .before in
     let t = p .before .before .before .before in
     let s = t .before .before .before .before .before .before in
-    let a = s .args in
+    let rows = s .args .rules .now in
     let before = masked (t .loop .masks) (t .loop .joins) in
-    let q = getD (a .t1) (t .loop .i) noRule in
+    let q = getD (rulesIn rows) (t .loop .i) noRule in
     let low = p .before .before .before .loop-test .taken in
-    let places = rw (left-suc (a .count) (t .loop .i) low) at (t .loop .inv .1) in (
+    let all = length-map rows ruleIn in
+    let put = rw (← rule-of-row rows (t .loop .i)) at (p .put-rule .ensures) in
+    let places = rw (left-suc (length rows) (t .loop .i) low) at (t .loop .inv .1) in (
       omega arith,
-      rw (p .put-rule .ensures) (more-places _ before places (q .head) (q .body)),
-      ap (splitFrom (drop (t .loop .i + 1) (take (a .count) (a .t1)))) (p .put-rule .ensures) ∙ sym (one-split (a .t1) (a .count) (s .pre .0 .held) before (t .loop .i) low) ∙ t .loop .inv .2,
+      rw put (more-places _ before places (q .head) (q .body)),
+      ap (splitFrom (drop (t .loop .i + 1) (rulesIn rows))) put ∙ sym (one-split (rulesIn rows) before (t .loop .i) (omega (arith, low, all))) ∙ t .loop .inv .2,
     )
 
 same-length : tie.Need-same-length Inv-loop μ-loop
@@ -74,10 +76,9 @@ unfolding splitOf
 returns c =
     let t = c .before in
     let k = t .before .before .before in
-    let s = k .before .before .before in
-    let a = s .args in
-    sym (all-split (a .t1) (a .count) (s .pre .0 .held) (masked (t .loop .masks) (t .loop .joins)) (t .loop .i) (omega arith))
-    ∙ t .loop .inv .2 ∙ ap (λ (l : List ℕ). splitFrom (take (a .count) (a .t1)) (masked l noJoins)) (k .clear .ensures)
+    let rows = k .before .before .before .args .rules .now in
+    sym (all-split (rulesIn rows) (masked (t .loop .masks) (t .loop .joins)) (t .loop .i) (omega (arith, length-map rows ruleIn)))
+    ∙ t .loop .inv .2 ∙ ap (λ (l : List ℕ). splitFrom (rulesIn rows) (masked l noJoins)) (k .clear .ensures)
 
 pub split-spec : {M : Type 1} → statement M
 split-spec =

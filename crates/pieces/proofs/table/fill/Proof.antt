@@ -25,16 +25,16 @@ record Filling (masks : List ℕ) (joins : Joins) (m n : ℕ) (before t : List �
   left : joinedFrom (joinsFired masks joins) m n (drop k (pieces m n)) t ≡ joinedBy (joinsFired masks joins) m n before
 
 abbrev Inv-loop : tie.InvT-loop
-Inv-loop work₀ masks joins m n end p₀ k₀ work p k = Filling masks joins m n work₀ work p k
+Inv-loop work₀ masks joins z m n end p₀ k₀ work p k = Filling masks joins (z .rows) (z .cols) work₀ work p k
 
 abbrev μ-loop : tie.MeasureT-loop
-μ-loop work₀ masks joins m n end p₀ k₀ work p k = end - k
+μ-loop work₀ masks joins z m n end p₀ k₀ work p k = end - k
 
 -- At the loop: where the function began. In the loop: the slot that is due is one of the table.
 abbrev began : tie.At-loop Inv-loop μ-loop → tie.Start Inv-loop μ-loop
 began t = t .before .before .before .before .before .before
 
-due : (c : tie.In-loop Inv-loop μ-loop) → let a = began (c .before) .args in c .before .loop .k < total (a .m) (a .n)
+due : (c : tie.In-loop Inv-loop μ-loop) → let z = began (c .before) .args .size in c .before .loop .k < total (z .rows) (z .cols)
 due c = lt-of-lt-of-le (c .loop-test .taken) (le-of-eq (c .before .before .before .before .count .ensures .0))
 
 next-requires : tie.Need-next-requires Inv-loop μ-loop
@@ -47,12 +47,12 @@ loop-holds c =
     let r = s .pre .0 .sizes in
     let e = c .times .ensures .0 in
     let nx = c .before .next .ensures in
-    let last = slot-last-cell (s .args .m) (s .args .n) (r .rows-some) (r .cols-some) in
+    let last = slot-last-cell (s .args .size .rows) (s .args .size .cols) (r .rows-some) (r .cols-some) in
     record {
       here = omega (arith, nx .one, last, e);
       inside = λ h. nx .still (omega (arith, nx .one, last, e));
       sized = refl;
-      upto = omega (arith, e, cells-few (s .args .m) (s .args .n) (r .rows-some) (r .cols-some));
+      upto = omega (arith, e, cells-few (s .args .size .rows) (s .args .size .cols) (r .rows-some) (r .cols-some));
       left = rw e refl;
     }
 
@@ -60,8 +60,11 @@ entry-of-requires : tie.Need-entry-of-requires Inv-loop μ-loop
 entry-of-requires c κs =
     let t = c .before .before in
     let s = began t in
-    let f = t .loop .inv in
-    (record { sizes = s .pre .0 .sizes; entries = omega (arith, f .sized, s .pre .0 .entries) }, s .pre .1, f .inside (due (c .before)), sym (f .here))
+    let f = t .loop .inv in (
+      record { sizes = s .pre .0 .sizes; entries = omega (arith, f .sized, s .pre .0 .entries) },
+      s .pre .1,
+      record { room = s .pre .0 .sizes; inside = f .inside (due (c .before)); slot-is = sym (f .here) },
+    )
 
 mul-work : tie.Need-mul-work Inv-loop μ-loop
 mul-work c =
@@ -90,7 +93,7 @@ loop-again c =
       inside = λ h. nx .still (omega (arith, nx .one, f .here));
       sized = simp length-set (f .sized);
       upto = omega (arith, due l);
-      left = rw (c .before .entry-of .ensures) (sym (one-joined (joinsFired (a .masks .now) (a .joins)) (a .m) (a .n) _ (t .loop .k) (t .loop .p) (f .inside (due l)) (f .here)) ∙ f .left);
+      left = rw (c .before .entry-of .ensures) (sym (one-joined _ (a .size .rows) (a .size .cols) _ (t .loop .k) (t .loop .p) (f .inside (due l)) (f .here)) ∙ f .left);
     }
 
 same-length : tie.Need-same-length Inv-loop μ-loop
@@ -100,7 +103,8 @@ returns : tie.Need-returns Inv-loop μ-loop
 returns c =
     let t = c .before in
     let a = began t .args in
-    sym (all-joined (joinsFired (a .masks .now) (a .joins)) (a .m) (a .n) _ (t .loop .k) (omega (arith, c .loop-test .left, t .before .before .before .count .ensures .0))) ∙ t .loop .inv .left
+    let all : total (a .size .rows) (a .size .cols) ≤ t .loop .k = omega (arith, c .loop-test .left, t .before .before .before .count .ensures .0) in
+    sym (all-joined (joinsFired (a .masks .now) (a .joins)) (a .size .rows) (a .size .cols) _ (t .loop .k) all) ∙ t .loop .inv .left
 
 pub fill-spec : {M : Type 1} → statement M
 fill-spec =

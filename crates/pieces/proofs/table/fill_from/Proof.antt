@@ -31,7 +31,7 @@ returns c =
     let t = p .before .before in
     let a = t .before .before .before .before .args in
     f .fill .ensures
-    ∙ ap (joinedBy (joinsFired (now (a .masks)) (a .joins)) (a .m) (a .n))
+    ∙ ap (joinedBy (joinsFired (now (a .masks)) (a .joins)) (a .size .rows) (a .size .cols))
     (p .paint-cells .ensures ∙ ap (λ (k : ℕ). paintedBy (now (a .masks)) (now (a .colours)) k (now (a .work))) (t .times .ensures .0))
 
 pub fill-from-spec : {M : Type 1} → statement M

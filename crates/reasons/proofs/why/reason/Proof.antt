@@ -11,19 +11,19 @@ use borrow.Author.Needs.{needs}
 use Rattle.reasons.proofs.why.reason.Statement.{statement}
 use Rattle.reasons.proofs.why.reason.Tie as tie
 
-few : (c : tie.Start) → c .args .rows * c .args .cols ≤ room
+few : (c : tie.Start) → c .args .size .rows * c .args .size .cols ≤ room
 few c = mul-le-mul (c .pre .0 .rows-few) (c .pre .0 .cols-few)
 
 mul-cells : tie.Need-mul-cells
-mul-cells c = omega (arith, few (c .before .before))
+mul-cells c = omega (arith, few (c .before .before .before))
 
 first-bare-requires : tie.Need-first-bare-requires
 first-bare-requires c κs =
-    let s = c .before .before in
-    (few s, omega (arith, cells-few (s .args .rows) (s .args .cols) (s .pre .0 .rows-some) (s .pre .0 .cols-some), s .pre .1))
+    let s = c .before .before .before in
+    (few s, omega (arith, cells-few (s .args .size .rows) (s .args .size .cols) (s .pre .0 .rows-some) (s .pre .0 .cols-some), s .pre .1))
 
 returns : tie.Need-returns
-returns c = cell-found _ _ _ _ _ _ (c .before .first-bare .ensures) (c .if1 .taken)
+returns c = let t = c .before .before in cell-found _ _ _ _ _ _ (t .before .first-bare .ensures) (t .if1 .taken)
 
 returns-2 : tie.Need-returns-2
 returns-2 c =

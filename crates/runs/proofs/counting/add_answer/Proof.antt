@@ -1,32 +1,30 @@
 -- The count of sheets and that of the answer are two places.
-use Prim.Native.Nat.{_+_}
+use Prim.Native.Nat.{_+_, _<_}
 use native.Mathlib.Omega.{arith}
-use lib.ListN.{getD}
-use lib.Seq.{lt-length-set, getD-set-other}
-use Rattle.runs.specs.inner.Adding.{oneMore, answered}
+use denote.Ref.{now}
+use lib.ListN.{length, getD, length-set}
+use lib.Seq.{getD-set-other}
+use Rattle.runs.specs.inner.Adding.{answersFrom, cellsFrom, oneMore, answered}
 use borrow.Author.Needs.{needs}
 use Rattle.runs.proofs.counting.add_answer.Statement.{statement}
 use Rattle.runs.proofs.counting.add_answer.Tie as tie
 
-add-figures : tie.Need-add-figures
-add-figures c = omega (arith, c .before .before .pre .2 0 (omega arith))
+-- After the answer's count was looked up: where the call began, and that the count is one of the answers'.
+abbrev began : tie.After-count-of → tie.Start
+began k = k .before .before .before
 
-slice-read-figures-2 : tie.Need-slice-read-figures-2
-slice-read-figures-2 c =
-    let s = c .before .before .before .before in
-    lt-length-set (s .args .figures .now) _ _ (omega (arith, c .before .count-of .ensures, s .pre .0, s .pre .1))
+place : (k : tie.After-count-of) → answersFrom + k .count-of .result < cellsFrom
+place k = omega (arith, k .count-of .ensures, began k .pre .counted)
+
+stands : (k : tie.After-count-of) → answersFrom + k .count-of .result < length (now (began k .args .figures))
+stands k = omega (arith, place k, began k .pre .spare .long)
 
 add-figures-2 : tie.Need-add-figures-2
 add-figures-2 c =
-    let s = c .before .before .before .before in
-    let f = s .args .figures .now in
-    let k = 1 + c .before .count-of .result in
-    omega (arith, getD-set-other f 0 k (getD f 0 0 + 1) 0 (λ e. omega arith), s .pre .2 k (omega (arith, c .before .count-of .ensures, s .pre .0)))
-
-slice-write-figures-2 : tie.Need-slice-write-figures-2
-slice-write-figures-2 c =
-    let s = c .before .before .before .before in
-    lt-length-set (s .args .figures .now) _ _ (omega (arith, c .before .count-of .ensures, s .pre .0, s .pre .1))
+    let k = c .before in
+    let f = now (began k .args .figures) in
+    let at = answersFrom + k .count-of .result in
+    omega (arith, getD-set-other f 0 at (getD f 0 0 + 1) 0 (λ e. omega arith), began k .pre .spare .more at (omega (arith, place k)))
 
 returns : tie.Need-returns
 unfolding answered oneMore
@@ -37,13 +35,13 @@ add-answer-spec =
     tie.close
     (tie.spec
     (λ c. search needs)
-    add-figures
+    (λ c. omega (arith, c .before .before .pre .spare .more 0 (omega arith)))
     (λ c. search needs)
     (λ c κs. search needs)
     (λ c. search needs)
     (λ c. search needs)
-    slice-read-figures-2
+    (λ c. simp length-set (stands (c .before)))
     add-figures-2
-    slice-write-figures-2
+    (λ c. simp length-set (stands (c .before)))
     (λ c. search needs)
     returns)

@@ -1,7 +1,7 @@
 -- After i turns the first i figures from the place on are copied.
 use mathlib.Core.Path.{_≡_, refl}
 use mathlib.Core.List.{_++_}
-use Prim.Native.Nat.{_+_, _-_, _≤_}
+use Prim.Native.Nat.{_-_, _≤_}
 use native.Mathlib.Omega.{arith}
 use lib.ListN.{length, take, drop, length-set, length-drop}
 use lib.Seq.{getD-drop}

@@ -1,5 +1,6 @@
 -- Each way to end is a case of the definition.
 use mathlib.Core.Path.{sym, _∙_}
+use native.Mathlib.Omega.{arith}
 use Rattle.names.proofs.ReadingNumbers.{number-lies}
 use Rattle.runs.proofs.WalkingRuns.{framed-refused, framed-short, framed-whole}
 use borrow.Author.Needs.{needs}
@@ -12,7 +13,7 @@ sub-if1 c = number-lies _ _ _ _ (sym (c .before .before .before .read-number .en
 returns : tie.Need-returns
 returns c =
     let k = c .before .before .before in
-    c .unframed2 .ensures ∙ sym (framed-short _ _ _ _ (sym (k .before .before .read-number .ensures) ∙ k .r2 .given .1) (c .before .if1 .taken))
+    c .unframed2 .ensures ∙ sym (framed-short _ _ _ _ (sym (k .before .before .read-number .ensures) ∙ k .r2 .given .1) (omega (arith, c .before .if1 .taken)))
 
 returns-2 : tie.Need-returns-2
 returns-2 c =
@@ -22,7 +23,7 @@ returns-2 c =
 returns-3 : tie.Need-returns-3
 returns-3 c =
     let k = c .before .before in
-    sym (framed-whole _ _ _ _ (sym (k .before .before .read-number .ensures) ∙ k .r2 .given .1) (c .if1 .left))
+    sym (framed-whole _ _ _ _ (sym (k .before .before .read-number .ensures) ∙ k .r2 .given .1) (omega (arith, c .if1 .left)))
 
 pub frame-at-spec : {M : Type 1} → statement M
 frame-at-spec =

@@ -3,17 +3,15 @@ use mathlib.Core.Path.{_≡_, sym, _∙_}
 use Prim.Native.Nat.{_-_, _≤_}
 use native.Mathlib.Omega.{arith}
 use lib.ListN.{length}
-use Rattle.names.specs.Pick.{fault}
-use borrow.Author.Tests.{lt-ltb, le-ltb}
-use Rattle.names.proofs.Count.{left-all}
-use Rattle.runs.specs.Run.{mostBytes, framing}
-use Rattle.runs.proofs.WalkingRuns.{FrameLies, left, frame-lies, left-end, left-stop, left-more}
+use borrow.Author.Tests.{lt-ltb}
+use Rattle.runs.specs.Run.{mostBytes, left, faults, framing}
+use Rattle.runs.proofs.WalkingRuns.{FrameLies, frame-lies, left-end, left-stop, left-more, framing-left}
 use borrow.Author.Needs.{needs}
 use Rattle.runs.proofs.framing.framing.Statement.{statement}
 use Rattle.runs.proofs.framing.framing.Tie as tie
 
 abbrev Inv-loop : tie.InvT-loop
-Inv-loop run at₀ at = (at ≤ length run) × (left (fault 0 0) (λ f. f) (λ f rest. rest) run at ≡ framing run)
+Inv-loop run at₀ at = (at ≤ length run) × (left faults run at ≡ framing run)
 
 abbrev μ-loop : tie.MeasureT-loop
 μ-loop run at₀ at = length run - at
@@ -23,8 +21,7 @@ unfolding framing
 returns c = rw (lt-ltb mostBytes (length (c .before .before .args .run .now)) (c .if1 .taken))
 
 loop-holds : tie.Need-loop-holds Inv-loop μ-loop
-unfolding framing
-loop-holds c = (omega arith, simp (le-ltb mostBytes (length (c .before .before .args .run .now)) (c .if1 .left), left-all))
+loop-holds c = (omega arith, sym (framing-left _ (omega (arith, c .if1 .left))))
 
 -- A length with no fault: its sheet lies after it, within the run.
 lies : (k : tie.After-frame-at Inv-loop μ-loop) → k .frame-at .result .fault .number ≡ 0
@@ -35,7 +32,7 @@ returns-2 : tie.Need-returns-2 Inv-loop μ-loop
 returns-2 c =
     let k = c .before .before .before in
     let t = k .before .before in
-    rw (k .frame-at .ensures) (sym (left-stop _ _ _ _ _ (k .before .loop-test .taken) (rw (k .frame-at .ensures) at (c .before .if2 .taken))) ∙ t .loop .inv .1)
+    rw (k .frame-at .ensures) (sym (left-stop _ _ _ (k .before .loop-test .taken) (rw (k .frame-at .ensures) at (c .before .if2 .taken))) ∙ t .loop .inv .1)
 
 loop-less : tie.Need-loop-less Inv-loop μ-loop
 loop-less c =
@@ -47,11 +44,11 @@ loop-again c =
     let k = c .before .before in
     let t = k .before .before in (
       lies k (c .if2 .left) .inside,
-      rw (k .frame-at .ensures) (sym (left-more _ _ _ _ _ (k .before .loop-test .taken) (rw (k .frame-at .ensures) at (c .if2 .left))) ∙ t .loop .inv .1),
+      rw (k .frame-at .ensures) (sym (left-more _ _ _ (k .before .loop-test .taken) (rw (k .frame-at .ensures) at (c .if2 .left))) ∙ t .loop .inv .1),
     )
 
 returns-3 : tie.Need-returns-3 Inv-loop μ-loop
-returns-3 c = sym (left-end _ _ _ _ _ (c .loop-test .left)) ∙ c .before .loop .inv .1
+returns-3 c = sym (left-end _ _ _ (c .loop-test .left)) ∙ c .before .loop .inv .1
 
 pub framing-spec : {M : Type 1} → statement M
 framing-spec =

@@ -1,5 +1,6 @@
 -- The tests are made in the order of the definition.
 use mathlib.Core.Path.{sym, ap, _∙_}
+use native.Mathlib.Omega.{arith}
 use Rattle.books.specs.Answer.{blaming}
 use Rattle.runs.proofs.ReportingRuns.{book-first, run-second, work-third, nothing-refused}
 use borrow.Author.Needs.{needs}
@@ -19,13 +20,13 @@ returns-3 : tie.Need-returns-3
 returns-3 c =
     let k = c .before .before .before .before in
     let e = k .framing .ensures in
-    c .unblamed .ensures ∙ sym (work-third _ _ _ (k .before .if1 .left) (rw e at (c .before .before .if2 .left)) (c .before .if3 .taken))
+    c .unblamed .ensures ∙ sym (work-third _ _ _ (k .before .if1 .left) (rw e at (c .before .before .if2 .left)) (omega (arith, c .before .if3 .taken)))
 
 returns-4 : tie.Need-returns-4
 returns-4 c =
     let k = c .before .before .before .before in
     let e = k .framing .ensures in
-    c .unblamed2 .ensures ∙ sym (nothing-refused _ _ _ (k .before .if1 .left) (rw e at (c .before .before .if2 .left)) (c .before .if3 .left))
+    c .unblamed2 .ensures ∙ sym (nothing-refused _ _ _ (k .before .if1 .left) (rw e at (c .before .before .if2 .left)) (omega (arith, c .before .if3 .left)))
 
 pub refused-spec : {M : Type 1} → statement M
 refused-spec =

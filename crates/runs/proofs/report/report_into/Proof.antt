@@ -1,18 +1,17 @@
 -- Where something is refused, the figures stay cleared; else the sheets are added, and the work slice is cleared.
-use mathlib.Core.Path.{refl, ap, _∙_}
+use mathlib.Core.Path.{refl}
 use native.Mathlib.Omega.{arith}
 use denote.Ref.{now}
 use lib.ListN.{length}
 use Rattle.pieces.proofs.AskingSheets.{kept-fault, kept-from}
-use Rattle.runs.specs.inner.Adding.{standing}
-use Rattle.runs.proofs.ReportingRuns.{Granted, granted, cleared-standing, reports-refusal, reports-run}
+use Rattle.runs.proofs.ReportingRuns.{Granted, granted, cleared, reports-refusal, reports-run}
 use borrow.Author.Needs.{needs}
 use Rattle.runs.proofs.report.report_into.Statement.{statement}
 use Rattle.runs.proofs.report.report_into.Tie as tie
 
 -- After the book was split: where the figures were cleared, and where the call began.
-abbrev cleared : tie.After-split-book → tie.After-clear
-cleared p = p .before .before .before .before
+abbrev clearing : tie.After-split-book → tie.After-clear
+clearing p = p .before .before .before .before
 
 abbrev began : tie.After-split-book → tie.Start
 began p = p .before .before .before .before .before .before .before .before .before .before
@@ -23,17 +22,18 @@ granting x = x .before .before .before .before .before
 
 may : (x : tie.After-add-sheets-arg2) → let p = granting x .before .before in
     Granted (p .split-book .result .fault) (now (began p .args .run)) (length (now (began p .args .work)))
-may x = granted _ _ _ (rw (granting x .refused .ensures) at (x .before .before .before .if1 .taken))
+may x = granted _ _ _ (rw (granting x .refused .ensures) at (x .before .before .before .if1 .taken)) .0
 
 add-sheets-requires : tie.Need-add-sheets-requires
 add-sheets-requires c κs =
     let p = granting c .before .before in
-    let k = cleared p in
-    let s = began p in
-    let g = may c in (
-      (kept-from _ _ (p .split-book .ensures) (g .book-fine) refl, g .work-long),
-      (g .run-fine, omega (arith, k .clear .kept .0, s .pre), ap standing (k .clear .ensures) ∙ cleared-standing _),
-    )
+    let g = may c in
+    record {
+      from-book = kept-from _ _ (p .split-book .ensures) (g .book-fine) refl;
+      run-fine = g .run-fine;
+      work-long = g .work-long;
+      none = cleared (now (began p .args .figures)) _ (clearing p .clear .ensures);
+    }
 
 clear-requires-2 : tie.Need-clear-requires-2
 clear-requires-2 c κs =
@@ -46,14 +46,14 @@ returns c =
     let a = t .before .before .before .before .before .before in
     let q = granting (a .before) in
     let p = q .before .before in
-    reports-run _ _ _ _ _ (cleared p .clear .ensures) _ _ (kept-fault _ _ (p .split-book .ensures)) (q .refused .ensures)
+    reports-run _ _ _ _ _ (clearing p .clear .ensures) _ _ (kept-fault _ _ (p .split-book .ensures)) (q .refused .ensures)
     (a .before .before .before .before .if1 .taken) _ _ _ (a .add-sheets .ensures) (t .clear2 .ensures)
 
 returns-2 : tie.Need-returns-2
 returns-2 c =
     let q = c .before .before in
     let p = q .before .before in
-    reports-refusal _ _ _ _ _ (cleared p .clear .ensures) _ _ (kept-fault _ _ (p .split-book .ensures)) (q .refused .ensures) (c .if1 .left)
+    reports-refusal _ _ _ _ _ (clearing p .clear .ensures) _ _ (kept-fault _ _ (p .split-book .ensures)) (q .refused .ensures) (c .if1 .left)
 
 pub report-into-spec : {M : Type 1} → statement M
 report-into-spec =

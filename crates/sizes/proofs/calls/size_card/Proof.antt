@@ -1,7 +1,8 @@
 -- A book with a fault is answered with it, a slice that is too short with 13, and else the card is written by the masks.
 use mathlib.Core.Path.{refl}
+use native.Mathlib.Omega.{arith}
 use denote.Ref.{now}
-use Rattle.names.proofs.SpellingNumbers.{Bytes}
+use Rattle.names.specs.Bytes.{Bytes}
 use Rattle.sizes.proofs.Answering.{start-low, refuses, lacks, writes}
 use borrow.Author.Needs.{needs}
 use Rattle.sizes.proofs.calls.size_card.Statement.{statement}
@@ -29,8 +30,15 @@ returns-2 c =
 write-card-requires : tie.Need-write-card-requires
 write-card-requires c κs =
     let r = c .before .before in
-    let e = r .before in
-    (start-low _ _ (split e .split-book .ensures) (e .if1 .left), r .if2 .left)
+    let e = r .before in (
+      omega arith,
+      record {
+        few = omega arith;
+        entries-all = omega arith;
+        start-fits = start-low _ _ (split e .split-book .ensures) (e .if1 .left);
+        room-enough = r .if2 .left;
+      },
+    )
 
 returns-3 : tie.Need-returns-3
 returns-3 c =

@@ -5,7 +5,6 @@ use native.Mathlib.Nat.{lt-of-lt-of-le}
 use native.Mathlib.Omega.{arith}
 use lib.ListN.{getD}
 use lib.Pow.{shl-exact, pow-mono}
-use Rattle.books.specs.Size.{greatest}
 use Rattle.names.specs.Bits.{bit, bits}
 use Rattle.names.proofs.Bits.{bit-lt}
 use Rattle.sizes.specs.inner.Rows.{rowOf}
@@ -15,10 +14,10 @@ use Rattle.sizes.proofs.card.row.Statement.{statement}
 use Rattle.sizes.proofs.card.row.Tie as tie
 
 abbrev Inv-loop : tie.InvT-loop
-Inv-loop sizes start at found₀ j₀ found j = (j ≤ greatest) × (found ≡ rowUpTo sizes start at j)
+Inv-loop sizes most start at found₀ j₀ found j = (j ≤ most) × (found ≡ rowUpTo sizes start at j)
 
 abbrev μ-loop : tie.MeasureT-loop
-μ-loop sizes start at found₀ j₀ found j = greatest - j
+μ-loop sizes most start at found₀ j₀ found j = most - j
 
 loop-holds : tie.Need-loop-holds Inv-loop μ-loop
 unfolding rowUpTo bits
@@ -52,7 +51,7 @@ returns : tie.Need-returns Inv-loop μ-loop
 unfolding rowOf rowUpTo
 returns c =
     let t = c .before in
-    let e : t .loop .j ≡ greatest = omega arith in
+    let e : t .loop .j ≡ t .before .args .most = omega arith in
     t .loop .inv .1 ∙ ap (rowUpTo (t .before .args .sizes .now) (t .before .args .start) (t .before .args .at)) e
 
 pub row-spec : {M : Type 1} → statement M

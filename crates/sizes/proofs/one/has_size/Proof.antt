@@ -10,10 +10,10 @@ use lib.Dec.{eqb}
 use lib.ListN.{getD}
 use Rattle.names.specs.Bits.{bit}
 use Rattle.names.proofs.Tests.{and-on, and-off}
-use Rattle.books.specs.Size.{room}
-use Rattle.sizes.specs.Card.{onCard}
-use Rattle.sizes.specs.Table.{entryBits, hasSizeBy}
-use Rattle.sizes.proofs.OneSize.{Placed, placed}
+use Rattle.books.specs.Keeps.{mostMotifs}
+use Rattle.books.specs.Size.{greatest, room, Within, within?}
+use Rattle.books.proofs.SizesWithin.{within-exactly}
+use Rattle.sizes.specs.Table.{hasSizeBy}
 use borrow.Author.Needs.{needs}
 use Rattle.sizes.proofs.one.has_size.Statement.{statement}
 use Rattle.sizes.proofs.one.has_size.Tie as tie
@@ -22,49 +22,49 @@ use Rattle.sizes.proofs.one.has_size.Tie as tie
 abbrev began : tie.Then2 → tie.Start
 began t = t .before .before .before .before
 
-on-card : (t : tie.Then2) → onCard (began t .args .rows) (began t .args .cols) ≡ true
-on-card t = sym (t .before .on-card .ensures) ∙ t .if2 .taken
+on-card : (t : tie.Then2) → let z = began t .args .size in within? greatest (z .rows) (z .cols) ≡ true
+on-card t = sym (t .before .within .ensures) ∙ t .if2 .taken
 
-place : (t : tie.Then2) → Placed (began t .args .rows) (began t .args .cols)
-place t = placed _ _ (on-card t)
+place : (t : tie.Then2) → let z = began t .args .size in Within greatest (z .rows) (z .cols)
+place t = within-exactly _ _ _ .0 (on-card t)
 
-some : (t : tie.Then2) → 1 ≤ began t .args .rows * began t .args .cols
+some : (t : tie.Then2) → 1 ≤ began t .args .size .rows * began t .args .size .cols
 some t = mul-le-mul (place t .rows-some) (place t .cols-some)
 
-few : (t : tie.Then2) → began t .args .rows * began t .args .cols ≤ room
+few : (t : tie.Then2) → began t .args .size .rows * began t .args .size .cols ≤ room
 few t = mul-le-mul (place t .rows-few) (place t .cols-few)
 
 returns : tie.Need-returns
 unfolding hasSizeBy
-returns c = let a = c .before .before .args in sym (and-off _ _ (le-ltb (a .motif) entryBits (omega (arith, c .if1 .taken))))
+returns c = let a = c .before .before .args in sym (and-off _ _ (le-ltb (a .motif) mostMotifs (omega (arith, c .if1 .taken))))
 
 fill-requires : tie.Need-fill-requires
-fill-requires c κs = let t = c .before in (omega arith, place t .cols-some, some t, few t)
+fill-requires c κs = let t = c .before .before in (omega arith, omega (arith, place t), some t, few t)
 
 sub-result : tie.Need-sub-result
-sub-result c = some (c .before .before .before)
+sub-result c = some (c .before .before .before .before)
 
 mul-result : tie.Need-mul-result
-mul-result c = omega (arith, few (c .before .before .before))
+mul-result c = omega (arith, few (c .before .before .before .before))
 
 array-read-result : tie.Need-array-read-result
-array-read-result c = let t = c .before .before .before in omega (arith, few t, some t)
+array-read-result c = let t = c .before .before .before .before in omega (arith, few t, some t)
 
 returns-2 : tie.Need-returns-2
 unfolding hasSizeBy bit
 returns-2 c =
-    let t = c .before .before .before in
+    let t = c .before .before .before .before in
     let a = began t .args in
-    let low : a .motif < entryBits = omega (arith, t .before .before .if1 .left) in
-    ap (λ (l : List ℕ). eqb (bit (getD l (a .rows * a .cols - 1) 0) (a .motif)) 1) (c .before .fill .ensures)
-    ∙ sym (and-on _ _ (lt-ltb (a .motif) entryBits low) ∙ and-on _ _ (on-card t))
+    let low : a .motif < mostMotifs = omega (arith, t .before .before .if1 .left) in
+    ap (λ (l : List ℕ). eqb (bit (getD l (a .size .rows * a .size .cols - 1) 0) (a .motif)) 1) (c .before .fill .ensures)
+    ∙ sym (and-on _ _ (lt-ltb (a .motif) mostMotifs low) ∙ and-on _ _ (on-card t))
 
 returns-3 : tie.Need-returns-3
 unfolding hasSizeBy
 returns-3 c =
     let a = c .before .before .before .before .args in
-    let low : a .motif < entryBits = omega (arith, c .before .before .if1 .left) in
-    sym (and-on _ _ (lt-ltb (a .motif) entryBits low) ∙ and-off _ _ (sym (c .before .on-card .ensures) ∙ c .if2 .left))
+    let low : a .motif < mostMotifs = omega (arith, c .before .before .if1 .left) in
+    sym (and-on _ _ (lt-ltb (a .motif) mostMotifs low) ∙ and-off _ _ (sym (c .before .within .ensures) ∙ c .if2 .left))
 
 pub has-size-spec : {M : Type 1} → statement M
 has-size-spec =
@@ -72,7 +72,7 @@ has-size-spec =
     (tie.spec
     returns
     (λ c κs. search needs)
-    (λ c. omega (arith, few c))
+    (λ c. omega (arith, few (c .before)))
     (λ c. search needs)
     fill-requires
     sub-result

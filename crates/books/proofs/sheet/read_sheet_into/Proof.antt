@@ -1,0 +1,105 @@
+-- Each stage is called on what the stage before found, as its definition says; the area of a size in range fits the cells.
+use borrow.Author.Tests.{eq-eqb, ne-eqb}
+use borrow.Author.Needs.{needs}
+use mathlib.Core.Path.{_≡_, _∙_, sym}
+use denote.Ref.{now}
+use Rattle.names.specs.Number.{numberAt}
+use Rattle.names.specs.declared.number.Read.the-variants.{Value}
+use Rattle.names.proofs.ReadingColours.{colours-lie, colours-places}
+use Rattle.names.proofs.ToldInParts.{told-whole}
+use Rattle.books.specs.Size.{greatest}
+use Rattle.books.specs.Sheet.{sheetOf}
+use Rattle.books.proofs.Area.{within-room}
+use Rattle.books.proofs.ReadingSizes.{size-lies}
+use Rattle.books.proofs.sheet.read_sheet_into.Statement.{statement}
+use Rattle.books.proofs.sheet.read_sheet_into.Tie as tie
+
+-- from where the size was read: where the ticket was, and where the colours were
+abbrev job : tie.After-read-size → tie.After-read-number
+job c = c .before .before .before .before
+
+abbrev list : tie.After-read-number → tie.After-read-list
+list c = c .before .before .before .before
+
+-- the ticket stands right after the colours
+ticket-there : (c : tie.After-read-size) →
+    numberAt (now (list (job c) .before .before .before .before .args .s)) (list (job c) .read-list .result .next)
+    ≡ Value (c .before .before .job2 .given .0 .0) (c .before .before .job2 .given .0 .1 .0)
+ticket-there c = sym (job c .read-number .ensures) ∙ c .before .before .job2 .given .1
+
+returns : tie.Need-returns
+unfolding sheetOf
+returns c =
+    let t = c .before .before .before .before in
+    simp (← told-whole (t .before .before .before .read-list .ensures), ne-eqb _ _ (t .if1 .taken)) (c .refuse-sheet .ensures)
+
+fill-sheet-requires : tie.Need-fill-sheet-requires
+fill-sheet-requires c κs =
+    let read = c .before .before .before .before in
+    let z = read .before .before in
+    let n = job z in
+    let l = list n .read-list .ensures in
+    let size = size-lies _ _ greatest _ _ (sym (z .read-size .ensures) ∙ read .read2 .given .1) in
+    record {
+      fine = l .fault ∙ colours-lie _ (rw (l .fault) at (n .before .if1 .left)) .fine;
+      colours-few = rw (l .count) (colours-places _ .few);
+      area-few = within-room (size .within);
+    }
+
+returns-2 : tie.Need-returns-2
+unfolding sheetOf
+returns-2 c =
+    let refused = c .before .before .before .before .before in
+    let n = refused .before .before in
+    simp (← told-whole (list n .read-list .ensures), eq-eqb _ _ (n .before .if1 .left), ← n .read-number .ensures, refused .job .given .1)
+    (c .refuse-sheet2 .ensures)
+
+returns-3 : tie.Need-returns-3
+unfolding sheetOf
+returns-3 c =
+    let refused = c .before .before .before .before .before in
+    let z = refused .before .before in
+    let n = job z in
+    simp (
+      ← told-whole (list n .read-list .ensures),
+      eq-eqb _ _ (n .before .if1 .left),
+      ticket-there z,
+      ← z .read-size .ensures,
+      refused .read .given .1,
+    )
+    (c .refuse-sheet3 .ensures)
+
+returns-4 : tie.Need-returns-4
+unfolding sheetOf
+returns-4 c =
+    let read = c .before .before .before .before .before in
+    let z = read .before .before in
+    let n = job z in
+    simp (
+      ← told-whole (list n .read-list .ensures),
+      eq-eqb _ _ (n .before .if1 .left),
+      ticket-there z,
+      ← z .read-size .ensures,
+      read .read2 .given .1,
+    )
+    (c .fill-sheet .ensures)
+
+pub read-sheet-into-spec : {M : Type 1} → statement M
+read-sheet-into-spec =
+    tie.close
+    (tie.spec
+    (λ c κs. search needs)
+    (λ c κs. search needs)
+    returns
+    (λ c κs. search needs)
+    (λ c. search needs)
+    (λ c κs. search needs)
+    (λ c. search needs)
+    (λ c κs. search needs)
+    (λ c. search needs)
+    (λ c κs. search needs)
+    (λ c. search needs)
+    fill-sheet-requires
+    returns-2
+    returns-3
+    returns-4)
