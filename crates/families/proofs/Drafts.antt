@@ -20,8 +20,8 @@ use Rattle.books.specs.declared.rule.Rule.{Rule}
 use Rattle.books.specs.declared.rule.Body.{Body}
 use Rattle.families.specs.Combine.{copies, repeated, rebodied}
 use Rattle.families.specs.inner.Counts.{headed}
-use Rattle.families.specs.inner.Gathered.{standing, followed, changed, Rows}
-use Rattle.families.specs.inner.Lent.{rulesOf, Sized}
+use Rattle.families.specs.inner.Gathered.{rulesStanding, followed, changed, Rows}
+use Rattle.families.specs.inner.Lent.{rulesOf, CountsKept}
 use Rattle.families.specs.Limits.{countsWithin?, withinLimits?}
 use Rattle.families.specs.inner.Combined.{repeatedRules}
 use Rattle.families.specs.inner.Made.{draftedAs, tooMuch, Makes}
@@ -31,8 +31,8 @@ use Rattle.families.proofs.Testing.{within-limits, within-counts}
 use Rattle.families.proofs.AddingRules.{Stands, standing-length, followed-stands, changed-stands}
 
 -- Contents that are within the limits are drafted, and others are told.
-pub drafted-makes : (s t : List ℕ) (f : Family) (more : Colours) (l : Rules) (c : Contents) → Sized f → more .count ≤ mostColours → Rows l
-    → namesIn s (f .colours) ++ namesIn t more ≡ c .colours → standing l ≡ c .rules → withinLimits? c ≡ true
+pub drafted-makes : (s t : List ℕ) (f : Family) (more : Colours) (l : Rules) (c : Contents) → CountsKept f → more .count ≤ mostColours → Rows l
+    → namesIn s (f .colours) ++ namesIn t more ≡ c .colours → rulesStanding l ≡ c .rules → withinLimits? c ≡ true
     → Makes s t c (draftedAs f more (c .motifs) (c .start) l)
 drafted-makes s t f more l c sized few rows colours rules small =
     record {
@@ -41,7 +41,7 @@ drafted-makes s t f more l c sized few rows colours rules small =
       ready = record { colours-few = sized .colours-few; more-few = few; rules-few = rows .few; rules-all = rows .places-all };
     }
 
-pub exceeding-makes : (s t : List ℕ) (f : Family) (c : Contents) → Sized f → withinLimits? c ≡ false → Makes s t c (tooMuch f)
+pub exceeding-makes : (s t : List ℕ) (f : Family) (c : Contents) → CountsKept f → withinLimits? c ≡ false → Makes s t c (tooMuch f)
 exceeding-makes s t f c sized much =
     record {
       tested = sym much;
@@ -50,14 +50,14 @@ exceeding-makes s t f c sized much =
     }
 
 -- A family's own rules stand in its row.
-module _ (s : List ℕ) (f : Family) (sized : Sized f) where
+module _ (s : List ℕ) (f : Family) (sized : CountsKept f) where
   pub own-stand : Stands (rulesOf f) (contentsIn s f .rules)
   own-stand = record { rows = sized .rows; are = refl }
 
   pub own-count : length (contentsIn s f .rules) ≡ f .count
   own-count = standing-length (rulesOf f) (sized .rows)
 
-module _ (s t : List ℕ) (f : Family) (sized : Sized f) where
+module _ (s t : List ℕ) (f : Family) (sized : CountsKept f) where
   abbrev book : Contents
   book = contentsIn s f
 

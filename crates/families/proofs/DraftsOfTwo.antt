@@ -22,7 +22,7 @@ use Rattle.families.specs.Merged.{merged}
 use Rattle.families.specs.inner.Merges.{Merges}
 use Rattle.families.specs.Combine.{moved, renumbered, raised, copies, bothBooks, joined, either-of}
 use Rattle.families.specs.inner.Asked.{paired}
-use Rattle.families.specs.inner.Gathered.{standing, followed, raisedBy}
+use Rattle.families.specs.inner.Gathered.{rulesStanding, followed, raisedBy}
 use Rattle.families.specs.inner.Lent.{rulesOf, Lent}
 use Rattle.families.specs.Limits.{countsWithin?, withinLimits?}
 use Rattle.families.specs.inner.Combined.{raisedRules, bothRules, addedBy, pairRules}
@@ -62,7 +62,7 @@ module _ (s t : List ℕ) (f g : Family) (m : Merged) (lf : Lent s f) (lg : Lent
 
   -- the second book's rules, raised
   abbrev risen : List Rule
-  risen = standing (raisedRules f g (m .numbers))
+  risen = rulesStanding (raisedRules f g (m .numbers))
 
   risen-are : risen ≡ raised first second
   unfolding raisedBy

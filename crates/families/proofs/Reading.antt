@@ -19,7 +19,7 @@ use Rattle.books.specs.declared.family.Family.{Family}
 use Rattle.books.proofs.ReadingBooks.{book-lies, book-accepted}
 use Rattle.families.specs.inner.Lent.{rulesOf, Lent}
 use Rattle.families.specs.Outcome.{Outcome, refused, lent, Leaves}
-use Rattle.families.specs.inner.Gathered.{standing}
+use Rattle.families.specs.inner.Gathered.{rulesStanding}
 use Rattle.families.proofs.Fitting.{fit-more}
 
 book-lent : (s : List ℕ) → Bytes s → bookOf s .fault .number ≡ 0 → Lent s (bookOf s .family)
@@ -36,7 +36,7 @@ book-lent s bytes z =
           start-fits = lies .start-fits;
           rows = record { few = lies .rules-few; places-all = lies .rules-size };
         };
-        fits = fit-more _ _ mostMotifs mostColours (standing (rulesOf f)) (keeps .motifs-few) (keeps .colours-ok .few) (keeps .sound .rules-fit);
+        fits = fit-more _ _ mostMotifs mostColours (rulesStanding (rulesOf f)) (keeps .motifs-few) (keeps .colours-ok .few) (keeps .sound .rules-fit);
       };
       keeps = keeps;
       lists = record {

@@ -23,9 +23,9 @@ use Rattle.families.proofs.Joining.{cut-joined}
 use Rattle.families.proofs.Reheading.{rehead, joins-same, colour-joins, join-of}
 
 module _ (d : Dir) (f : Contents) (sf : Sound f) where
-  standing : After f (repeated d f) (copies (f .motifs) (f .start) (f .rules) ++ (record { head = f .motifs; body = joins d (f .start) (f .motifs) } ∷ [])) []
+  rulesStanding : After f (repeated d f) (copies (f .motifs) (f .start) (f .rules) ++ (record { head = f .motifs; body = joins d (f .start) (f .motifs) } ∷ [])) []
   unfolding repeated
-  standing =
+  rulesStanding =
       record {
         rules-are = refl;
         colours-are = sym (append-nil (f .colours));
@@ -41,12 +41,12 @@ module _ (d : Dir) (f : Contents) (sf : Sound f) where
       ⊎-elim
       (λ u. inl (Memᴰ·append-left _ (copies-back _ _ _ x (f .rules) u .1)))
       (λ u. inr (ap (λ (q : Rule). q .body) (List·Memᴰ·eq-of-singleton u)))
-      (List·Memᴰ·append-cases (copies (f .motifs) (f .start) (f .rules)) (later-rule f _ _ _ sf standing z x (omega arith) m))
+      (List·Memᴰ·append-cases (copies (f .motifs) (f .start) (f .rules)) (later-rule f _ _ _ sf rulesStanding z x (omega arith) m))
 
   has-first : (x : Body) → Has (repeated d f) (f .start) x → Has (repeated d f) (f .motifs) x
   unfolding repeated
   has-first x m =
-      let u = first-rule f _ _ _ sf standing _ x (sf .start-fits) m in
+      let u = first-rule f _ _ _ sf rulesStanding _ x (sf .start-fits) m in
       Memᴰ·append-right (f .rules) (Memᴰ·append-left _ (copies-forth _ _ x (f .rules) u))
 
   start-has : Has (repeated d f) (f .motifs) (joins d (f .start) (f .motifs))
@@ -54,7 +54,7 @@ module _ (d : Dir) (f : Contents) (sf : Sound f) where
   start-has = Memᴰ·append-right (f .rules) (Memᴰ·append-right (copies (f .motifs) (f .start) (f .rules)) (List·Memᴰ·head refl))
 
   first-in : (p : Picture) → Derives (repeated d f) (f .start) p ↔ Member f p
-  first-in = first-derives f _ _ _ sf standing
+  first-in = first-derives f _ _ _ sf rulesStanding
 
   -- a derivation of the new start is a run: one picture, or the join of one picture with a run
   longer : (e : Dir) (l r k : ℕ) {p : Picture} → k < size e p → Derives (repeated d f) l (first e k p)

@@ -11,8 +11,8 @@ ghost use mathlib.Core.Path.{_≡_};
 ghost use Prim.Native.Nat.{_<_};
 ghost use Rattle.books.specs.Picture.{joins};
 ghost use Rattle.families.specs.inner.Counts.{headed};
-ghost use Rattle.families.specs.inner.Gathered.{standing};
-ghost use Rattle.families.specs.inner.Lent.{rulesOf, Sized};
+ghost use Rattle.families.specs.inner.Gathered.{rulesStanding};
+ghost use Rattle.families.specs.inner.Lent.{rulesOf, CountsKept};
 ghost use Rattle.families.specs.inner.Combined.{addedBy, PairFits, pairRules, RepeatFits, repeatedRules};
 
 // A family's rules by themselves.
@@ -28,15 +28,15 @@ pub(crate) fn rules_of(f: Family) -> Rules
 
 // How many rules the start has: as many are copied from it.
 pub(crate) fn start_rules(f: Family) -> usize
-    requires { ⌜ Sized f ⌝ }
-    ensures { λ r. ⌜ r ≡ headed (f .start) (standing (rulesOf f)) ⌝ }
+    requires { ⌜ CountsKept f ⌝ }
+    ensures { λ r. ⌜ r ≡ headed (f .start) (rulesStanding (rulesOf f)) ⌝ }
 {
     gathering::count_headed(rules_of(f), f.start)
 }
 
 // How many rules a pairing adds to those of both families.
 pub(crate) fn added_by(pairing: Pairing, f: Family, g: Family) -> usize
-    requires { ⌜ Sized f × Sized g ⌝ }
+    requires { ⌜ CountsKept f × CountsKept g ⌝ }
     ensures { λ r. ⌜ r ≡ addedBy pairing f g ⌝ }
 {
     match pairing {

@@ -11,7 +11,7 @@ ghost use Rattle.books.specs.declared.rule.Rule.{Rule};
 ghost use Rattle.books.specs.Keeps.{mostMotifs, mostRules, RuleFits};
 ghost use Rattle.families.specs.Combine.{copies};
 ghost use Rattle.families.specs.inner.Counts.{headed};
-ghost use Rattle.families.specs.inner.Gathered.{standing, followed, raisedBy, changed, Rows};
+ghost use Rattle.families.specs.inner.Gathered.{rulesStanding, followed, raisedBy, changed, Rows};
 
 // The first `count` rules stand.
 pub(crate) struct Rules {
@@ -36,7 +36,7 @@ pub(crate) fn add_rule(l: Rules, rule: Rule) -> Rules
 // All rules of another list after these.
 pub(crate) fn add_rules(l: Rules, k: Rules) -> Rules
     requires { ⌜ (l .count + k .count ≤ mostRules) × Rows k ⌝ }
-    ensures { λ r. ⌜ r ≡ followed l (standing k) ⌝ }
+    ensures { λ r. ⌜ r ≡ followed l (rulesStanding k) ⌝ }
 {
     let mut rules = l.rules;
     let from = l.count;
@@ -53,7 +53,7 @@ pub(crate) fn add_rules(l: Rules, k: Rules) -> Rules
 // How many rules have a head.
 pub(crate) fn count_headed(k: Rules, head: usize) -> usize
     requires { ⌜ Rows k ⌝ }
-    ensures { λ r. ⌜ r ≡ headed head (standing k) ⌝ }
+    ensures { λ r. ⌜ r ≡ headed head (rulesStanding k) ⌝ }
 {
     let count = k.count;
     let mut n = 0;
@@ -68,8 +68,8 @@ pub(crate) fn count_headed(k: Rules, head: usize) -> usize
 
 // Copies of another list's rules with one head, under a new head, after these.
 pub(crate) fn add_copies(l: Rules, k: Rules, head: usize, new: usize) -> Rules
-    requires { ⌜ (l .count + headed head (standing k) ≤ mostRules) × Rows k × (new < 256) ⌝ }
-    ensures { λ r. ⌜ r ≡ followed l (copies new head (standing k)) ⌝ }
+    requires { ⌜ (l .count + headed head (rulesStanding k) ≤ mostRules) × Rows k × (new < 256) ⌝ }
+    ensures { λ r. ⌜ r ≡ followed l (copies new head (rulesStanding k)) ⌝ }
 {
     let mut rules = l.rules;
     let mut at = l.count;
@@ -114,7 +114,7 @@ fn raised_rule(rule: Rule, by: usize, numbers: [u8; MOST_COLOURS]) -> Rule
 
 // All rules of a second book, raised.
 pub(crate) fn raise_rules(k: Rules, by: usize, numbers: [u8; MOST_COLOURS]) -> Rules
-    requires { ⌜ (by ≤ mostMotifs) × Rows k × ((r : Rule) → List·Memᴰ r (standing k) → RuleFits mostMotifs mostColours r) ⌝ }
+    requires { ⌜ (by ≤ mostMotifs) × Rows k × ((r : Rule) → List·Memᴰ r (rulesStanding k) → RuleFits mostMotifs mostColours r) ⌝ }
     ensures { λ r. ⌜ r ≡ changed (raisedBy by numbers) k ⌝ }
 {
     let mut rules = k.rules;

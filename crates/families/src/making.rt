@@ -16,7 +16,7 @@ use names::colours::Colours;
 use names::colours::MOST_COLOURS;
 ghost use mathlib.Core.Path.{_≡_};
 ghost use Rattle.families.specs.Limits.{countsWithin?};
-ghost use Rattle.families.specs.inner.Lent.{Sized, Lent};
+ghost use Rattle.families.specs.inner.Lent.{CountsKept, Lent};
 ghost use Rattle.families.specs.inner.Made.{draftedAs, tooMuch, MakesPair, MakesSingle};
 
 // Whether a combination is within the limits, and its draft; where it is not, the draft is that of the first book.
@@ -94,7 +94,7 @@ pub(crate) fn make_pair(pairing: Pairing, first: &[u8], f: Family, second: &[u8]
 
 // Run or stack: a new start, one rule for each that is copied from the old one, and the rule that joins.
 fn make_repeated(way: Dir, f: Family) -> Made
-    requires { ⌜ Sized f ⌝ }
+    requires { ⌜ CountsKept f ⌝ }
     ensures { λ r. ⌜ MakesSingle (Single.Repeated way) f r ⌝ }
 {
     let own = combining::start_rules(f);
@@ -110,7 +110,7 @@ fn make_repeated(way: Dir, f: Family) -> Made
 
 // Mirrored, flipped or transposed: no count changes.
 fn make_changed(change: Change, f: Family) -> Made
-    requires { ⌜ Sized f ⌝ }
+    requires { ⌜ CountsKept f ⌝ }
     ensures { λ r. ⌜ MakesSingle (Single.Changed change) f r ⌝ }
 {
     let rules = changing::change_rules(change, combining::rules_of(f));
@@ -119,7 +119,7 @@ fn make_changed(change: Change, f: Family) -> Made
 }
 
 pub(crate) fn make_single(single: Single, f: Family) -> Made
-    requires { ⌜ Sized f ⌝ }
+    requires { ⌜ CountsKept f ⌝ }
     ensures { λ r. ⌜ MakesSingle single f r ⌝ }
 {
     match single {

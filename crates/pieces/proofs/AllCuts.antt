@@ -11,7 +11,7 @@ use Rattle.books.specs.declared.rule.Dir.the-variants.{Across as across, Down a
 use Rattle.books.specs.Keeps.{mostRules}
 use Rattle.pieces.specs.Pieces.{Inside}
 use Rattle.pieces.specs.Parts.{reach}
-use Rattle.pieces.specs.Masks.{secondsFrom, headsFrom, placeOf, countOf}
+use Rattle.pieces.specs.Masks.{secondsFrom, headsFrom, placeOf, joinsOf}
 use Rattle.pieces.specs.Firing.{firedAt, joinsFired}
 use Rattle.pieces.specs.Filling.{cutsOf, pieceCuts}
 use Rattle.pieces.specs.inner.Course.{courseOf}
@@ -22,7 +22,7 @@ use Rattle.pieces.specs.declared.piece.Piece.{Piece}
 use Rattle.pieces.proofs.Courses.{course-at, course-on}
 use Rattle.pieces.proofs.Gathered.{gathered-same, gathered-back}
 
-pub window-fires : (masks : List ℕ) (j : Joins) (d : Dir) (l r : ℕ) → j .down ≤ mostRules → allFired (window masks j d) (countOf j d) l r ≡ joinsFired masks j d l r
+pub window-fires : (masks : List ℕ) (j : Joins) (d : Dir) (l r : ℕ) → j .down ≤ mostRules → allFired (window masks j d) (joinsOf j d) l r ≡ joinsFired masks j d l r
 unfolding allFired joinsFired
 window-fires masks j across l r few = refl
 window-fires masks j down l r few = gathered-back (j .down) _ _ back
@@ -38,16 +38,16 @@ window-fires masks j down l r few = gathered-back (j .down) _ _ back
         rw (getD-drop from masks i 0, getD-drop from masks (secondsFrom + i) 0, getD-drop from masks (headsFrom + i) 0, e, f, g)
 
 -- a window has its three rows
-pub window-long : (masks : List ℕ) (j : Joins) (d : Dir) → MasksFit (length masks) j → headsFrom + countOf j d ≤ length (window masks j d)
+pub window-long : (masks : List ℕ) (j : Joins) (d : Dir) → MasksFit (length masks) j → headsFrom + joinsOf j d ≤ length (window masks j d)
 window-long masks j across h = omega (arith, h .all, h .across-few)
 window-long masks j down h = omega (arith, length-drop (mostRules - j .down) masks, h .all, h .down-few)
 
 pub along-cuts : (masks : List ℕ) (j : Joins) (m n : ℕ) (t : List ℕ) (d : Dir) (p : Piece) → j .down ≤ mostRules → Inside m n p
-    → along t (window masks j d) (countOf j d) (courseOf d m n p) ≡ pieceCuts (joinsFired masks j) m n t p d
+    → along t (window masks j d) (joinsOf j d) (courseOf d m n p) ≡ pieceCuts (joinsFired masks j) m n t p d
 unfolding along cutsOf courseOf
 along-cuts masks j m n t d p few i =
     gathered-same (reach d p - 1) _ _
     (λ k h.
     let a = course-at d m n p i k (omega arith) in
     let b = course-on d m n p i k (omega arith) in
-    ap₂ (λ (x y : ℕ). allFired (window masks j d) (countOf j d) (getD t x 0) (getD t y 0)) (a .first) (b .second) ∙ window-fires masks j d _ _ few)
+    ap₂ (λ (x y : ℕ). allFired (window masks j d) (joinsOf j d) (getD t x 0) (getD t y 0)) (a .first) (b .second) ∙ window-fires masks j d _ _ few)

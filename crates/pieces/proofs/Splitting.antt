@@ -20,7 +20,7 @@ use Rattle.books.specs.declared.rule.Rule.{Rule}
 use Rattle.books.specs.declared.rule.Body.{Body}
 use Rattle.books.specs.declared.rule.Body.the-variants.{Colour, Across, Down}
 use Rattle.books.specs.Keeps.{mostRules}
-use Rattle.pieces.specs.Masks.{secondsFrom, headsFrom, paintersFrom, colourMasks, allMasks, placeOf, countOf, Masked, putAt, putJoin, putPainter, putBody, splitFrom}
+use Rattle.pieces.specs.Masks.{secondsFrom, headsFrom, paintersFrom, colourMasks, allMasks, placeOf, joinsOf, Masked, putAt, putJoin, putPainter, putBody, splitFrom}
 use Rattle.pieces.specs.Firing.{firing, gathered, firedAt, joinsFired}
 use Rattle.pieces.specs.declared.masks.Joins.{Joins}
 use Rattle.pieces.proofs.Gathered.{gathered-next, gathered-same}
@@ -86,11 +86,11 @@ module _ (left : ℕ) (s : Masked) (places : PlacesFor (suc left) s) where
   abbrev j : Joins
   j = s .joins
 
-  place-low : (d : Dir) (i : ℕ) → i ≤ countOf j d → placeOf d i < mostRules
+  place-low : (d : Dir) (i : ℕ) → i ≤ joinsOf j d → placeOf d i < mostRules
   place-low across i h = omega (arith, places .free)
   place-low down i h = omega arith
 
-  place-apart : (d e : Dir) (i : ℕ) → i < countOf j d → placeOf d i ≡ placeOf e (countOf j e) → ⊥
+  place-apart : (d e : Dir) (i : ℕ) → i < joinsOf j d → placeOf d i ≡ placeOf e (joinsOf j e) → ⊥
   place-apart across across i h p = omega arith
   place-apart across down i h p = omega (arith, places .free)
   place-apart down across i h p = omega (arith, places .free)
@@ -98,26 +98,26 @@ module _ (left : ℕ) (s : Masked) (places : PlacesFor (suc left) s) where
 
   module _ (a x y l r : ℕ) where
     -- those that stood, ...
-    stood : (d e : Dir) → gathered (countOf j d) (λ i. firedAt (putJoin s e a x y .masks) l r (placeOf d i)) ≡ joinsFired (s .masks) j d l r
+    stood : (d e : Dir) → gathered (joinsOf j d) (λ i. firedAt (putJoin s e a x y .masks) l r (placeOf d i)) ≡ joinsFired (s .masks) j d l r
     unfolding joinsFired
     stood d e =
-        gathered-same (countOf j d) _ _
-        (λ i h. others-fire (s .masks) (placeOf e (countOf j e)) a x y (place-low e (countOf j e) (omega arith)) l r (placeOf d i)
+        gathered-same (joinsOf j d) _ _
+        (λ i h. others-fire (s .masks) (placeOf e (joinsOf j e)) a x y (place-low e (joinsOf j e) (omega arith)) l r (placeOf d i)
         (place-low d i (omega arith)) (place-apart d e i h))
 
     -- ... and one more
-    more : (d : Dir) → gathered (countOf j d + 1) (λ i. firedAt (putJoin s d a x y .masks) l r (placeOf d i))
+    more : (d : Dir) → gathered (joinsOf j d + 1) (λ i. firedAt (putJoin s d a x y .masks) l r (placeOf d i))
         ≡ bitOr (joinsFired (s .masks) j d l r) (firing l r (2 ^ x) (2 ^ y) (2 ^ a))
     more d =
-        gathered-next (countOf j d) _
-        ∙ ap₂ bitOr (stood d d) (put-fires (s .masks) (placeOf d (countOf j d)) a x y (place-low d (countOf j d) (omega arith)) (places .long) l r)
+        gathered-next (joinsOf j d) _
+        ∙ ap₂ bitOr (stood d d) (put-fires (s .masks) (placeOf d (joinsOf j d)) a x y (place-low d (joinsOf j d) (omega arith)) (places .long) l r)
 
   -- what fires, with one rule more
   pub more-fires : (a : ℕ) (x : Body) (d : Dir) (l r : ℕ)
       → let t = putBody s a x in joinsFired (t .masks) (t .joins) d l r ≡ bitOr (joinsFired (s .masks) j d l r) (fired d l r a x)
   unfolding joinsFired
   more-fires a (Colour c) d l r =
-      gathered-same (countOf j d) _ _
+      gathered-same (joinsOf j d) _ _
       (λ i h. let low = place-low d i (omega arith) in rw (before (placeOf d i) (omega arith), before (secondsFrom + placeOf d i) (omega arith), before (headsFrom + placeOf d i) (omega arith)))
       ∙ sym (or-zero-r _)
     where

@@ -8,7 +8,7 @@ use lib.ListN.{length, getD}
 use Rattle.names.specs.Pick.{pick}
 use Rattle.books.specs.Keeps.{mostRules}
 use Rattle.books.specs.declared.rule.Dir.{Dir}
-use Rattle.pieces.specs.Masks.{secondsFrom, headsFrom, paintersFrom, colourMasks, allMasks, placeOf, countOf}
+use Rattle.pieces.specs.Masks.{secondsFrom, headsFrom, paintersFrom, colourMasks, allMasks, placeOf, joinsOf}
 use Rattle.pieces.specs.declared.masks.Joins.{Joins}
 
 -- one join at one cut: its head, where the entries l and r of the two parts have the motifs of its first and its second part
@@ -26,7 +26,7 @@ firedAt masks l r i = firing l r (getD masks i 0) (getD masks (secondsFrom + i) 
 
 -- all joins of a direction at one cut
 unfoldable pub joinsFired : List ℕ → Joins → Dir → ℕ → ℕ → ℕ
-joinsFired masks j d l r = gathered (countOf j d) (λ i. firedAt masks l r (placeOf d i))
+joinsFired masks j d l r = gathered (joinsOf j d) (λ i. firedAt masks l r (placeOf d i))
 
 -- masks of this number, with so many joins, have a place for each
 unfoldable pub fitting : ℕ → Joins → Bool

@@ -42,9 +42,9 @@ abbrev pub placeOf : Dir → ℕ → ℕ
 placeOf across i = i
 placeOf down i = mostRules - 1 - i
 
-abbrev pub countOf : Joins → Dir → ℕ
-countOf j across = j .across
-countOf j down = j .down
+abbrev pub joinsOf : Joins → Dir → ℕ
+joinsOf j across = j .across
+joinsOf j down = j .down
 
 -- ── Splitting ──
 
@@ -68,7 +68,7 @@ abbrev pub putAt : List ℕ → ℕ → ℕ → ℕ → ℕ → List ℕ
 putAt masks at head first second = set (set (set masks at (2 ^ first)) (secondsFrom + at) (2 ^ second)) (headsFrom + at) (2 ^ head)
 
 abbrev pub putJoin : Masked → Dir → ℕ → ℕ → ℕ → Masked
-putJoin s d head first second = masked (putAt (s .masks) (placeOf d (countOf (s .joins) d)) head first second) (oneJoinMore (s .joins) d)
+putJoin s d head first second = masked (putAt (s .masks) (placeOf d (joinsOf (s .joins) d)) head first second) (oneJoinMore (s .joins) d)
 
 -- the head of a colour rule joins the other painters of its colour
 abbrev pub putPainter : Masked → ℕ → ℕ → Masked

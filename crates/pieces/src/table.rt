@@ -17,8 +17,7 @@ ghost use Rattle.pieces.specs.Filling.{entryOf, joinedBy, filledBy};
 ghost use Rattle.pieces.specs.inner.Room.{Slotted};
 ghost use Rattle.pieces.specs.inner.Course.{Runs};
 ghost use Rattle.pieces.specs.inner.Along.{along};
-ghost use Rattle.pieces.specs.inner.Seen.{Tabled};
-ghost use Rattle.pieces.specs.inner.ForTable.{MasksFit, Paintable};
+ghost use Rattle.pieces.specs.inner.ForTable.{TableDue, Paintable};
 
 // Every join of one direction at every cut of a piece.
 fn join_along(work: &[u32], masks: &[u32], count: usize, course: Course) -> u32
@@ -40,7 +39,7 @@ fn join_along(work: &[u32], masks: &[u32], count: usize, course: Course) -> u32
 
 // The entry of a piece of more than one cell, from the entries of its parts.
 fn entry_of(work: &[u32], masks: &[u32], joins: Joins, size: Size, p: Piece, slot: usize) -> u32
-    requires { ⌜ Tabled size (now work) × MasksFit (length (now masks)) joins × Slotted (size .rows) (size .cols) p slot ⌝ }
+    requires { ⌜ TableDue size (now work) (length (now masks)) joins × Slotted (size .rows) (size .cols) p slot ⌝ }
     ensures { λ x. ⌜ x ≡ entryOf (joinsFired (now (masks .entry)) joins) (size .rows) (size .cols) (now (work .entry)) p ⌝ }
 {
     let from = MOST_RULES - joins.down;
@@ -61,7 +60,7 @@ fn entry_of(work: &[u32], masks: &[u32], joins: Joins, size: Size, p: Piece, slo
 
 // Every entry of a table that begins with those of the cells.
 fn fill(work: &mut [u32], masks: &[u32], joins: Joins, size: Size)
-    requires { ⌜ Tabled size (now work) × MasksFit (length (now masks)) joins ⌝ }
+    requires { ⌜ TableDue size (now work) (length (now masks)) joins ⌝ }
     ensures { λ _. ⌜ now (work .exit) ≡ joinedBy (joinsFired (now (masks .entry)) joins) (size .rows) (size .cols) (now (work .entry)) ⌝ }
 {
     let m = size.rows;
@@ -88,7 +87,7 @@ fn fill(work: &mut [u32], masks: &[u32], joins: Joins, size: Size)
 
 // The table of a sheet by masks, and by the numbers that the colours of its cells have among them.
 pub(crate) fn fill_from(masks: &[u32], joins: Joins, colours: &[u8], size: Size, work: &mut [u32])
-    requires { ⌜ Tabled size (now work) × MasksFit (length (now masks)) joins × Paintable (now colours) (size .rows * size .cols) ⌝ }
+    requires { ⌜ TableDue size (now work) (length (now masks)) joins × Paintable (now colours) (size .rows * size .cols) ⌝ }
     ensures { λ _. ⌜ now (work .exit) ≡ filledBy (now (masks .entry)) joins (now (colours .entry)) (size .rows) (size .cols) (now (work .entry)) ⌝ }
 {
     cells::paint_cells(masks, colours, piece::times(size.rows, size.cols), work);

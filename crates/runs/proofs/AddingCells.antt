@@ -10,7 +10,7 @@ use borrow.Author.Tests.{eq-eqb, ne-eqb}
 use lib.ListN.{length, getD, take, drop, length-set, drop-of-length-le}
 use lib.Seq.{drop-cons, getD-set-same, getD-set-other}
 use Rattle.pieces.specs.declared.asking.Asked.{Asked}
-use Rattle.runs.specs.inner.Adding.{answersFrom, cellsFrom, anyAt, oneMore, countOf, answered, coloured, ticketed, Spare, Colourable, areaOf, withAsked, Addable}
+use Rattle.runs.specs.inner.Adding.{answersFrom, cellsFrom, anyAt, oneMore, countPlace, answered, coloured, ticketed, Spare, Colourable, areaOf, withAsked, Addable}
 
 -- a count more stands where it was added, and all else is as it was
 pub more-here : (f : List ℕ) (k : ℕ) → k < length f → getD (oneMore f k) k 0 ≡ getD f k 0 + 1
@@ -50,7 +50,7 @@ cells-next r cells f p z =
     record {
       all = p .cells-all;
       low = p .cells-low z;
-      spare = spare-less n (oneMore f 0) (answersFrom + countOf (r .answer .number)) (omega (arith, first .long, p .counted)) first;
+      spare = spare-less n (oneMore f 0) (answersFrom + countPlace (r .answer .number)) (omega (arith, first .long, p .counted)) first;
     }
 
 -- the two ways to add a sheet that was asked

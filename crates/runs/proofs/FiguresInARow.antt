@@ -13,7 +13,7 @@ use Rattle.names.specs.Counted.{each}
 use Rattle.names.specs.Spelling.{mostColours}
 use Rattle.runs.specs.Figures.{answersGiven, answerCounts}
 use Rattle.runs.specs.Lists.{howMany, anyIn, leastOf, greatestOf}
-use Rattle.runs.specs.inner.Adding.{cellsFrom, oneMore, countOf, answered, coloured, leastWith, ticketed}
+use Rattle.runs.specs.inner.Adding.{cellsFrom, oneMore, countPlace, answered, coloured, leastWith, ticketed}
 use Rattle.runs.proofs.AddingCells.{more-here, more-else, more-long}
 use Rattle.runs.proofs.AnswersOfSheets.{Listed, of-listed}
 use Rattle.runs.proofs.CountingLists.{once, how-many-cons, how-many-none}
@@ -48,16 +48,16 @@ more-front l m k h = rw (List·getD-append l m 0 k h) (set-append-left l m k (ge
 
 -- ── An answer more ──
 
-pub count-low : (n : ℕ) → Listed n → countOf n < answerCounts
-unfolding countOf
+pub count-low : (n : ℕ) → Listed n → countPlace n < answerCounts
+unfolding countPlace
 count-low =
-    of-listed (λ n. countOf n < answerCounts) (omega arith) (omega arith) (omega arith) (omega arith) (omega arith) (omega arith) (omega arith) (omega arith)
+    of-listed (λ n. countPlace n < answerCounts) (omega arith) (omega arith) (omega arith) (omega arith) (omega arith) (omega arith) (omega arith) (omega arith)
     (omega arith) (omega arith)
 
-answers-more : (got : ℕ → ℕ) (n : ℕ) → Listed n → oneMore (map got answersGiven) (countOf n) ≡ map (λ a. got a + once (eqb n a)) answersGiven
-unfolding oneMore countOf
+answers-more : (got : ℕ → ℕ) (n : ℕ) → Listed n → oneMore (map got answersGiven) (countPlace n) ≡ map (λ a. got a + once (eqb n a)) answersGiven
+unfolding oneMore countPlace
 answers-more got =
-    of-listed (λ n. oneMore (map got answersGiven) (countOf n) ≡ map (λ a. got a + once (eqb n a)) answersGiven) (simp add-zero) (simp add-zero)
+    of-listed (λ n. oneMore (map got answersGiven) (countPlace n) ≡ map (λ a. got a + once (eqb n a)) answersGiven) (simp add-zero) (simp add-zero)
     (simp add-zero) (simp add-zero) (simp add-zero) (simp add-zero) (simp add-zero) (simp add-zero) (simp add-zero) (simp add-zero)
 
 -- ── A cell more ──
@@ -97,8 +97,8 @@ module _ (sheets : ℕ) (got : ℕ → ℕ) where
   row-answered cells behind n l =
       let first = (sheets + 1) ∷ [] in
       let after = each mostColours (λ c. cells c ∷ []) ++ behind in
-      more-behind first (map got answersGiven ++ after) (countOf n)
-      ∙ ap (λ (r : List ℕ). first ++ r) (more-front (map got answersGiven) after (countOf n) (count-low n l) ∙ ap (λ (r : List ℕ). r ++ after) (answers-more got n l))
+      more-behind first (map got answersGiven ++ after) (countPlace n)
+      ∙ ap (λ (r : List ℕ). first ++ r) (more-front (map got answersGiven) after (countPlace n) (count-low n l) ∙ ap (λ (r : List ℕ). r ++ after) (answers-more got n l))
 
   -- colours that have a count
   pub row-coloured : (cells : ℕ → ℕ) (behind l : List ℕ) → Low l

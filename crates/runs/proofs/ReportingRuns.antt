@@ -16,7 +16,7 @@ use Rattle.books.specs.declared.answer.Answer.{Answer}
 use Rattle.books.proofs.LentEnds.{blamed-is}
 use Rattle.runs.specs.Run.{framing, sheetsOf}
 use Rattle.runs.specs.Figures.{workRoom, figuresOf, noFigures, figuresLong, inARow}
-use Rattle.runs.specs.Outcome.{Outcome, framed, refusal, refused, reported, report, Answers, Told, told, runReport, Leaves}
+use Rattle.runs.specs.Outcome.{Outcome, refusedRun, refusal, refused, reported, report, Answers, Told, told, runReport, Leaves}
 use Rattle.runs.specs.declared.figures.Figures.{Figures}
 use Rattle.runs.specs.inner.Adding.{standing}
 use Rattle.runs.specs.inner.Reporting.{refusing, Counts, telling}
@@ -29,16 +29,16 @@ module _ (f : Fault) (run : List ℕ) (entries : ℕ) where
 
   module _ (z : f .number ≡ 0) where
     pub run-second : (framing run .number ≡ 0 → ⊥) → refusing f run entries ≡ blaming 2 (framing run)
-    unfolding framed
+    unfolding refusedRun
     run-second n = rw (eq-eqb (f .number) 0 z, ne-eqb (framing run .number) 0 n) refl
 
     module _ (y : framing run .number ≡ 0) where
       pub work-third : entries < workRoom → refusing f run entries ≡ plain 9
-      unfolding framed
+      unfolding refusedRun
       work-third h = rw (eq-eqb (f .number) 0 z, eq-eqb (framing run .number) 0 y, lt-ltb entries workRoom h) refl
 
       pub nothing-refused : workRoom ≤ entries → refusing f run entries ≡ plain 0
-      unfolding framed
+      unfolding refusedRun
       nothing-refused h = rw (eq-eqb (f .number) 0 z, eq-eqb (framing run .number) 0 y, le-ltb entries workRoom h) refl
 
   pub record Granted : Type 0 where
@@ -54,9 +54,9 @@ module _ (f : Fault) (run : List ℕ) (entries : ℕ) where
     pub nothing : Granted → P (plain 0)
 
   pub refusing-ends : (P : Answer → Type 0) → Ways P → P (refusing f run entries)
-  unfolding framed
+  unfolding refusedRun
   refusing-ends P ways =
-      pick-ind P (eqb (f .number) 0) (framed run entries) (blaming 1 f)
+      pick-ind P (eqb (f .number) 0) (refusedRun run entries) (blaming 1 f)
       (λ z. let fine = eqb-true (f .number) 0 z in
       pick-ind P (eqb (framing run .number) 0) _ (blaming 2 (framing run))
       (λ y. let good = eqb-true (framing run .number) 0 y in

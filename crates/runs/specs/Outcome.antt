@@ -30,12 +30,12 @@ reported book run entries =
 
 -- what is refused of a run and of so many entries: the fault of the run's framing, then 9 where the entries are too few for the greatest sheet; the number 0 is
 -- nothing
-unfoldable pub framed : List ℕ → ℕ → Answer
-framed run entries = pick (eqb (framing run .number) 0) (pick (ltb entries workRoom) (plain 9) (plain 0)) (blaming 2 (framing run))
+unfoldable pub refusedRun : List ℕ → ℕ → Answer
+refusedRun run entries = pick (eqb (framing run .number) 0) (pick (ltb entries workRoom) (plain 9) (plain 0)) (blaming 2 (framing run))
 
 -- the book's fault comes first
 abbrev pub refusal : List ℕ → List ℕ → List ℕ → Answer
-refusal book run entries = lentBook 1 book (λ a. a) (λ _. framed run (length entries))
+refusal book run entries = lentBook 1 book (λ a. a) (λ _. refusedRun run (length entries))
 
 unfoldable pub report : List ℕ → List ℕ → List ℕ → Outcome
 report book run entries = pick (eqb (refusal book run entries .number) 0) (reported book run entries) (refused (refusal book run entries) entries)

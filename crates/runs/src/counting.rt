@@ -9,11 +9,11 @@ ghost use mathlib.Core.Path.{_≡_};
 ghost use Prim.Native.Nat.{_≤_, max};
 ghost use lib.ListN.{length, take};
 ghost use Rattle.runs.specs.Figures.{figuresLong};
-ghost use Rattle.runs.specs.inner.Adding.{countOf, answered, coloured, leastWith, ticketed, Answerable, Colourable, withAsked, Addable};
+ghost use Rattle.runs.specs.inner.Adding.{countPlace, answered, coloured, leastWith, ticketed, Answerable, Colourable, withAsked, Addable};
 
 // Which of the ten counts an answer has: 11 stands behind 0 to 8.
 fn count_of(answer: u8) -> usize
-    ensures { λ r. ⌜ r ≡ countOf answer ⌝ }
+    ensures { λ r. ⌜ r ≡ countPlace answer ⌝ }
 {
     if answer == 11 { 9 } else { answer as usize }
 }

@@ -10,8 +10,8 @@ use Rattle.families.specs.Combine.{movedRule}
 use Rattle.families.specs.declared.gathering.Rules.{Rules}
 
 -- the rules that stand
-abbrev pub standing : Rules → List Rule
-standing l = take (l .count) (l .rules)
+abbrev pub rulesStanding : Rules → List Rule
+rulesStanding l = take (l .count) (l .rules)
 
 -- with these rules after them
 abbrev pub followed : Rules → List Rule → Rules
@@ -23,7 +23,7 @@ raisedBy by numbers = movedRule (λ a. by + a) (λ c. getD numbers c 0)
 
 -- with each of them changed
 abbrev pub changed : (Rule → Rule) → Rules → Rules
-changed t l = record { count = l .count; rules = sets (l .rules) 0 (map t (standing l)) }
+changed t l = record { count = l .count; rules = sets (l .rules) 0 (map t (rulesStanding l)) }
 
 -- a row with a place for as many rules as a book may have, of which no more are taken
 pub record Rows (l : Rules) : Type 0 where

@@ -44,12 +44,12 @@ unfoldable pub oneMore : List ℕ → ℕ → List ℕ
 oneMore f i = set f i (getD f i 0 + 1)
 
 -- which of the ten counts an answer has: 11 stands behind 0 to 8
-unfoldable pub countOf : ℕ → ℕ
-countOf a = pick (eqb a 11) 9 a
+unfoldable pub countPlace : ℕ → ℕ
+countPlace a = pick (eqb a 11) 9 a
 
 -- a sheet more, with its answer
 unfoldable pub answered : List ℕ → ℕ → List ℕ
-answered f a = oneMore (oneMore f 0) (answersFrom + countOf a)
+answered f a = oneMore (oneMore f 0) (answersFrom + countPlace a)
 
 -- a cell more of each of these colours
 unfoldable pub coloured : List ℕ → List ℕ → List ℕ
@@ -72,7 +72,7 @@ pub record Spare (n : ℕ) (f : List ℕ) : Type 0 where
 
 -- an answer that is counted
 pub record Answerable (answer : ℕ) (f : List ℕ) : Type 0 where
-  pub counted : countOf answer < answerCounts
+  pub counted : countPlace answer < answerCounts
   pub spare : Spare 1 f
 
 -- so many cells, each of a colour that is counted
@@ -99,7 +99,7 @@ mostAdded = room + 2
 
 -- the figures have room for it
 pub record Addable (r : Asked) (cells f : List ℕ) : Type 0 where
-  pub counted : countOf (r .answer .number) < answerCounts
+  pub counted : countPlace (r .answer .number) < answerCounts
   pub spare : Spare mostAdded f
   pub area-few : areaOf (r .size) ≤ room
   pub cells-all : areaOf (r .size) ≤ length cells

@@ -12,12 +12,12 @@ use Rattle.pieces.specs.Asking.{SplitFrom}
 use Rattle.pieces.specs.declared.asking.Split.{Split}
 use Rattle.runs.specs.Run.{framing}
 use Rattle.runs.specs.Figures.{workRoom, figuresOf, noFigures, figuresLong, inARow}
-use Rattle.runs.specs.Outcome.{Told, framed}
+use Rattle.runs.specs.Outcome.{Told, refusedRun}
 use Rattle.runs.specs.inner.Adding.{mostAdded, Spare}
 
 -- what is refused of a book that was read with a fault or with none, of a run and of so many entries
 abbrev pub refusing : Fault → List ℕ → ℕ → Answer
-refusing f run entries = pick (eqb (f .number) 0) (framed run entries) (blaming 1 f)
+refusing f run entries = pick (eqb (f .number) 0) (refusedRun run entries) (blaming 1 f)
 
 -- a book that was split, a work slice with room for the greatest sheet, and figures with room for a sheet more
 pub record SheetDue (book : List ℕ) (split : Split) (masks work figures : List ℕ) : Type 0 where

@@ -3,7 +3,7 @@ use Prim.Native.Nat.{_+_}
 use mathlib.Core.Path.{_≡_}
 use native.Mathlib.Omega.{arith}
 use Rattle.families.specs.Combine.{copies}
-use Rattle.families.specs.inner.Gathered.{standing, followed, raisedBy}
+use Rattle.families.specs.inner.Gathered.{rulesStanding, followed, raisedBy}
 use Rattle.families.specs.inner.Lent.{rulesOf}
 use Rattle.families.specs.inner.Combined.{raisedRules, bothRules, pairRules}
 use Rattle.families.proofs.Counting.{copies-length}
@@ -52,7 +52,7 @@ add-copies-requires c κs =
 
 -- ... with the copies from the first start
 longer : (c : tie.After-add-copies) → let a = began (rose (c .before .before .before)) .args in
-    c .add-copies .result ≡ followed (bothRules (a .f) (a .g) (a .numbers)) (copies (a .f .motifs + a .g .motifs) (a .f .start) (standing (rulesOf (a .f))))
+    c .add-copies .result ≡ followed (bothRules (a .f) (a .g) (a .numbers)) (copies (a .f .motifs + a .g .motifs) (a .f .start) (rulesStanding (rulesOf (a .f))))
 longer c =
     let known = c .before .before .before in
     simp (both (gathered known), rose known .before .before .rules-of .ensures) at (c .add-copies .ensures)
@@ -63,7 +63,7 @@ add-copies-requires-2 c κs =
     let a = began (rose known) .args in
     let p = began (rose known) .pre in
     let count = changed-count (rulesOf (a .g)) (p .other .sized .rows) (raisedBy (a .f .motifs) (a .numbers)) in
-    let own = copies-length (a .f .motifs + a .g .motifs) (a .f .start) (standing (rulesOf (a .f))) in
+    let own = copies-length (a .f .motifs + a .g .motifs) (a .f .start) (rulesStanding (rulesOf (a .f))) in
     let other = headed-raised (rulesOf (a .g)) (p .other .sized .rows) (a .f .motifs) (a .g .start) (a .numbers) in
     simp (longer c, risen (rose known))
     (omega (arith, simp (c .before .enum-told .given .1) at (p .room)), changed-rows _ (p .other .sized .rows) _, omega (arith, p .own, p .other .sized))

@@ -2,7 +2,7 @@
 use mathlib.Core.Path.{_≡_}
 use native.Mathlib.Omega.{arith}
 use Rattle.families.specs.Combine.{copies}
-use Rattle.families.specs.inner.Gathered.{standing, followed}
+use Rattle.families.specs.inner.Gathered.{rulesStanding, followed}
 use Rattle.families.specs.inner.Lent.{rulesOf}
 use Rattle.families.specs.inner.Combined.{repeatedRules}
 use Rattle.families.proofs.Counting.{copies-length}
@@ -15,13 +15,13 @@ add-copies-requires c κs = let p = c .before .pre in simp (c .rules-of .ensures
 
 -- the family's rules with the copies
 gathered : (c : tie.After-add-copies) → let a = c .before .before .args in
-    c .add-copies .result ≡ followed (rulesOf (a .f)) (copies (a .new) (a .f .start) (standing (rulesOf (a .f))))
+    c .add-copies .result ≡ followed (rulesOf (a .f)) (copies (a .new) (a .f .start) (rulesStanding (rulesOf (a .f))))
 gathered c = simp (c .before .rules-of .ensures) at (c .add-copies .ensures)
 
 add-rule-requires : tie.Need-add-rule-requires
 add-rule-requires c κs =
     let a = c .before .before .before .args in
-    let count = copies-length (a .new) (a .f .start) (standing (rulesOf (a .f))) in
+    let count = copies-length (a .new) (a .f .start) (rulesStanding (rulesOf (a .f))) in
     simp (gathered (c .before)) (omega (arith, c .before .before .before .pre .room))
 
 returns : tie.Need-returns

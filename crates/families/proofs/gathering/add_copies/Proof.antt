@@ -9,7 +9,7 @@ use lib.ListN.{length, drop}
 use lib.Seq.{sets}
 use Rattle.books.specs.Keeps.{mostRules}
 use Rattle.families.specs.Combine.{copies}
-use Rattle.families.specs.inner.Gathered.{standing}
+use Rattle.families.specs.inner.Gathered.{rulesStanding}
 use Rattle.families.proofs.Counting.{copies-length}
 use Rattle.families.proofs.AddingRules.{one-written, left-none, copied-next}
 use Rattle.families.proofs.gathering.add_copies.Statement.{statement}
@@ -18,8 +18,8 @@ use Rattle.families.proofs.gathering.add_copies.Tie as tie
 abbrev Inv-loop : tie.InvT-loop
 Inv-loop head new k rules₀ at₀ count i₀ rules at i =
     (i ≤ count)
-    × (at + length (copies new head (drop i (standing k))) ≡ at₀ + length (copies new head (standing k)))
-    × (sets rules at (copies new head (drop i (standing k))) ≡ sets rules₀ at₀ (copies new head (standing k)))
+    × (at + length (copies new head (drop i (rulesStanding k))) ≡ at₀ + length (copies new head (rulesStanding k)))
+    × (sets rules at (copies new head (drop i (rulesStanding k))) ≡ sets rules₀ at₀ (copies new head (rulesStanding k)))
 
 abbrev μ-loop : tie.MeasureT-loop
 μ-loop head new k rules₀ at₀ count i₀ rules at i = count - i
@@ -34,7 +34,7 @@ placed c =
     let p = c .before .before .before .before .before .before .pre in
     let l = c .before .before .before .before .loop in
     let here = ap length (copied-next (a .t2) (p .1) (a .head) (l .i) (c .before .before .before .loop-test .taken) (eq-eqb _ _ (c .if1 .taken)) (a .new)) in
-    omega (arith, p .0, l .inv .1, here, copies-length (a .new) (a .head) (standing (a .t2)))
+    omega (arith, p .0, l .inv .1, here, copies-length (a .new) (a .head) (rulesStanding (a .t2)))
 
 loop-again : tie.Need-loop-again Inv-loop μ-loop
 loop-again c =
@@ -59,7 +59,7 @@ returns c =
     let a = c .before .before .before .args in
     let none = left-none (a .t2) (c .before .before .before .pre .1) _ (c .loop-test .left) in
     let inv = simp none at (c .before .loop .inv) in
-    let counted : c .before .loop .at ≡ a .l .count + length (copies (a .new) (a .head) (standing (a .t2))) = omega (arith, inv .1) in
+    let counted : c .before .loop .at ≡ a .l .count + length (copies (a .new) (a .head) (rulesStanding (a .t2))) = omega (arith, inv .1) in
     λ i. record { count = counted i; rules = inv .2 i }
 
 pub add-copies-spec : {M : Type 1} → statement M

@@ -5,13 +5,13 @@ use native.Mathlib.Omega.{arith}
 use native.Mathlib.Nat.{add-zero}
 use lib.ListN.{drop}
 use lib.Seq.{sets}
-use Rattle.families.specs.inner.Gathered.{standing}
+use Rattle.families.specs.inner.Gathered.{rulesStanding}
 use Rattle.families.proofs.AddingRules.{next-place, one-written, standing-length, left-next, left-none}
 use Rattle.families.proofs.gathering.add_rules.Statement.{statement}
 use Rattle.families.proofs.gathering.add_rules.Tie as tie
 
 abbrev Inv-loop : tie.InvT-loop
-Inv-loop k rules₀ from count i₀ rules i = (i ≤ count) × (sets rules (from + i) (drop i (standing k)) ≡ sets rules₀ from (standing k))
+Inv-loop k rules₀ from count i₀ rules i = (i ≤ count) × (sets rules (from + i) (drop i (rulesStanding k)) ≡ sets rules₀ from (rulesStanding k))
 
 abbrev μ-loop : tie.MeasureT-loop
 μ-loop k rules₀ from count i₀ rules i = count - i

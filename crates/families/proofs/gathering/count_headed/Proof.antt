@@ -7,13 +7,13 @@ use borrow.Author.Needs.{needs}
 use borrow.Author.Tests.{eq-eqb, ne-eqb}
 use lib.ListN.{drop}
 use Rattle.families.specs.inner.Counts.{headed}
-use Rattle.families.specs.inner.Gathered.{standing}
+use Rattle.families.specs.inner.Gathered.{rulesStanding}
 use Rattle.families.proofs.AddingRules.{left-none, headed-next}
 use Rattle.families.proofs.gathering.count_headed.Statement.{statement}
 use Rattle.families.proofs.gathering.count_headed.Tie as tie
 
 abbrev Inv-loop : tie.InvT-loop
-Inv-loop head k count n₀ i₀ n i = (i ≤ count) × (n ≤ i) × (n + headed head (drop i (standing k)) ≡ headed head (standing k))
+Inv-loop head k count n₀ i₀ n i = (i ≤ count) × (n ≤ i) × (n + headed head (drop i (rulesStanding k)) ≡ headed head (rulesStanding k))
 
 abbrev μ-loop : tie.MeasureT-loop
 μ-loop head k count n₀ i₀ n i = count - i

@@ -7,7 +7,7 @@ use Rattle.books.specs.ContentsIn.{contentsIn}
 use Rattle.books.specs.Keeps.{mostRules}
 use Rattle.families.specs.Combine.{repeated}
 use Rattle.families.specs.inner.Counts.{headed}
-use Rattle.families.specs.inner.Gathered.{standing}
+use Rattle.families.specs.inner.Gathered.{rulesStanding}
 use Rattle.families.specs.inner.Lent.{rulesOf}
 use Rattle.families.specs.Limits.{countsWithin?, withinLimits?}
 use Rattle.families.proofs.Testing.{counts-within}
@@ -30,7 +30,7 @@ counted c = (began c .pre .rows .few, omega (arith, copied-few (began c .args .f
 
 -- the test, and what it says where it holds
 counts : (c : tie.After-counts-within) → let f = began (c .before) .args .f in
-    c .counts-within .result ≡ countsWithin? (f .colours .count) (f .motifs + 1) (f .count + headed (f .start) (standing (rulesOf f)) + 1)
+    c .counts-within .result ≡ countsWithin? (f .colours .count) (f .motifs + 1) (f .count + headed (f .start) (rulesStanding (rulesOf f)) + 1)
 counts c = rw (copied (c .before) .start-rules .ensures) at (c .counts-within .ensures)
 
 tested : (c : tie.After-counts-within) (s : List ℕ) → let a = began (c .before) .args in c .counts-within .result ≡ withinLimits? (repeated (a .way) (contentsIn s (a .f)))
@@ -38,7 +38,7 @@ tested c s =
     let a = began (c .before) .args in
     counts c ∙ sym (repeated-test s s (a .f) (began (c .before) .pre) (a .way))
 
-room : (c : tie.Then1) → let f = began (c .before .before) .args .f in f .count + headed (f .start) (standing (rulesOf f)) + 1 ≤ mostRules
+room : (c : tie.Then1) → let f = began (c .before .before) .args .f in f .count + headed (f .start) (rulesStanding (rulesOf f)) + 1 ≤ mostRules
 room c = counts-within _ _ _ (sym (counts (c .before)) ∙ c .if1 .taken) .2
 
 repeated-rules-requires : tie.Need-repeated-rules-requires

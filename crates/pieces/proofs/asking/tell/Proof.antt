@@ -49,7 +49,7 @@ fill-from-requires c κs =
     let y = c .before .before in
     let t = y .before in
     let s = shows t in
-    (record { sizes = s .sizes; entries = enough t }, fitting-fit _ _ (sym (t .fits2 .ensures) ∙ y .if3 .taken), s .painted)
+    (record { tabled = record { sizes = s .sizes; entries = enough t }; fit = fitting-fit _ _ (sym (t .fits2 .ensures) ∙ y .if3 .taken) }, s .painted)
 
 whole-sheet-requires : tie.Need-whole-sheet-requires
 whole-sheet-requires c κs =

@@ -100,8 +100,10 @@ fill-from-requires c κs =
     let n = sheet-read (tested p) in
     let r = book-read n in
     let shows = sheet-shows n (sheet-fine p) in (
-      record { sizes = shows .sizes; entries = nothing-lacks _ _ _ _ (nothing p) .0 },
-      masks-fit (now (began r .args .book)) (r .read-rules .ensures) (book-fine n) (p .split .ensures),
+      record {
+        tabled = record { sizes = shows .sizes; entries = nothing-lacks _ _ _ _ (nothing p) .0 };
+        fit = masks-fit (now (began r .args .book)) (r .read-rules .ensures) (book-fine n) (p .split .ensures);
+      },
       shows .painted,
     )
 

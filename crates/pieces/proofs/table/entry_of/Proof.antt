@@ -24,15 +24,15 @@ began t = t .before .before .before .before
 join-along-requires : tie.Need-join-along-requires
 join-along-requires c κs =
     let s = began c in
-    let (tabled, placed, here) = s .pre in
-    (rw (c .across-course .ensures) (course-runs across _ _ _ _ (tabled .sizes) (here .inside) (tabled .entries)), window-long (s .args .masks .now) (s .args .joins) across placed)
+    let (due, here) = s .pre in
+    (rw (c .across-course .ensures) (course-runs across _ _ _ _ (due .tabled .sizes) (here .inside) (due .tabled .entries)), window-long (s .args .masks .now) (s .args .joins) across (due .fit))
 
 join-along-requires-2 : tie.Need-join-along-requires-2
 join-along-requires-2 c κs =
     let s = began (first c) in
-    let (tabled, placed, here) = s .pre in (
-      rw (c .down-course .ensures) (course-runs down _ _ _ _ (tabled .sizes) (here .inside) (tabled .entries)),
-      rw (part-rest (s .args .masks .now) (mostRules - s .args .joins .down)) (window-long (s .args .masks .now) (s .args .joins) down placed),
+    let (due, here) = s .pre in (
+      rw (c .down-course .ensures) (course-runs down _ _ _ _ (due .tabled .sizes) (here .inside) (due .tabled .entries)),
+      rw (part-rest (s .args .masks .now) (mostRules - s .args .joins .down)) (window-long (s .args .masks .now) (s .args .joins) down (due .fit)),
     )
 
 returns : tie.Need-returns
@@ -40,16 +40,16 @@ returns c =
     let d = c .before in
     let a = first d in
     let s = began a in
-    let (tabled, placed, here) = s .pre in
+    let (due, here) = s .pre in
     let masks = s .args .masks .now in
     let joins = s .args .joins in
     let w = s .args .work .now in
     ap₂ bitOr
     (c .before .before .before .join-along .ensures ∙ ap (λ (x : Course). along w masks (joins .across) x) (a .across-course .ensures)
-    ∙ along-cuts masks joins _ _ w across (s .args .p) (placed .down-few) (here .inside))
+    ∙ along-cuts masks joins _ _ w across (s .args .p) (due .fit .down-few) (here .inside))
     (c .join-along2 .ensures
     ∙ ap₂ (λ (part : List ℕ) (x : Course). along w part (joins .down) x) (part-rest masks (mostRules - joins .down)) (d .down-course .ensures)
-    ∙ along-cuts masks joins _ _ w down (s .args .p) (placed .down-few) (here .inside))
+    ∙ along-cuts masks joins _ _ w down (s .args .p) (due .fit .down-few) (here .inside))
 
 pub entry-of-spec : {M : Type 1} → statement M
 entry-of-spec =

@@ -38,13 +38,13 @@ due : (c : tie.In-loop Inv-loop μ-loop) → let z = began (c .before) .args .si
 due c = lt-of-lt-of-le (c .loop-test .taken) (le-of-eq (c .before .before .before .before .count .ensures .0))
 
 next-requires : tie.Need-next-requires Inv-loop μ-loop
-next-requires c κs = let r = c .before .before .before .pre .0 .sizes in (r, last-cell-inside _ _ (r .rows-some) (r .cols-some))
+next-requires c κs = let r = c .before .before .before .pre .tabled .sizes in (r, last-cell-inside _ _ (r .rows-some) (r .cols-some))
 
 loop-holds : tie.Need-loop-holds Inv-loop μ-loop
 unfolding joinedBy
 loop-holds c =
     let s = c .before .before .before .before .before in
-    let r = s .pre .0 .sizes in
+    let r = s .pre .tabled .sizes in
     let e = c .times .ensures .0 in
     let nx = c .before .next .ensures in
     let last = slot-last-cell (s .args .size .rows) (s .args .size .cols) (r .rows-some) (r .cols-some) in
@@ -61,9 +61,11 @@ entry-of-requires c κs =
     let t = c .before .before in
     let s = began t in
     let f = t .loop .inv in (
-      record { sizes = s .pre .0 .sizes; entries = omega (arith, f .sized, s .pre .0 .entries) },
-      s .pre .1,
-      record { room = s .pre .0 .sizes; inside = f .inside (due (c .before)); slot-is = sym (f .here) },
+      record {
+        tabled = record { sizes = s .pre .tabled .sizes; entries = omega (arith, f .sized, s .pre .tabled .entries) };
+        fit = s .pre .fit;
+      },
+      record { room = s .pre .tabled .sizes; inside = f .inside (due (c .before)); slot-is = sym (f .here) },
     )
 
 mul-work : tie.Need-mul-work Inv-loop μ-loop
@@ -74,12 +76,12 @@ mul-work c =
 slice-write-work : tie.Need-slice-write-work Inv-loop μ-loop
 slice-write-work c =
     let t = c .before .before .before in
-    omega (arith, t .loop .inv .sized, began t .pre .0 .entries, due (c .before .before))
+    omega (arith, t .loop .inv .sized, began t .pre .tabled .entries, due (c .before .before))
 
 next-requires-2 : tie.Need-next-requires-2 Inv-loop μ-loop
 next-requires-2 c κs =
     let t = c .before .before .before in
-    (began t .pre .0 .sizes, t .loop .inv .inside (due (c .before .before)))
+    (began t .pre .tabled .sizes, t .loop .inv .inside (due (c .before .before)))
 
 loop-again : tie.Need-loop-again Inv-loop μ-loop
 loop-again c =

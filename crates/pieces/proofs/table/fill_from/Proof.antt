@@ -12,16 +12,16 @@ use Rattle.pieces.proofs.table.fill_from.Tie as tie
 
 paint-cells-requires : tie.Need-paint-cells-requires
 paint-cells-requires c κs =
-    let (tabled, placed, cells) = c .before .before .before .before .before .pre in
-    let few = cells-few _ _ (tabled .sizes .rows-some) (tabled .sizes .cols-some) in
+    let (due, cells) = c .before .before .before .before .before .pre in
+    let few = cells-few _ _ (due .tabled .sizes .rows-some) (due .tabled .sizes .cols-some) in
     let e = c .before .times .ensures .0 in
-    (placed .all, omega (arith, e, few, tabled .entries), rw e cells)
+    (due .fit .all, omega (arith, e, few, due .tabled .entries), rw e cells)
 
 fill-requires : tie.Need-fill-requires
 fill-requires c κs =
     let p = c .before .before .before in
-    let (tabled, placed, cells) = p .before .before .before .before .before .before .pre in
-    (record { sizes = tabled .sizes; entries = omega (arith, p .paint-cells .kept, tabled .entries) }, placed)
+    let (due, cells) = p .before .before .before .before .before .before .pre in
+    record { tabled = record { sizes = due .tabled .sizes; entries = omega (arith, p .paint-cells .kept, due .tabled .entries) }; fit = due .fit }
 
 returns : tie.Need-returns
 unfolding filledBy
