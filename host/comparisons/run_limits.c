@@ -66,8 +66,42 @@ static void compare_small_run(void)
     }
 }
 
+// The same bytes with one of them spelled as a number of three bytes, of which the last is this.
+static const struct bytes *with_long_number(const struct bytes *bytes, size_t at, uint8_t last)
+{
+    static struct bytes longer;
+    longer = *bytes;
+    memmove(longer.at + at + 3, bytes->at + at + 1, bytes->length - at - 1);
+    longer.length += 2;
+    longer.at[at] |= 128;
+    longer.at[at + 1] = 128;
+    longer.at[at + 2] = last;
+    return &longer;
+}
+
+// Each byte of a book, and of a sheet, as such a number: most are out of range, or misspelt.
+static void compare_long_numbers(void)
+{
+    static const uint8_t last[] = {0, 1, 127, 128, 255};
+    static const struct bytes book = {9, {1, 1, 'a', 1, 0, 1, 0, 0, 0}}, sheet = {7, {1, 1, 'a', 9, 1, 1, 0}};
+    for (size_t i = 0; i < sizeof last; i++) {
+        for (size_t at = 0; at < book.length; at++) {
+            begin(with_long_number(&book, at, last[i]));
+            add(sheet.at, sheet.length);
+            report(&plan.run, DV_MOST_WORK, DV_REPORT_ENTRIES);
+        }
+        for (size_t at = 0; at < sheet.length; at++) {
+            const struct bytes *longer = with_long_number(&sheet, at, last[i]);
+            begin(&book);
+            add_sheet(&plan.run, longer->at, longer->length);
+            report(&plan.run, DV_MOST_WORK, DV_REPORT_ENTRIES);
+        }
+    }
+}
+
 KIND(run_limits)
 {
+    compare_long_numbers();
     compare_small_run();
     compare_longest();
     compare_most_sheets();
