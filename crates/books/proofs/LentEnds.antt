@@ -5,6 +5,7 @@ use mathlib.Core.Bool.{false}
 use mathlib.Core.List.{List}
 use borrow.Author.Tests.{eq-eqb, ne-eqb, eqb-true, eqb-false}
 use lib.Dec.{eqb}
+use Rattle.names.specs.Pick.{pick}
 use Rattle.names.specs.declared.number.Fault.{Fault}
 use Rattle.names.proofs.Picking.{pick-ind}
 use Rattle.books.specs.Answer.{answer, blaming}
@@ -25,23 +26,24 @@ blamed-is input f n = simp (ne-eqb (f .number) 0 n)
 -- ── Induction over the ways ──
 
 module _ {A : Type 0} (P : A → Type 0) (refuse : Answer → A) where
+  -- of what was read with a fault, or without one
+  read-ends : {X : Type 0} (input : ℕ) (f : Fault) (x : X) (go : X → A)
+      → ((f .number ≡ 0 → ⊥) → P (refuse (answer (f .number) input (f .place)))) → (f .number ≡ 0 → P (go x))
+      → P (pick (eqb (f .number) 0) (go x) (refuse (blaming input f)))
+  read-ends input f x go faulty fine =
+      pick-ind P (eqb (f .number) 0) (go x) (refuse (blaming input f))
+      (λ e. fine (eqb-true (f .number) 0 e))
+      (λ e. blamed (λ (a : Answer). P (refuse a)) input f e (faulty (eqb-false (f .number) 0 e)))
+
   pub book-ends : (input : ℕ) (book : List ℕ) (go : Contents → A)
       → ((bookOf book .fault .number ≡ 0 → ⊥) → P (refuse (answer (bookOf book .fault .number) input (bookOf book .fault .place))))
       → (bookOf book .fault .number ≡ 0 → P (go (contentsOf book))) → P (lentBook input book refuse go)
-  book-ends input book go faulty fine =
-      let n = bookOf book .fault .number in
-      pick-ind P (eqb n 0) (go (contentsOf book)) (refuse (blaming input (bookOf book .fault)))
-      (λ e. fine (eqb-true n 0 e))
-      (λ e. blamed (λ (a : Answer). P (refuse a)) input (bookOf book .fault) e (faulty (eqb-false n 0 e)))
+  book-ends input book go = read-ends input (bookOf book .fault) (contentsOf book) go
 
   pub sheet-ends : (input : ℕ) (sheet : List ℕ) (go : Picture → A)
       → ((sheetOf sheet .fault .number ≡ 0 → ⊥) → P (refuse (answer (sheetOf sheet .fault .number) input (sheetOf sheet .fault .place))))
       → (sheetOf sheet .fault .number ≡ 0 → P (go (pictureOf sheet))) → P (lentSheet input sheet refuse go)
-  sheet-ends input sheet go faulty fine =
-      let n = sheetOf sheet .fault .number in
-      pick-ind P (eqb n 0) (go (pictureOf sheet)) (refuse (blaming input (sheetOf sheet .fault)))
-      (λ e. fine (eqb-true n 0 e))
-      (λ e. blamed (λ (a : Answer). P (refuse a)) input (sheetOf sheet .fault) e (faulty (eqb-false n 0 e)))
+  sheet-ends input sheet go = read-ends input (sheetOf sheet .fault) (pictureOf sheet) go
 
   pub record BothEnd (book sheet : List ℕ) (go : Contents → Picture → A) : Type 0 where
     pub in-book : (bookOf book .fault .number ≡ 0 → ⊥) → P (refuse (answer (bookOf book .fault .number) 1 (bookOf book .fault .place)))

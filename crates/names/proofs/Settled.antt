@@ -3,7 +3,7 @@
 use Prim.Native.Nat.{ℕ}
 use mathlib.Core.Path.{_≡_, sym, _∙_}
 use mathlib.Core.List.{List}
-use lib.ListN.{length, take, drop}
+use lib.ListN.{length, take, drop, replicate}
 use denote.Ref.{RefT, ptr, now}
 use Rattle.names.specs.Pick.{fault}
 use Rattle.names.specs.Number.{numberAt, numberIn, numberBelow, spellNumber}
@@ -92,3 +92,8 @@ pub read-list-settled : (s : List ℕ) (r q : ListFigures) (starts lens places s
     → ListInto (coloursOf s) r starts lens → ListInto (coloursOf s) q places sizes → (r ≡ q) × (starts ≡ places) × (lens ≡ sizes)
 read-list-settled s r q starts lens places sizes a b =
     (settled (told-rest a) (told-rest b), settled (a .starts) (b .starts), settled (a .lens) (b .lens))
+
+-- ── Slices ──
+
+pub clear-settled : (slice : List ℕ) → Settles (replicate {A = ℕ} (length slice) 0)
+clear-settled slice = settles _

@@ -2,12 +2,13 @@
 use books::rule::Dir;
 use books::rule::MOST_RULES;
 use names::colours::MOST_COLOURS;
+use names::slice::clear;
 ghost use mathlib.Core.Path.{_≡_};
 ghost use Prim.Native.Nat.{_+_, _^_, _≤_, _<_};
 ghost use lib.ListN.{length};
 ghost use Rattle.books.specs.Keeps.{mostMotifs, mostRules};
 ghost use Rattle.books.specs.RuleBytes.{ruleIn, rulesIn};
-ghost use Rattle.pieces.specs.Masks.{headsFrom, allMasks, masked, putAt, putBody, cleared, splitOf};
+ghost use Rattle.pieces.specs.Masks.{headsFrom, allMasks, masked, putAt, putBody, splitOf};
 ghost use Rattle.pieces.specs.Firing.{firing, fitting, fireOf, paintedOf};
 ghost use Rattle.pieces.specs.inner.Along.{allFired};
 ghost use Rattle.pieces.specs.inner.Small.{Small, SmallRules};
@@ -72,24 +73,13 @@ fn put_rule(r: [u8; 4], masks: &mut [u32], joins: Joins) -> Joins
     }
 }
 
-// No painters. Of the three rows only what is counted is read, so that they need no clearing.
-fn clear(masks: &mut [u32])
-    requires { ⌜ length (now masks) ≡ allMasks ⌝ }
-    ensures { λ _. ⌜ now (masks .exit) ≡ cleared (now (masks .entry)) ⌝ }
-{
-    let mut c = 0;
-    while c < COLOUR_MASKS {
-        masks[PAINTERS_FROM + c] = 0;
-        c += 1;
-    }
-}
-
 // The masks of rules that are lent in rows, in order.
 pub(crate) fn split(rules: &[[u8; 4]], masks: &mut [u32]) -> Joins
     requires { ⌜ SmallRules (rulesIn (now rules)) × (length (now masks) ≡ allMasks) ⌝ }
     ensures { λ r. ⌜ masked (now (masks .exit)) r ≡ splitOf (rulesIn (now (rules .entry))) (now (masks .entry)) ⌝ }
 {
-    clear(masks);
+    // Of the three rows only what is counted is read, so that they need no clearing.
+    clear(&mut masks[PAINTERS_FROM..]);
     let mut joins = Joins { across: 0, down: 0 };
     let mut i = 0;
     while i < rules.len() {

@@ -62,6 +62,7 @@ answers-more got =
 
 -- ── A cell more ──
 
+-- f 0, f 1, .. one after the other
 module _ (f : ℕ → ℕ) where
   each-long : (n : ℕ) → length (each n (λ c. f c ∷ [])) ≡ n
   unfolding each
@@ -90,6 +91,8 @@ cells-more f n x =
     go i h (yes e) = rw (e, eq-eqb i i refl) (more-here l i (omega (arith, each-long f n)) ∙ ap (λ (k : ℕ). k + 1) (each-at f n i h))
     go i h (no d) = rw (ne-eqb x i d) (more-else l x i (λ e. d (sym e)) ∙ each-at f n i h ∙ omega arith)
 
+-- ── In the row ──
+
 module _ (sheets : ℕ) (got : ℕ → ℕ) where
   pub row-answered : (cells : ℕ → ℕ) (behind : List ℕ) (n : ℕ) → Listed n
       → answered (row sheets got cells behind) n ≡ row (sheets + 1) (λ a. got a + once (eqb n a)) cells behind
@@ -100,7 +103,6 @@ module _ (sheets : ℕ) (got : ℕ → ℕ) where
       more-behind first (map got answersGiven ++ after) (countPlace n)
       ∙ ap (λ (r : List ℕ). first ++ r) (more-front (map got answersGiven) after (countPlace n) (count-low n l) ∙ ap (λ (r : List ℕ). r ++ after) (answers-more got n l))
 
-  -- colours that have a count
   pub row-coloured : (cells : ℕ → ℕ) (behind l : List ℕ) → Low l
       → coloured (row sheets got cells behind) l ≡ row sheets got (λ c. cells c + howMany (λ (x : ℕ). eqb x c) l) behind
   unfolding coloured

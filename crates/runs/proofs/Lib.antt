@@ -1,5 +1,4 @@
 pub mod WalkingRuns
-pub mod InSlices
 pub mod AddingCells
 pub mod CountingLists
 pub mod AnswersOfSheets

@@ -6,7 +6,8 @@ use mathlib.Core.List.{List, _++_}
 use native.Mathlib.Omega.{arith}
 use borrow.Author.Tests.{eq-eqb, ne-eqb, lt-ltb, le-ltb, eqb-true, eqb-false, ltb-true, ltb-false}
 use lib.Dec.{eqb, ltb}
-use lib.ListN.{length, drop, replicate}
+use lib.ListN.{length, take, drop, replicate}
+use lib.Seq.{length-take-le}
 use Rattle.names.specs.Counted.{each}
 use Rattle.names.specs.declared.number.Fault.{Fault}
 use Rattle.names.proofs.Picking.{pick-ind}
@@ -72,6 +73,10 @@ module _ (f : Fault) (run : List ℕ) (entries : ℕ) where
       (record { in-book = λ n z. absurd (n z); in-run = λ _ n z. absurd (n z); short-work = λ _ _ _ z. absurd (omega arith); nothing = λ g _. (g, refl) })
 
 -- ── What is reported ──
+
+-- so many entries at the front of a slice were cleared
+pub front-cleared : (n : ℕ) (s front : List ℕ) → n ≤ length s → front ≡ replicate (length (take n s)) 0 → front ++ drop n s ≡ replicate n 0 ++ drop n s
+front-cleared n s front h e = rw (e, length-take-le n s h)
 
 -- a slice that was cleared holds no figures
 pub cleared : (figures start : List ℕ) → start ≡ replicate figuresLong 0 ++ drop figuresLong figures → start ≡ inARow noFigures ++ drop figuresLong start

@@ -1,6 +1,6 @@
 -- What the figures say of a run, over the list of its sheets: every sheet has one of the ten answers, whatever the slices of a derivation that is asked, so
 -- that the counts add up; the least and the greatest ticket are tickets of accepted sheets and bound them; and where no sheet is accepted, nothing is told of tickets.
-use Prim.Native.Nat.{ℕ, _+_, _≤_}
+use Prim.Native.Nat.{ℕ, _≤_}
 use mathlib.Core.Path.{_≡_, refl, sym, ap, _∙_}
 use mathlib.Core.List.{List, [], _∷_, map}
 use mathlib.Core.Logic.{_⊎_, inl, inr}

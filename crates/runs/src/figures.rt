@@ -1,9 +1,8 @@
 // The figures of a run, by name, and one after another in a slice.
 use names::colours::MOST_COLOURS;
 ghost use mathlib.Core.Path.{_≡_};
-ghost use mathlib.Core.List.{_++_};
 ghost use Prim.Native.Nat.{_+_, _≤_};
-ghost use lib.ListN.{length, take, drop, replicate};
+ghost use lib.ListN.{length, take, drop};
 ghost use Rattle.runs.specs.Figures.{figuresLong};
 ghost use Rattle.runs.specs.inner.Adding.{standing};
 
@@ -63,17 +62,5 @@ pub(crate) fn named(figures: &[u32]) -> Figures
         any: figures[ANY_AT],
         least: figures[LEAST_AT],
         greatest: figures[GREATEST_AT],
-    }
-}
-
-// Clears the first so many entries of a slice.
-pub(crate) fn clear(slice: &mut [u32], n: usize)
-    requires { ⌜ n ≤ length (now slice) ⌝ }
-    ensures { λ _. ⌜ now (slice .exit) ≡ replicate n 0 ++ drop n (now (slice .entry)) ⌝ }
-{
-    let mut i = 0;
-    while i < n {
-        slice[i] = 0;
-        i += 1;
     }
 }

@@ -1,7 +1,6 @@
 // The figures of a run: the book is read and split into masks once, and each sheet is asked of it in turn.
 use crate::counting::add_asked;
 use crate::figures::FIGURES_LONG;
-use crate::figures::clear;
 use crate::framing::frame_at;
 use crate::framing::framing;
 use books::answer::Answer;
@@ -10,6 +9,7 @@ use books::answer::unblamed;
 use books::size::GREATEST;
 use books::size::ROOM;
 use names::number::Fault;
+use names::slice::clear;
 use pieces::asking::Split;
 use pieces::asking::ask_sheet;
 use pieces::asking::split_book;
@@ -22,7 +22,7 @@ ghost use Rattle.runs.specs.Figures.{figuresLong};
 ghost use Rattle.runs.specs.Outcome.{report, told};
 ghost use Rattle.runs.specs.inner.Reporting.{refusing, SheetDue, RunDue, Adds, Counts, telling};
 
-// The stretches of one cell or more in a row of the greatest sheet, and the entries that its table has: one for each of them in each direction.
+// The stretches of cells in a row of the greatest sheet, and the entries of its table: one for each stretch of rows with each stretch of columns.
 const STRETCHES: usize = GREATEST * (GREATEST + 1) / 2;
 
 const WORK_ROOM: usize = STRETCHES * STRETCHES;
@@ -99,13 +99,13 @@ pub(crate) fn report_into(book: &[u8], run: &[u8], work: &mut [u32], figures: &m
     ensures { λ r. ⌜ telling r (now (work .exit)) (now (figures .exit))
         ≡ told (report (now (book .entry)) (now (run .entry)) (now (work .entry))) (now (figures .entry)) ⌝ }
 {
-    clear(figures, FIGURES_LONG);
+    clear(&mut figures[..FIGURES_LONG]);
     let mut masks = [0u32; ALL_MASKS];
     let split = split_book(book, &mut masks);
     let answer = refused(split.fault, run, work.len());
     if answer.number == 0 {
         add_sheets(book, split, &masks, run, work, figures);
-        clear(work, WORK_ROOM);
+        clear(&mut work[..WORK_ROOM]);
     }
     answer
 }

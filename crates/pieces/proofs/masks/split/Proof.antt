@@ -1,19 +1,20 @@
 -- The rules are put one after the other: what is left, split from here, is the whole.
 use mathlib.Core.Path.{_≡_, refl, sym, ap, _∙_}
-use mathlib.Core.List.{List, _∷_}
+use mathlib.Core.List.{List, [], _∷_, _++_}
 use Prim.Native.Nat.{ℕ, _+_, _-_, _≤_, _<_}
 use native.Mathlib.Numerals.{add-one}
 use native.Mathlib.Omega.{arith}
-use lib.ListN.{length, getD, drop, drop-of-length-le, length-map}
+use lib.ListN.{length, getD, take, drop, replicate, drop-of-length-le, length-map, length-take, length-drop}
 use lib.Seq.{drop-cons}
 use Rattle.names.proofs.Count.{left-suc}
 use Rattle.books.specs.RuleBytes.{ruleIn, rulesIn}
 use Rattle.books.specs.Rules.{noRule}
 use Rattle.books.specs.declared.rule.Rule.{Rule}
 use Rattle.books.proofs.LentRules.{rule-of-row}
-use Rattle.pieces.specs.Masks.{Masked, masked, noJoins, putBody, splitFrom, splitOf}
+use Rattle.pieces.specs.Masks.{paintersFrom, colourMasks, allMasks, Masked, masked, noJoins, putBody, splitFrom, cleared, splitOf}
 use Rattle.pieces.proofs.Splitting.{PlacesFor, more-places}
 use borrow.Author.Needs.{needs}
+use borrow.Rule.Slice.PartMut.{same-len-mid}
 use Rattle.pieces.proofs.masks.split.Statement.{statement}
 use Rattle.pieces.proofs.masks.split.Tie as tie
 
@@ -28,6 +29,16 @@ module _ (rules : List Rule) (s : Masked) where
   unfolding splitFrom
   all-split i h = rw (drop-of-length-le rules {i = i} h)
 
+-- The painters are the last masks: where they are cleared, nothing stands after them.
+painters-cleared : (masks zeros : List ℕ) → length masks ≡ allMasks → let rest = drop paintersFrom masks in let n = length masks - paintersFrom in
+    zeros ≡ replicate (length (take n rest)) 0 → take paintersFrom masks ++ (zeros ++ drop n rest) ≡ cleared masks
+painters-cleared masks zeros size e =
+    let rest = drop paintersFrom masks in
+    let n = length masks - paintersFrom in
+    let all : length (take n rest) ≡ colourMasks = omega (arith, length-take n rest, length-drop paintersFrom masks) in
+    let none : drop n rest ≡ [] = drop-of-length-le rest {i = n} (omega (arith, length-drop paintersFrom masks)) in
+    rw (e, all, none)
+
 abbrev Inv-loop : tie.InvT-loop
 Inv-loop rules masks₀ joins₀ i₀ masks joins i =
     (i ≤ length rules) × PlacesFor (length rules - i) (masked masks joins)
@@ -40,7 +51,9 @@ loop-holds : tie.Need-loop-holds Inv-loop μ-loop
 loop-holds c =
     let k = c .before .before in
     let s = k .before .before .before in
-    (omega arith, record { long = omega (arith, k .clear .kept .0, s .pre .1); free = omega (arith, s .pre .0 .few, length-map (s .args .rules .now) ruleIn) }, refl)
+    let masks = s .args .masks .now in
+    let same = same-len-mid paintersFrom (length masks - paintersFrom) masks (k .clear .last .0) (k .clear .kept .0) in
+    (omega arith, record { long = omega (arith, same, s .pre .1); free = omega (arith, s .pre .0 .few, length-map (s .args .rules .now) ruleIn) }, refl)
 
 put-rule-requires : tie.Need-put-rule-requires Inv-loop μ-loop
 put-rule-requires c κs =
@@ -76,9 +89,10 @@ unfolding splitOf
 returns c =
     let t = c .before in
     let k = t .before .before .before in
-    let rows = k .before .before .before .args .rules .now in
-    sym (all-split (rulesIn rows) (masked (t .loop .masks) (t .loop .joins)) (t .loop .i) (omega (arith, length-map rows ruleIn)))
-    ∙ t .loop .inv .2 ∙ ap (λ (l : List ℕ). splitFrom (rulesIn rows) (masked l noJoins)) (k .clear .ensures)
+    let s = k .before .before .before in
+    let rows = s .args .rules .now in
+    sym (all-split (rulesIn rows) (masked (t .loop .masks) (t .loop .joins)) (t .loop .i) (omega (arith, length-map rows ruleIn))) ∙ t .loop .inv .2
+    ∙ ap (λ (l : List ℕ). splitFrom (rulesIn rows) (masked l noJoins)) (painters-cleared (s .args .masks .now) _ (s .pre .1) (k .clear .ensures))
 
 pub split-spec : {M : Type 1} → statement M
 split-spec =
@@ -86,6 +100,9 @@ split-spec =
     (tie.spec
     Inv-loop
     μ-loop
+    (λ c. search needs)
+    (λ c. search needs)
+    (λ c. search needs)
     (λ c κs. search needs)
     loop-holds
     (λ c. search needs)

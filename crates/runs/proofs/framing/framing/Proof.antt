@@ -18,7 +18,7 @@ abbrev μ-loop : tie.MeasureT-loop
 
 returns : tie.Need-returns Inv-loop μ-loop
 unfolding framing
-returns c = rw (lt-ltb mostBytes (length (c .before .before .args .run .now)) (c .if1 .taken))
+returns c = rw (lt-ltb mostBytes (length (c .before .before .args .run .now)) (omega (arith, c .if1 .taken)))
 
 loop-holds : tie.Need-loop-holds Inv-loop μ-loop
 loop-holds c = (omega arith, sym (framing-left _ (omega (arith, c .if1 .left))))

@@ -1,10 +1,14 @@
 -- Where something is refused, the figures stay cleared; else the sheets are added, and the work slice is cleared.
-use mathlib.Core.Path.{refl}
+use Prim.Native.Nat.{ℕ, _≤_}
+use mathlib.Core.Path.{_≡_, refl, sym}
+use mathlib.Core.List.{List, _++_}
 use native.Mathlib.Omega.{arith}
 use denote.Ref.{now}
-use lib.ListN.{length}
+use lib.ListN.{length, drop, replicate}
+use lib.Seq.{length-take-le}
 use Rattle.pieces.proofs.AskingSheets.{kept-fault, kept-from}
-use Rattle.runs.proofs.ReportingRuns.{Granted, granted, cleared, reports-refusal, reports-run}
+use Rattle.runs.specs.Figures.{workRoom, figuresLong}
+use Rattle.runs.proofs.ReportingRuns.{Granted, granted, front-cleared, cleared, reports-refusal, reports-run}
 use borrow.Author.Needs.{needs}
 use Rattle.runs.proofs.report.report_into.Statement.{statement}
 use Rattle.runs.proofs.report.report_into.Tie as tie
@@ -15,6 +19,10 @@ clearing p = p .before .before .before .before
 
 abbrev began : tie.After-split-book → tie.Start
 began p = p .before .before .before .before .before .before .before .before .before .before
+
+start-is : (p : tie.After-split-book) → let f = now (began p .args .figures) in
+    clearing p .clear .last .0 ++ drop figuresLong f ≡ replicate figuresLong 0 ++ drop figuresLong f
+start-is p = front-cleared figuresLong (now (began p .args .figures)) _ (began p .pre) (clearing p .clear .ensures)
 
 -- Before the sheets are added: where it was judged what is refused, and that nothing is.
 abbrev granting : tie.After-add-sheets-arg2 → tie.After-refused
@@ -32,13 +40,15 @@ add-sheets-requires c κs =
       from-book = kept-from _ _ (p .split-book .ensures) (g .book-fine) refl;
       run-fine = g .run-fine;
       work-long = g .work-long;
-      none = cleared (now (began p .args .figures)) _ (clearing p .clear .ensures);
+      none = cleared (now (began p .args .figures)) _ (start-is p);
     }
 
-clear-requires-2 : tie.Need-clear-requires-2
-clear-requires-2 c κs =
-    let a = c .before .before .before .before .before in
-    omega (arith, a .add-sheets .kept .1 .1 .1 .1 .0, may (a .before) .work-long)
+-- After the sheets were added: the work slice is as long as before.
+abbrev worked : tie.After-add-sheets → List ℕ
+worked a = a .add-sheets .last .1 .1 .1 .1 .0
+
+work-long : (a : tie.After-add-sheets) → workRoom ≤ length (worked a)
+work-long a = omega (arith, a .add-sheets .kept .1 .1 .1 .1 .0, may (a .before) .work-long)
 
 returns : tie.Need-returns
 returns c =
@@ -46,26 +56,30 @@ returns c =
     let a = t .before .before .before .before .before .before in
     let q = granting (a .before) in
     let p = q .before .before in
-    reports-run _ _ _ _ _ (clearing p .clear .ensures) _ _ (kept-fault _ _ (p .split-book .ensures)) (q .refused .ensures)
-    (a .before .before .before .before .if1 .taken) _ _ _ (a .add-sheets .ensures) (t .clear2 .ensures)
+    reports-run _ _ _ _ _ (start-is p) _ _ (kept-fault _ _ (p .split-book .ensures)) (q .refused .ensures)
+    (a .before .before .before .before .if1 .taken) _ _ _ (a .add-sheets .ensures) (front-cleared workRoom (worked a) _ (work-long a) (t .clear2 .ensures))
 
 returns-2 : tie.Need-returns-2
 returns-2 c =
     let q = c .before .before in
     let p = q .before .before in
-    reports-refusal _ _ _ _ _ (clearing p .clear .ensures) _ _ (kept-fault _ _ (p .split-book .ensures)) (q .refused .ensures) (c .if1 .left)
+    reports-refusal _ _ _ _ _ (start-is p) _ _ (kept-fault _ _ (p .split-book .ensures)) (q .refused .ensures) (c .if1 .left)
 
 pub report-into-spec : {M : Type 1} → statement M
 report-into-spec =
     tie.close
     (tie.spec
+    (λ c. search needs)
+    (λ c. let s = c .before .before .before .before .before in sym (length-take-le figuresLong (now (s .args .figures)) (s .pre)))
     (λ c κs. search needs)
     (λ c. search needs)
     (λ c κs. search needs)
     (λ c κs. search needs)
     (λ c. search needs)
     add-sheets-requires
-    clear-requires-2
+    (λ c. work-long (c .before .before .before .before))
+    (λ c. let a = c .before .before .before .before .before in sym (length-take-le workRoom (worked a) (work-long a)))
+    (λ c κs. search needs)
     (λ c. search needs)
     (λ c. search needs)
     returns
