@@ -1,4 +1,5 @@
 // The framing of a run: sheets one after another, each preceded by its length.
+use names::fault::fault;
 use names::number::Fault;
 use names::number::Read;
 use names::number::read_number;
@@ -35,16 +36,10 @@ pub(crate) fn frame_at(run: &[u8], at: usize) -> Frame
         Read::Refused(f) => unframed(f),
         Read::Value(len, next) => {
             if run.len() - next < len {
-                return unframed(Fault {
-                    number: 1,
-                    place: run.len(),
-                });
+                return unframed(fault(1, run.len()));
             }
             Frame {
-                fault: Fault {
-                    number: 0,
-                    place: 0,
-                },
+                fault: fault(0, 0),
                 start: next,
                 end: next + len,
             }
@@ -57,10 +52,7 @@ pub(crate) fn framing(run: &[u8]) -> Fault
     ensures { λ r. ⌜ r ≡ framing (now (run .entry)) ⌝ }
 {
     if MOST_BYTES < run.len() {
-        return Fault {
-            number: 3,
-            place: 0,
-        };
+        return fault(3, 0);
     }
     let mut at = 0;
     while at < run.len() {
@@ -70,8 +62,5 @@ pub(crate) fn framing(run: &[u8]) -> Fault
         }
         at = f.end;
     }
-    Fault {
-        number: 0,
-        place: 0,
-    }
+    fault(0, 0)
 }

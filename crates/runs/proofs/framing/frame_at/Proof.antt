@@ -12,8 +12,10 @@ sub-if1 c = number-lies _ _ _ _ (sym (c .before .before .before .read-number .en
 
 returns : tie.Need-returns
 returns c =
-    let k = c .before .before .before in
-    c .unframed2 .ensures ∙ sym (framed-short _ _ _ _ (sym (k .before .before .read-number .ensures) ∙ k .r2 .given .1) (omega (arith, c .before .if1 .taken)))
+    let test = c .before .before in
+    let k = test .before .before in
+    rw (c .unframed2 .ensures, c .before .fault .ensures)
+    (sym (framed-short _ _ _ _ (sym (k .before .before .read-number .ensures) ∙ k .r2 .given .1) (omega (arith, test .if1 .taken))))
 
 returns-2 : tie.Need-returns-2
 returns-2 c =
@@ -22,8 +24,9 @@ returns-2 c =
 
 returns-3 : tie.Need-returns-3
 returns-3 c =
-    let k = c .before .before in
-    sym (framed-whole _ _ _ _ (sym (k .before .before .read-number .ensures) ∙ k .r2 .given .1) (omega (arith, c .if1 .left)))
+    let test = c .before in
+    let k = test .before .before in
+    rw (c .fault2 .ensures) (sym (framed-whole _ _ _ _ (sym (k .before .before .read-number .ensures) ∙ k .r2 .given .1) (omega (arith, test .if1 .left))))
 
 pub frame-at-spec : {M : Type 1} → statement M
 frame-at-spec =
@@ -35,7 +38,9 @@ frame-at-spec =
     (λ c. search needs)
     sub-if1
     (λ c κs. search needs)
+    (λ c κs. search needs)
     returns
+    (λ c κs. search needs)
     (λ c. search needs)
     returns-2
     returns-3)

@@ -18,7 +18,7 @@ abbrev μ-loop : tie.MeasureT-loop
 
 returns : tie.Need-returns Inv-loop μ-loop
 unfolding framing
-returns c = rw (lt-ltb mostBytes (length (c .before .before .args .run .now)) (omega (arith, c .if1 .taken)))
+returns c = c .fault .ensures ∙ rw (lt-ltb mostBytes (length (c .before .before .before .args .run .now)) (omega (arith, c .before .if1 .taken)))
 
 loop-holds : tie.Need-loop-holds Inv-loop μ-loop
 loop-holds c = (omega arith, sym (framing-left _ (omega (arith, c .if1 .left))))
@@ -48,7 +48,7 @@ loop-again c =
     )
 
 returns-3 : tie.Need-returns-3 Inv-loop μ-loop
-returns-3 c = sym (left-end _ _ _ (c .loop-test .left)) ∙ c .before .loop .inv .1
+returns-3 c = c .fault2 .ensures ∙ (sym (left-end _ _ _ (c .before .loop-test .left)) ∙ c .before .before .loop .inv .1)
 
 pub framing-spec : {M : Type 1} → statement M
 framing-spec =
@@ -56,10 +56,12 @@ framing-spec =
     (tie.spec
     Inv-loop
     μ-loop
+    (λ c κs. search needs)
     returns
     loop-holds
     (λ c κs. search needs)
     returns-2
     loop-less
     loop-again
+    (λ c κs. search needs)
     returns-3)
