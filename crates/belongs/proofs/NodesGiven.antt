@@ -32,7 +32,7 @@ use Rattle.belongs.specs.Nodes.{nodesOf}
 pub cells-few : (s : List ℕ) → sizeOf s .rows * sizeOf s .cols ≤ room
 cells-few s = sheet-cells s .area-few
 
-pub nodes-few : (s : List ℕ) (n : ℕ) → n ≡ nodesOf s → n ≤ 287
+pub nodes-few : (s : List ℕ) (n : ℕ) → n ≡ nodesOf s → n ≤ 2 * room - 1
 nodes-few s n e = omega (arith, cells-few s)
 
 -- whatever the family and the motif, the derivation given of the sheet has so many nodes

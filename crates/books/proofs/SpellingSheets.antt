@@ -36,12 +36,12 @@ use Rattle.books.proofs.ReadingSheets.{sheet-staged, staged-cells}
 -- ── What is accepted is a spelling ──
 
 -- an accepted sheet has contents that keep the rules, and is their spelling
-pub record Accepted (s : List ℕ) (h : Sheet) : Type 0 where
+pub record SheetSpelled (s : List ℕ) (h : Sheet) : Type 0 where
   pub keeps : GridKeeps (gridIn s h)
   pub spelled : s ≡ spellSheet (gridIn s h)
 
 module _ (s : List ℕ) (bytes : Bytes s) (z : sheetOf s .fault .number ≡ 0) where
-  pub sheet-accepted : Accepted s (sheetOf s .sheet)
+  pub sheet-accepted : SheetSpelled s (sheetOf s .sheet)
   sheet-accepted =
       let g = sheet-staged s z in
       let c = colours-accepted s bytes (ap (λ (f : Fault). f .number) (g .listed .fine)) in

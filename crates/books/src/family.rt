@@ -17,7 +17,7 @@ pub struct Family {
 }
 
 // The family of a refused book.
-pub fn no_family() -> Family
+pub(crate) fn no_family() -> Family
     ensures { λ r. ⌜ r ≡ noFamily ⌝ }
 {
     let c = colours::no_colours();

@@ -1,4 +1,4 @@
-// What a host looks up in a book or a sheet, so that it never reads their bytes itself.
+// What a host looks up in a book or a sheet, without reading the bytes itself: a rule, and how many rows and columns there are.
 use crate::book::read_book;
 use crate::rule::Body;
 use crate::rule::Rule;

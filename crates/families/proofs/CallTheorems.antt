@@ -19,7 +19,7 @@ use Rattle.families.specs.Combine.{either-of, beside, above, run, stack,
 use Rattle.families.specs.Outcome.{Outcome, made, onOne, onSecond, onTwo, Leaves}
 use Rattle.books.specs.Lent.{contentsOf}
 use Rattle.families.specs.NewBook.{IsBook, Held, NewBook}
-use Rattle.families.specs.Answers.{answerOf, countOf}
+use Rattle.families.specs.Answers.{answerIn, countIn}
 use Rattle.families.specs.declared.asked.Change.the-variants.{Mirrored, Flipped, Transposed}
 use Rattle.families.proofs.Keeping.{KeptTwo, KeptOne, joined-keeps, either-of-keeps, repeated-keeps, changed-keeps, keeps-within}
 use Rattle.families.proofs.Outcomes.{lent-ends, accepted-spelled}
@@ -33,19 +33,19 @@ use Rattle.families.proofs.Theorems.{mirrored-again, flipped-again, tra
 -- A call on two books that answers 0 has written a book that holds what X makes of theirs; ...
 abbrev pub HoldsTwo : (Contents → Contents → Contents) → ((Picture → Type 0) → (Picture → Type 0) → Picture → Type 0) → Type 0
 HoldsTwo op X = (first second out left : List ℕ) (r : ℕ) → Bytes first → Bytes second
-    → Leaves (onTwo op first second out) r left → answerOf r .number ≡ 0 → NewBook out left (countOf r) (X (Held first) (Held second))
+    → Leaves (onTwo op first second out) r left → answerIn r .number ≡ 0 → NewBook out left (countIn r) (X (Held first) (Held second))
 
 -- ... and so has one on one book.
 abbrev pub HoldsOne : (Contents → Contents) → ((Picture → Type 0) → Picture → Type 0) → Type 0
 HoldsOne op X = (book out left : List ℕ) (r : ℕ) → Bytes book
-    → Leaves (onOne op book out) r left → answerOf r .number ≡ 0 → NewBook out left (countOf r) (X (Held book))
+    → Leaves (onOne op book out) r left → answerIn r .number ≡ 0 → NewBook out left (countIn r) (X (Held book))
 
 -- An accepted book and two slices that are as long: both calls answer 0, and the second has written the lent book byte for byte.
 abbrev pub GivesBack : (Contents → Contents) → Type 0
 GivesBack op = (book out left out′ left′ : List ℕ) (r r′ : ℕ) → Bytes book → IsBook book
     → length book ≤ length out → Leaves (onOne op book out) r left
-    → length book ≤ length out′ → Leaves (onOne op (take (countOf r) left) out′) r′ left′
-    → (answerOf r .number ≡ 0) × (answerOf r′ .number ≡ 0) × (take (countOf r′) left′ ≡ book)
+    → length book ≤ length out′ → Leaves (onOne op (take (countIn r) left) out′) r′ left′
+    → (answerIn r .number ≡ 0) × (answerIn r′ .number ≡ 0) × (take (countIn r′) left′ ≡ book)
 
 -- Two lent books.
 two-new : (op : Contents → Contents → Contents) (X : (Picture → Type 0) → (Picture → Type 0) → Picture → Type 0) → KeptTwo op
@@ -63,8 +63,8 @@ two-new op X keeps holds first second out left r bf bs leaves =
     (λ some z. absurd (some z)))
 
 -- One lent book: it was accepted, and that of the combination is written.
-one-spelled : (op : Contents → Contents) → KeptOne op → (book out left : List ℕ) (r : ℕ) → Bytes book → Leaves (onOne op book out) r left → answerOf r .number ≡ 0
-    → Keeps (contentsOf book) × Spelled (op (contentsOf book)) out left (countOf r)
+one-spelled : (op : Contents → Contents) → KeptOne op → (book out left : List ℕ) (r : ℕ) → Bytes book → Leaves (onOne op book out) r left → answerIn r .number ≡ 0
+    → Keeps (contentsOf book) × Spelled (op (contentsOf book)) out left (countIn r)
 one-spelled op keeps book out left r bytes leaves =
     let Spells : Outcome → Type 0 = λ o. o .answer .number ≡ 0 → Keeps (contentsOf book) × Spelled (op (contentsOf book)) out (o .out) (o .count) in
     subst⁻¹ Spells (one-read op keeps book out left r bytes leaves)
@@ -76,7 +76,7 @@ one-new : (op : Contents → Contents) (X : (Picture → Type 0) → Picture →
     → ((f : Contents) → Sound f → (p : Picture) → Member (op f) p ↔ X (Member f) p) → HoldsOne op X
 one-new op X keeps holds book out left r bytes leaves z =
     let (k, w) = one-spelled op keeps book out left r bytes leaves z in
-    new-book (op (contentsOf book)) (X (Held book)) out left (countOf r) (holds (contentsOf book) (k .sound)) w
+    new-book (op (contentsOf book)) (X (Held book)) out left (countIn r) (holds (contentsOf book) (k .sound)) w
 
 -- A change that keeps the rules, is undone by being made again, and leaves the spelling as long as it was.
 module _ (op : Contents → Contents) (keeps : (f : Contents) → Keeps f → Keeps (op f)) (again : (f : Contents) → op (op f) ≡ f)
@@ -88,7 +88,7 @@ module _ (op : Contents → Contents) (keeps : (f : Contents) → Keeps f → Ke
   changed-length book bytes accepted = as-long (contentsOf book) ∙ sym (ap length (accepted-spelled book bytes accepted .spelled))
 
   -- a slice as long as the book has room
-  one-zero : (book out left : List ℕ) (r : ℕ) → Bytes book → IsBook book → length book ≤ length out → Leaves (onOne op book out) r left → answerOf r .number ≡ 0
+  one-zero : (book out left : List ℕ) (r : ℕ) → Bytes book → IsBook book → length book ≤ length out → Leaves (onOne op book out) r left → answerIn r .number ≡ 0
   one-zero book out left r bytes accepted room leaves =
       one-verdict op kept book out left r bytes accepted leaves .zero .1
       (keeps-within _ (keeps _ (accepted-spelled book bytes accepted .keeps)), rw (changed-length book bytes accepted) room)
@@ -96,7 +96,7 @@ module _ (op : Contents → Contents) (keeps : (f : Contents) → Keeps f → Ke
   given-back : GivesBack op
   given-back book out left out′ left′ r r′ bytes accepted room leaves room′ leaves′ =
       let c : Contents = op (contentsOf book) in
-      let new : List ℕ = take (countOf r) left in
+      let new : List ℕ = take (countIn r) left in
       let z = one-zero book out left r bytes accepted room leaves in
       let (_, w) = one-spelled op kept book out left r bytes leaves z in
       let new-bytes : Bytes new = subst⁻¹ Bytes (w .front) (spelling-bytes c (w .keeps)) in

@@ -12,7 +12,7 @@ use Rattle.books.proofs.ReadingBooks.{book-refused}
 use Rattle.families.specs.Outcome.{Outcome, made, lent, onOne, onSecond, onTwo, Leaves}
 use Rattle.books.specs.Lent.{contentsOf}
 use Rattle.families.specs.NewBook.{IsBook}
-use Rattle.families.specs.Answers.{answerOf, countOf, Blames, Answers}
+use Rattle.families.specs.Answers.{answerIn, countIn, Blames, Answered}
 use Rattle.families.specs.EachCall.{EachCall}
 use Rattle.families.proofs.Keeping.{KeptTwo, KeptOne, each-call}
 use Rattle.families.proofs.Outcomes.{made-ends, lent-ends}
@@ -24,16 +24,16 @@ FaultyTwo first second a = Blames 1 first a ⊎ (IsBook first × Blames 2 second
 
 abbrev pub AnswersTwo : (Contents → Contents → Contents) → Type 0
 AnswersTwo op = (first second out left : List ℕ) (r : ℕ) → Bytes first → Bytes second → Leaves (onTwo op first second out) r left
-    → Answers (FaultyTwo first second) out left (answerOf r) (countOf r)
+    → Answered (FaultyTwo first second) out left (answerIn r) (countIn r)
 
 abbrev pub AnswersOne : (Contents → Contents) → Type 0
 AnswersOne op = (book out left : List ℕ) (r : ℕ) → Bytes book → Leaves (onOne op book out) r left
-    → Answers (Blames 1 book) out left (answerOf r) (countOf r)
+    → Answered (Blames 1 book) out left (answerIn r) (countIn r)
 
 -- The same of outcomes.
 module _ (Faulty : Answer → Type 0) (out : List ℕ) where
   abbrev Tells : Outcome → Type 0
-  Tells o = Answers Faulty out (o .out) (o .answer) (o .count)
+  Tells o = Answered Faulty out (o .out) (o .answer) (o .count)
 
   made-told : (c : Contents) → Tells (made c out)
   made-told c =

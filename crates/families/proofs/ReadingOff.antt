@@ -8,12 +8,12 @@ use Rattle.books.specs.Contents.{Contents}
 use Rattle.books.specs.Answer.{answer}
 use Rattle.books.proofs.Packing.{apart}
 use Rattle.families.specs.Outcome.{Outcome, onOne, onTwo, Leaves}
-use Rattle.families.specs.Answers.{answerOf, countOf}
+use Rattle.families.specs.Answers.{answerIn, countIn}
 use Rattle.families.proofs.Keeping.{KeptTwo, KeptOne}
 use Rattle.families.proofs.Outcomes.{Packed, accepted-spelled, made-packs, lent-packs}
 
 abbrev pub readOf : ℕ → List ℕ → Outcome
-readOf r left = record { answer = answerOf r; count = countOf r; out = left }
+readOf r left = record { answer = answerIn r; count = countIn r; out = left }
 
 read-off : (o : Outcome) (left : List ℕ) (r : ℕ) → Packed o → Leaves o r left → readOf r left ≡ o
 read-off o left r packs leaves =

@@ -12,7 +12,7 @@ use Rattle.books.specs.Book.{bookOf}
 use Rattle.families.specs.Outcome.{Outcome, made, lent, onOne, onSecond, onTwo, Leaves}
 use Rattle.books.specs.Lent.{contentsOf}
 use Rattle.families.specs.NewBook.{IsBook}
-use Rattle.families.specs.Answers.{answerOf, countOf, Verdict}
+use Rattle.families.specs.Answers.{answerIn, countIn, WhichNumber}
 use Rattle.families.specs.EachCall.{EachCall}
 use Rattle.families.proofs.Keeping.{KeptTwo, KeptOne, each-call}
 use Rattle.families.proofs.Outcomes.{made-ends}
@@ -21,7 +21,7 @@ use Rattle.families.proofs.ReadingOff.{one-read, two-read}
 
 -- The number and the count of an outcome.
 abbrev Gets : Contents → List ℕ → Outcome → Type 0
-Gets c out o = Verdict c out (o .answer .number) (o .count)
+Gets c out o = WhichNumber c out (o .answer .number) (o .count)
 
 made-verdict : (c : Contents) (out : List ℕ) → Gets c out (made c out)
 made-verdict c out =
@@ -55,11 +55,11 @@ accepted-goes input s out go a = read-accepted s (bookOf s) refl input out go (a
 -- Two accepted books, and one.
 abbrev pub VerdictTwo : (Contents → Contents → Contents) → Type 0
 VerdictTwo op = (first second out left : List ℕ) (r : ℕ) → Bytes first → Bytes second → IsBook first → IsBook second
-    → Leaves (onTwo op first second out) r left → Verdict (op (contentsOf first) (contentsOf second)) out (answerOf r .number) (countOf r)
+    → Leaves (onTwo op first second out) r left → WhichNumber (op (contentsOf first) (contentsOf second)) out (answerIn r .number) (countIn r)
 
 abbrev pub VerdictOne : (Contents → Contents) → Type 0
 VerdictOne op = (book out left : List ℕ) (r : ℕ) → Bytes book → IsBook book
-    → Leaves (onOne op book out) r left → Verdict (op (contentsOf book)) out (answerOf r .number) (countOf r)
+    → Leaves (onOne op book out) r left → WhichNumber (op (contentsOf book)) out (answerIn r .number) (countIn r)
 
 two-verdict : (op : Contents → Contents → Contents) → KeptTwo op → VerdictTwo op
 two-verdict op keeps first second out left r bf bs af ag leaves =

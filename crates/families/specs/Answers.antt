@@ -13,11 +13,11 @@ use Rattle.books.specs.declared.answer.Answer.{Answer}
 use Rattle.families.specs.Limits.{WithinLimits}
 
 -- the answer and the count, taken apart as the C header does
-abbrev pub answerOf : ℕ → Answer
-answerOf r = answer (r % 2 ^ 8) (r / 2 ^ 8 % 2 ^ 4) (r / 2 ^ 12 % 2 ^ 20)
+abbrev pub answerIn : ℕ → Answer
+answerIn r = answer (r % 2 ^ 8) (r / 2 ^ 8 % 2 ^ 4) (r / 2 ^ 12 % 2 ^ 20)
 
-abbrev pub countOf : ℕ → ℕ
-countOf r = r / 2 ^ 32
+abbrev pub countIn : ℕ → ℕ
+countIn r = r / 2 ^ 32
 
 -- the answer is the fault of the book s, lent as this input, at a place within it
 pub record Blames (input : ℕ) (s : List ℕ) (a : Answer) : Type 0 where
@@ -25,7 +25,7 @@ pub record Blames (input : ℕ) (s : List ℕ) (a : Answer) : Type 0 where
   pub inside : a .place ≤ length s
 
 -- Demand 1, whatever was lent: 1 to 8 tell a fault of a lent book, and no other number blames one; a refusal writes nothing
-pub record Answers (Faulty : Answer → Type 0) (out left : List ℕ) (a : Answer) (count : ℕ) : Type 0 where
+pub record Answered (Faulty : Answer → Type 0) (out left : List ℕ) (a : Answer) (count : ℕ) : Type 0 where
   pub one-of : ReadersNumber (a .number) ⊎ ((a .number ≡ 12) ⊎ (a .number ≡ 13))
   pub faulty : 1 ≤ a .number → ReadersNumber (a .number) → Faulty a
   pub faultless : (a .number ≡ 0) ⊎ (ReadersNumber (a .number) → ⊥) → (a .blamed ≡ 0) × (a .place ≡ 0)
@@ -33,7 +33,7 @@ pub record Answers (Faulty : Answer → Type 0) (out left : List ℕ) (a : Answe
 
 -- Demand 3, of accepted books: 12 exactly where the combination c exceeds the limits, 13 exactly where it does not and the slice is shorter than
 -- its spelling, and else 0 with the length of that spelling
-pub record Verdict (c : Contents) (out : List ℕ) (number count : ℕ) : Type 0 where
+pub record WhichNumber (c : Contents) (out : List ℕ) (number count : ℕ) : Type 0 where
   pub twelve : (number ≡ 12) ↔ (WithinLimits c → ⊥)
   pub thirteen : (number ≡ 13) ↔ (WithinLimits c × (length out < length (spellBook c)))
   pub zero : (number ≡ 0) ↔ (WithinLimits c × (length (spellBook c) ≤ length out))

@@ -31,7 +31,8 @@ fn finish(first: &[u8], second: &[u8], m: Made, out: &mut [u8]) -> u64
 // Goes on with the second book.
 fn on_second(pairing: Pairing, first: &[u8], f: Family, second: &[u8], out: &mut [u8]) -> u64
     requires { ⌜ Lent (now first) f ⌝ }
-    ensures { λ r. ⌜ Leaves (onSecond (paired pairing (contentsIn (now (first .entry)) f)) (now (second .entry)) (now (out .entry))) r (now (out .exit)) ⌝ }
+    ensures { λ r. ⌜ Leaves (onSecond (paired pairing (contentsIn (now (first .entry)) f)) (now (second .entry)) (now (out .entry)))
+        r (now (out .exit)) ⌝ }
 {
     let b = book::read_book(second);
     let fault = b.fault;

@@ -73,7 +73,8 @@ put-put out at a b h =
     let len : length (put out at a) ≡ length out = put-length out at a in
     let whole : at + length (a ++ b) ≡ at + length a + length b = omega (arith, length-append a b) in
     let head : length (take at out ++ a) ≡ at + length a = omega (arith, length-append (take at out) a, length-take-le at out (omega arith)) in
-    let front : take (at + length a) (put out at a) ≡ take at out ++ a = ap (take (at + length a)) (put-in out at a ha) ∙ take-at (take at out ++ a) (drop (at + length a) out) (at + length a) head in
+    let front : take (at + length a) (put out at a) ≡ take at out ++ a =
+    ap (take (at + length a)) (put-in out at a ha) ∙ take-at (take at out ++ a) (drop (at + length a) out) (at + length a) head in
     let back : drop (at + length a + length b) (put out at a) ≡ drop (at + length a + length b) out =
     sym (drop-drop (length b) (at + length a) (put out at a))
     ∙ (ap (drop (length b)) (ap (drop (at + length a)) (put-in out at a ha) ∙ drop-at (take at out ++ a) (drop (at + length a) out) (at + length a) head)

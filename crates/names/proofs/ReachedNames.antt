@@ -77,5 +77,7 @@ reached-on s count {ns} {at} (one-more before from start len r more sized-at who
       places = places-with s c start len (o .places) room (lies .inside);
       names = longer ∙ ap (λ (l : List Name). l ++ (bytesAt s start len ∷ [])) (o .names) ∙ sym ne;
       many = o .many;
-      on = o .on ∙ ap (coloursFrom s c from) left ∙ step-on s c from (count - length ns) start len here apart ∙ ap (λ (p : ℕ). coloursFrom s (withColour c start len) p (count - length ns)) (sym ae);
+      on =
+          o .on ∙ ap (coloursFrom s c from) left ∙ step-on s c from (count - length ns) start len here apart
+          ∙ ap (λ (p : ℕ). coloursFrom s (withColour c start len) p (count - length ns)) (sym ae);
     }

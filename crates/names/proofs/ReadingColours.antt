@@ -154,7 +154,8 @@ abbrev Ended : List ℕ → ℕ → ℕ → ColoursRead → Type 0
 Ended s limit least r = ListLies s limit least r ⊎ ListRefused s limit r
 
 module _ (s : List ℕ) (limit least : ℕ) where
-  from-ended : (k : ℕ) (c : Colours) (at : ℕ) → Places s c → c .count + k ≡ least → least ≤ mostColours → at ≤ length s → at + colourSpan * k ≤ limit → Ended s limit least (coloursFrom s c at k)
+  from-ended : (k : ℕ) (c : Colours) (at : ℕ) → Places s c → c .count + k ≡ least → least ≤ mostColours → at ≤ length s → at + colourSpan * k ≤ limit
+      → Ended s limit least (coloursFrom s c at k)
   from-ended zero c at g h few i l = inl (record { fine = refl; places = g; some = omega arith; inside = i; near = omega arith })
   from-ended (suc k) c at g h few i l =
       after-colour-ind (Ended s limit least) refusedColours (colourAt s at) _

@@ -60,7 +60,10 @@ Found s at (Value v next) = Lies s at next × (v ≤ greatestNumber)
 Found s at (Refused f) = Blamed s (at + 2) f
 
 found : (s : List ℕ) (at : ℕ) → Found s at (numberAt s at)
-found s at = number-cases (Found s at) s at (λ a. omega arith) (λ a. omega arith) (λ a b. (omega arith, omega arith)) (λ a b d e. (omega arith, omega arith)) (λ a b d e f. (omega arith, omega arith))
+found s at =
+    number-cases (Found s at) s at (λ a. omega arith) (λ a. omega arith) (λ a b. (omega arith, omega arith))
+    (λ a b d e. (omega arith, omega arith))
+    (λ a b d e f. (omega arith, omega arith))
 
 pub number-lies : (s : List ℕ) (at v next : ℕ) → numberAt s at ≡ Value v next → Lies s at next
 number-lies s at v next e = subst (Found s at) e (found s at) .0

@@ -6,6 +6,7 @@ use mathlib.Core.List.{List, _++_}
 use mathlib.Core.Logic.{_⊎_, inl, inr}
 use native.Mathlib.Omega.{arith}
 use lib.ListN.{length, drop}
+use Rattle.names.specs.Pick.{ReadersNumber}
 use Rattle.books.specs.Book.{bookOf}
 use Rattle.books.specs.Sheet.{sheetOf}
 use Rattle.books.proofs.Packing.{apart}
@@ -35,7 +36,7 @@ pub record InSheet (book sheet : List ℕ) (number blamed place : ℕ) : Type 0 
 -- A call that was lent a book, a sheet and two slices answers so, and leaves the slices so.
 pub record Answered (book sheet work tree : List ℕ) (number blamed place : ℕ) (work-left tree-left : List ℕ) : Type 0 where
   pub listed : number ≤ 11
-  pub faults : 1 ≤ number → number ≤ 8 → InBook book number blamed place ⊎ InSheet book sheet number blamed place
+  pub faults : 1 ≤ number → ReadersNumber number → InBook book number blamed place ⊎ InSheet book sheet number blamed place
   pub others : (number ≡ 0) ⊎ (9 ≤ number) → (blamed ≡ 0) × (place ≡ 0)
   pub unwritten : 1 ≤ number → number ≤ 10 → (work-left ≡ work) × (tree-left ≡ tree)
   pub eleven : number ≡ 11 → (work-left ≡ table (contentsOf book) (pictureOf sheet) ++ drop (entriesNeeded (pictureOf sheet)) work) × (tree-left ≡ tree)
@@ -84,7 +85,7 @@ module _ (book sheet work tree : List ℕ) where
             };
       })
     where
-      unlisted : (n : ℕ) → 1 ≤ n → n ≤ 8 → (n ≡ 0) ⊎ (9 ≤ n) → ⊥
+      unlisted : (n : ℕ) → 1 ≤ n → ReadersNumber n → (n ≡ 0) ⊎ (9 ≤ n) → ⊥
       unlisted n h g (inl e) = omega arith
       unlisted n h g (inr e) = omega arith
 

@@ -6,6 +6,7 @@ use mathlib.Core.List.{List}
 use mathlib.Core.Logic.{_↔_}
 use native.Mathlib.Omega.{arith}
 use lib.ListN.{length}
+use Rattle.names.specs.Pick.{ReadersNumber}
 use Rattle.names.proofs.Tests.{together, neither}
 use Rattle.books.specs.Contents.{Contents}
 use Rattle.books.specs.Picture.{Picture}
@@ -28,7 +29,7 @@ module _ (book sheet entries numbers : List ℕ) where
   p = pictureOf sheet
 
   pub record Numbers (n : ℕ) : Type 0 where
-    pub faulty : ((1 ≤ n) × (n ≤ 8)) ↔ (Accepted book sheet → ⊥)
+    pub faulty : ((1 ≤ n) × ReadersNumber n) ↔ (Accepted book sheet → ⊥)
     pub nine : (n ≡ 9) ↔ (Accepted book sheet × (length entries < entriesNeeded p))
     pub ten : (n ≡ 10) ↔ (Accepted book sheet × (entriesNeeded p ≤ length entries) × (length numbers < numbersNeeded p))
     pub eleven : (n ≡ 11) ↔ (Accepted book sheet × Roomy p entries numbers × (Member b p → ⊥))
@@ -37,7 +38,7 @@ module _ (book sheet entries numbers : List ℕ) where
   abbrev Numbered : Derivation → Type 0
   Numbered d = Numbers (d .answer .number)
 
-  in-input : (n : ℕ) → 1 ≤ n → n ≤ 8 → (Accepted book sheet → ⊥) → Numbers n
+  in-input : (n : ℕ) → 1 ≤ n → ReadersNumber n → (Accepted book sheet → ⊥) → Numbers n
   in-input n h g bad =
       record {
         faulty = together (h, g) bad;

@@ -22,7 +22,8 @@ Right c rules e x = (a : ℕ) → (bit e a ≡ 1) ↔ Gives c rules a x
 
 -- what fires at a cut whose parts have the motifs of l and of r: the head of each join of a motif of l with one of r, and nothing else
 pub record Fires (rules : List Rule) (fire : Dir → ℕ → ℕ → ℕ) : Type 0 where
-  pub only : (d : Dir) (l r a : ℕ) → bit (fire d l r) a ≡ 1 → (x : ℕ) × (y : ℕ) × Ruled rules a (joins d x y) × (bit l x ≡ 1) × (bit r y ≡ 1)
+  pub only : (d : Dir) (l r a : ℕ) → bit (fire d l r) a ≡ 1
+      → (x : ℕ) × (y : ℕ) × Ruled rules a (joins d x y) × (bit l x ≡ 1) × (bit r y ≡ 1)
   pub each : (d : Dir) (l r a x y : ℕ) → Ruled rules a (joins d x y) → bit l x ≡ 1 → bit r y ≡ 1 → bit (fire d l r) a ≡ 1
 
 -- the heads of the colour rules of a colour that a thing shows

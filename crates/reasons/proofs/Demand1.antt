@@ -7,6 +7,7 @@ use mathlib.Core.List.{List, _++_}
 use mathlib.Core.Logic.{_↔_, _⊎_, inl, inr}
 use native.Mathlib.Omega.{arith}
 use lib.ListN.{length, drop}
+use Rattle.names.specs.Pick.{ReadersNumber}
 use Rattle.names.proofs.Tests.{together, neither}
 use Rattle.books.specs.Contents.{Contents}
 use Rattle.books.specs.Picture.{Picture}
@@ -50,11 +51,11 @@ module _ (book sheet work : List ℕ) where
   -- A call that was lent a book, a sheet and a work slice answers so, with this reason, and leaves the slice so.
   pub record Answered (number blamed place : ℕ) (reason : Reason) (left : List ℕ) : Type 0 where
     pub listed : (number ≤ 9) ⊎ (number ≡ 15)
-    pub faulty : ((1 ≤ number) × (number ≤ 8)) ↔ (Accepted book sheet → ⊥)
+    pub faulty : ((1 ≤ number) × ReadersNumber number) ↔ (Accepted book sheet → ⊥)
     pub nine : (number ≡ 9) ↔ (Accepted book sheet × (length work < entriesNeeded p))
     pub fifteen : (number ≡ 15) ↔ (Ready × Member b p)
     pub zero : (number ≡ 0) ↔ (Ready × (Member b p → ⊥))
-    pub faults : 1 ≤ number → number ≤ 8 → InBook book number blamed place ⊎ InSheet book sheet number blamed place
+    pub faults : 1 ≤ number → ReadersNumber number → InBook book number blamed place ⊎ InSheet book sheet number blamed place
     pub others : (number ≡ 0) ⊎ (9 ≤ number) → (blamed ≡ 0) × (place ≡ 0)
     pub first : number ≡ 0 → First b p reason
     pub no-reason : (number ≡ 0 → ⊥) → reason ≡ NoReason
@@ -64,7 +65,7 @@ module _ (book sheet work : List ℕ) where
   abbrev Obeys : Outcome → Type 0
   Obeys o = Answered (o .answer .number) (o .answer .blamed) (o .answer .place) (o .reason) (o .entries)
 
-  faulty-input : (n blamed place : ℕ) → 1 ≤ n → n ≤ 8 → (Accepted book sheet → ⊥) → InBook book n blamed place ⊎ InSheet book sheet n blamed place
+  faulty-input : (n blamed place : ℕ) → 1 ≤ n → ReadersNumber n → (Accepted book sheet → ⊥) → InBook book n blamed place ⊎ InSheet book sheet n blamed place
       → Answered n blamed place NoReason work
   faulty-input n blamed place h g bad where-it-is =
       record {

@@ -17,7 +17,8 @@ ghost use Rattle.reasons.specs.inner.FromTable.{reasonIn};
 // First a cell whose colour no rule names, then the size, then the largest piece that the start motif derives.
 pub(crate) fn reason(masks: &[u32], joins: Joins, start: u8, work: &[u32], size: Size) -> Reason
     requires { ⌜ Within greatest (size .rows) (size .cols) × (total (size .rows) (size .cols) ≤ length (now work)) ⌝ }
-    ensures { λ r. ⌜ r ≡ reasonIn (hasSizeBy (now (masks .entry)) joins start (size .rows) (size .cols)) (now (work .entry)) start (size .rows) (size .cols) ⌝ }
+    ensures { λ r. ⌜ r
+        ≡ reasonIn (hasSizeBy (now (masks .entry)) joins start (size .rows) (size .cols)) (now (work .entry)) start (size .rows) (size .cols) ⌝ }
 {
     let cells = size.rows * size.cols;
     let i = first_bare(work, cells);

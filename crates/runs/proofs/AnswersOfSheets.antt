@@ -10,7 +10,7 @@ use borrow.Author.Count.{below-none, below-more}
 use lib.ListN.{replicate, length-replicate}
 use Rattle.names.specs.Colours.{coloursOf}
 use Rattle.names.specs.Number.{numberAt, numberIn}
-use Rattle.names.specs.Pick.{fault}
+use Rattle.names.specs.Pick.{fault, ReadersNumber}
 use Rattle.names.specs.declared.number.Fault.{Fault}
 use Rattle.names.proofs.Tests.{together, neither}
 use Rattle.books.specs.Book.{bookOf}
@@ -41,7 +41,7 @@ tree-fits sheet = go (ℕ-discrete (sheetOf sheet .fault .number) 0)
 
 -- 0 to 8, or 11
 abbrev pub Listed : ℕ → Type 0
-Listed n = (n ≤ 8) ⊎ (n ≡ 11)
+Listed n = ReadersNumber n ⊎ (n ≡ 11)
 
 -- what holds of each of the ten
 pub of-listed : (P : ℕ → Type 0) → P 0 → P 1 → P 2 → P 3 → P 4 → P 5 → P 6 → P 7 → P 8 → P 11 → (n : ℕ) → Listed n → P n

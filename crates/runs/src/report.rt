@@ -20,7 +20,7 @@ ghost use lib.ListN.{length};
 ghost use Rattle.runs.specs.Run.{sheetsOf};
 ghost use Rattle.runs.specs.Figures.{figuresLong};
 ghost use Rattle.runs.specs.Outcome.{report, told};
-ghost use Rattle.runs.specs.inner.Reporting.{refusing, SheetDue, RunDue, Adds, Counts, telling};
+ghost use Rattle.runs.specs.inner.Reporting.{refusing, AddingDue, RunDue, Adds, Counts, telling};
 
 // The stretches of cells in a row of the greatest sheet, and the entries of its table: one for each stretch of rows with each stretch of columns.
 const STRETCHES: usize = GREATEST * (GREATEST + 1) / 2;
@@ -37,7 +37,7 @@ fn add_sheet(
     work: &mut [u32],
     figures: &mut [u32],
 )
-    requires { ⌜ SheetDue (now book) split (now masks) (now work) (now figures) ⌝ }
+    requires { ⌜ AddingDue (now book) split (now masks) (now work) (now figures) ⌝ }
     ensures { λ _. ⌜ Adds (now (book .entry)) (now (sheet .entry)) (now (work .entry)) (now (work .exit)) (now (figures .entry)) (now (figures .exit)) ⌝ }
 {
     let r = ask_sheet(book, split, masks, sheet, cells, work);

@@ -27,7 +27,7 @@ use Rattle.books.specs.declared.size.Size.{Size}
 use Rattle.sizes.specs.Test.{hasSize?}
 use Rattle.sizes.specs.Card.{sized?, cardRow, card, sizesOf, setBits}
 use Rattle.sizes.specs.Table.{slot, tableBy}
-use Rattle.sizes.specs.inner.Entries.{entry, OfTable, Right}
+use Rattle.sizes.specs.inner.Entries.{entry, OfTable, RightBefore}
 use Rattle.sizes.specs.inner.Rows.{rowOf, rowsOf, RowsWrote}
 use Rattle.sizes.proofs.CardRight.{card-length}
 use Rattle.sizes.proofs.EntriesRight.{table-right}
@@ -110,7 +110,7 @@ entry-tells b s a h =
     (λ (e : hasSize? b a s ≡ false). ne-eqb _ 1 (λ o. true≢false (sym (bits-has (b .motifs) test a o .1) ∙ e)) ∙ sym e)
     (true-or-false (hasSize? b a s))
 
-module _ (b : Contents) (n : ℕ) (t : List ℕ) (right : Right b n (n * n) t) (fits : b .start < b .motifs) where
+module _ (b : Contents) (n : ℕ) (t : List ℕ) (right : RightBefore b n (n * n) t) (fits : b .start < b .motifs) where
   entry-here : (i j : ℕ) → i < n → j < n → getD t (i * n + j) 0 ≡ entry b (by (suc i) (suc j))
   entry-here i j h l =
       let ei : suc i - 1 ≡ i = omega arith in

@@ -8,6 +8,7 @@ use native.Mathlib.Decide.{ℕ-discrete}
 use native.Mathlib.Omega.{arith}
 use borrow.Author.Tests.{ne-eqb}
 use lib.ListN.{length}
+use Rattle.names.specs.Pick.{ReadersNumber}
 use Rattle.names.proofs.Tests.{lt-or-le}
 use Rattle.books.specs.Book.{bookOf}
 use Rattle.books.specs.Size.{greatest}
@@ -22,9 +23,9 @@ Fine book = bookOf book .fault .number ≡ 0
 
 -- A call that was lent a book and a card slice answers so, with so many sizes, and leaves the slice so.
 pub record Answered (book slice : List ℕ) (number blamed place count : ℕ) (left : List ℕ) : Type 0 where
-  pub listed : (number ≤ 8) ⊎ (number ≡ 13)
+  pub listed : ReadersNumber number ⊎ (number ≡ 13)
   pub zero : (number ≡ 0) ↔ (Fine book × (greatest ≤ length slice))
-  pub faulty : ((1 ≤ number) × (number ≤ 8)) ↔ (Fine book → ⊥)
+  pub faulty : ((1 ≤ number) × ReadersNumber number) ↔ (Fine book → ⊥)
   pub thirteen : (number ≡ 13) ↔ (Fine book × (length slice < greatest))
   -- a fault of the book is blamed on it at its place, which is a byte of the book or its end
   pub in-book : (Fine book → ⊥) → (number ≡ bookOf book .fault .number) × (blamed ≡ 1) × (place ≡ bookOf book .fault .place) × (place ≤ length book)

@@ -22,7 +22,7 @@ use Rattle.books.specs.declared.size.Size.{Size}
 use Rattle.sizes.specs.Size.{reach}
 use Rattle.sizes.specs.HasSize.{sizes}
 use Rattle.sizes.specs.Table.{slot, slotSize, at, entryOf, withEntry, withEntries, sizesBy, tableBy}
-use Rattle.sizes.specs.inner.Entries.{entry, OfTable, Right}
+use Rattle.sizes.specs.inner.Entries.{entry, OfTable, RightBefore}
 use Rattle.sizes.proofs.Slots.{first-within, rest-within, first-before, rest-before, size-at-slot}
 use Rattle.sizes.proofs.Testing.{size-decided}
 
@@ -39,7 +39,7 @@ at-first : (n : ℕ) (s : Size) → OfTable n s → slot n s ≡ 0 → s ≡ by 
 at-first n s w z = sym (size-at-slot n s w) ∙ ap (slotSize n) z ∙ rw (zero-div, zero-mod)
 
 module _ (b : Contents) (sound : Sound b) (fire : Dir → ℕ → ℕ → ℕ) (fires : Fires (b .rules) fire) (n : ℕ) where
-  entry-right : (t : List ℕ) (s : Size) → OfTable n s → Right b n (slot n s) t → 2 < s .rows + s .cols → entryOf fire n t s ≡ entry b s
+  entry-right : (t : List ℕ) (s : Size) → OfTable n s → RightBefore b n (slot n s) t → 2 < s .rows + s .cols → entryOf fire n t s ≡ entry b s
   unfolding entry
   entry-right t s w right large =
       parts-right (sizes b) (b .rules) (b .motifs) (λ r m. sound .rules-fit r m .head-fits) _ (size-decided b) fire fires _ _ s
@@ -49,7 +49,7 @@ module _ (b : Contents) (sound : Sound b) (fire : Dir → ℕ → ℕ → ℕ) (
 
   -- ── Slot by slot ──
 
-  one-more : (k : ℕ) (t : List ℕ) → 1 ≤ k → k < length t → Right b n k t → Right b n (suc k) (withEntry fire n k t)
+  one-more : (k : ℕ) (t : List ℕ) → 1 ≤ k → k < length t → RightBefore b n k t → RightBefore b n (suc k) (withEntry fire n k t)
   one-more k t some less old s w h = go (decLt (slot n s) k)
     where
       go : Dec (slot n s < k) → at n (withEntry fire n k t) s ≡ entry b s
@@ -69,7 +69,7 @@ module _ (b : Contents) (sound : Sound b) (fire : Dir → ℕ → ℕ → ℕ) (
   entries-length zero t = refl
   entries-length (suc k) t = length-set (withEntries fire n k t) (suc k) _ ∙ entries-length k t
 
-  entries-right : (k : ℕ) (t : List ℕ) → k < length t → getD t 0 0 ≡ entry b (by 1 1) → Right b n (suc k) (withEntries fire n k t)
+  entries-right : (k : ℕ) (t : List ℕ) → k < length t → getD t 0 0 ≡ entry b (by 1 1) → RightBefore b n (suc k) (withEntries fire n k t)
   unfolding withEntries
   entries-right zero t low begins = λ s w h. let z : slot n s ≡ 0 = omega arith in rw (z, at-first n s w z) begins
   entries-right (suc k) t low begins =
@@ -105,7 +105,7 @@ module _ (b : Contents) (keeps : Keeps b) (masks : List ℕ) (j : Joins) (serves
   painted-right =
       cell-right (sizes b) (b .rules) (b .motifs) (λ r m. keeps .sound .rules-fit r m .head-fits) _ (size-decided b) (by 1 1) no-cut (paintedOf masks) painted
 
-  pub table-right : (n end : ℕ) → 1 ≤ end → end ≤ room → Right b n end (tableBy masks j n end)
+  pub table-right : (n end : ℕ) → 1 ≤ end → end ≤ room → RightBefore b n end (tableBy masks j n end)
   unfolding sizesBy
   table-right n end some few =
       let begun = set (replicate room 0) 0 (paintedOf masks) in

@@ -50,7 +50,8 @@ pub(crate) fn write_card(
     card: &mut [u32],
 ) -> usize
     requires { ⌜ (1 ≤ most) × CardDue most room start (length (now card)) ⌝ }
-    ensures { λ n. ⌜ RowsWrote (rowsOf (tableBy (now (masks .entry)) joins most (most * most)) most start most) (now (card .entry)) n (now (card .exit)) ⌝ }
+    ensures { λ n. ⌜ RowsWrote (rowsOf (tableBy (now (masks .entry)) joins most (most * most)) most start most)
+        (now (card .entry)) n (now (card .exit)) ⌝ }
 {
     let mut sizes = [0u32; ROOM];
     table::fill(&mut sizes, masks, joins, most, most * most);

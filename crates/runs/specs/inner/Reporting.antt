@@ -20,7 +20,7 @@ abbrev pub refusing : Fault → List ℕ → ℕ → Answer
 refusing f run entries = pick (eqb (f .number) 0) (refusedRun run entries) (blaming 1 f)
 
 -- a book that was split, a work slice with room for the greatest sheet, and figures with room for a sheet more
-pub record SheetDue (book : List ℕ) (split : Split) (masks work figures : List ℕ) : Type 0 where
+pub record AddingDue (book : List ℕ) (split : Split) (masks work figures : List ℕ) : Type 0 where
   pub from-book : SplitFrom book split masks
   pub work-long : workRoom ≤ length work
   pub spare : Spare mostAdded figures

@@ -19,5 +19,5 @@ pub record OfTable (n : ℕ) (s : Size) : Type 0 where
   pub cols-few : s .cols ≤ n
 
 -- the entries before a slot are those of their sizes
-abbrev pub Right : Contents → ℕ → ℕ → List ℕ → Type 0
-Right b n k t = (s : Size) → OfTable n s → slot n s < k → at n t s ≡ entry b s
+abbrev pub RightBefore : Contents → ℕ → ℕ → List ℕ → Type 0
+RightBefore b n k t = (s : Size) → OfTable n s → slot n s < k → at n t s ≡ entry b s

@@ -24,7 +24,8 @@ abbrev began : tie.After-struct-known6 → tie.Start
 began c = merged c .before .before .before
 
 -- the counts of rules are small
-counted : (c : tie.After-struct-known6) → let a = began c .args in (a .f .count + a .g .count ≤ mostRules + mostRules) × (c .before .before .before .before .added-by .result ≤ mostRules + mostRules)
+counted : (c : tie.After-struct-known6)
+    → let a = began c .args in (a .f .count + a .g .count ≤ mostRules + mostRules) × (c .before .before .before .before .added-by .result ≤ mostRules + mostRules)
 counted c =
     let a = began c .args in
     let own = began c .pre .0 .fitted .sized in
