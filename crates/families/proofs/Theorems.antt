@@ -15,7 +15,6 @@ use Rattle.families.proofs.EitherOf.{either-of-derives}
 use Rattle.families.proofs.Joins.{joined-derives}
 use Rattle.families.proofs.Runs.{repeated-derives}
 use Rattle.families.proofs.Images.{changed-image, changed-twice}
-use Rattle.families.proofs.Fitting.{joined-sound, either-of-sound, repeated-sound, changed-sound}
 use Rattle.families.proofs.Keeping.{joined-keeps, either-of-keeps, repeated-keeps, changed-keeps}
 
 -- Either-of: what the one or the other derives.
@@ -58,22 +57,7 @@ flipped-again = changed-twice Flipped
 pub transposed-again : (f : Contents) → transposed (transposed f) ≡ f
 transposed-again = changed-twice Transposed
 
--- All eight are sound, ...
-pub all-sound : (f g : Contents) → Sound f → Sound g
-    → Sound (either-of f g) × Sound (beside f g) × Sound (above f g) × Sound (run f) × Sound (stack f)
-    × Sound (mirrored f) × Sound (flipped f) × Sound (transposed f)
-all-sound f g sf sg = (
-  either-of-sound f g sf sg,
-  joined-sound f g sf sg across,
-  joined-sound f g sf sg down,
-  repeated-sound across f sf,
-  repeated-sound down f sf,
-  changed-sound Mirrored f sf,
-  changed-sound Flipped f sf,
-  changed-sound Transposed f sf,
-)
-
--- ... and keep the rules of a book, the first five where they are within the limits.
+-- All eight keep the rules of a book, the first five where they are within the limits.
 pub all-keep : (f g : Contents) → Keeps f → Keeps g
     → (WithinLimits (either-of f g) → Keeps (either-of f g))
     × (WithinLimits (beside f g) → Keeps (beside f g))

@@ -3,30 +3,27 @@
 use Prim.Native.Nat.{ℕ, _≤_, _<_}
 use mathlib.Core.Path.{_≡_, sym, ap, _∙_, subst}
 use mathlib.Core.List.{List}
-use mathlib.Core.Logic.{_↔_}
 use native.Mathlib.Decide.{decLt, ℕ-discrete}
 use native.Mathlib.Omega.{arith}
 use borrow.Author.Tests.{eq-eqb, ne-eqb, lt-ltb, le-ltb}
 use lib.ListN.{length, take}
-use Rattle.names.specs.Bits.{bit}
 use Rattle.names.specs.declared.colours.Colours.{Colours}
 use Rattle.names.specs.declared.number.Fault.{Fault}
 use Rattle.names.specs.Bytes.{Bytes}
 use Rattle.books.specs.Book.{bookOf}
-use Rattle.books.specs.Contents.{Contents, Has}
+use Rattle.books.specs.Contents.{Contents}
 use Rattle.books.specs.Numbering.{numbersOf, numbersFor, Numbers}
 use Rattle.books.specs.Picture.{Picture}
 use Rattle.books.specs.Sheet.{sheetOf, sheetFigures}
 use Rattle.books.specs.declared.family.Family.{Family}
 use Rattle.books.specs.declared.sheet.SheetFigures.{SheetFigures}
-use Rattle.books.specs.declared.rule.Body.the-variants.{Colour}
 use Rattle.books.specs.declared.sheet.Sheet.{Sheet}
 use Rattle.books.proofs.NumberedCells.{numbers-for, numbers-room, numbers-few}
 use Rattle.books.proofs.SizesWithin.{within-more}
 use Rattle.books.proofs.LentRules.{rows-back}
 use Rattle.books.specs.RuleBytes.{BookInto, rulesIn}
 use Rattle.books.specs.declared.lent.BookFigures.{BookFigures}
-use Rattle.books.proofs.ReadingBooks.{book-places, book-accepted}
+use Rattle.books.proofs.ReadingBooks.{book-places}
 use Rattle.books.proofs.ReadingSheets.{sheet-lies}
 use Rattle.pieces.specs.Area.{whole}
 use Rattle.pieces.specs.Asking.{SplitBook, keptWith, keeping, splitBook, startAnswer, judgedBy, toldBy, AskedSheet, askedWith, sheetTold, askSheet, tabled, asking, SplitFrom, Asks}
@@ -34,8 +31,7 @@ use Rattle.pieces.specs.Derivation.{entriesNeeded, filled}
 use Rattle.pieces.specs.Filling.{filledBy}
 use Rattle.pieces.specs.Largest.{marked}
 use Rattle.pieces.specs.Masks.{allMasks, Masked, splitOf, laid}
-use Rattle.pieces.specs.Firing.{fireOf, paintedOf}
-use Rattle.pieces.specs.Rights.{Fires, Serves}
+use Rattle.pieces.specs.Rights.{Serves}
 use Rattle.pieces.specs.declared.asking.Asked.{Asked}
 use Rattle.pieces.specs.declared.asking.Split.{Split}
 use Rattle.pieces.specs.inner.ForTable.{Shows}
@@ -44,7 +40,7 @@ use Rattle.pieces.proofs.Cutting.{whole-inside, cut-whole}
 use Rattle.books.specs.Lent.{contentsOf, pictureOf}
 use Rattle.pieces.proofs.Entries.{entry-tests}
 use Rattle.pieces.proofs.Judging.{filled-holds, held-entry}
-use Rattle.pieces.proofs.ServingMasks.{split-serves, fire-serves, painted-serves}
+use Rattle.pieces.proofs.ServingMasks.{split-serves}
 use Rattle.pieces.proofs.WholeTable.{whole-table}
 
 -- ── What was read ──
@@ -95,15 +91,6 @@ module _ (book : List ℕ) (split : Split) (masks : List ℕ) (from : SplitFrom 
   pub book-serves : Serves (b .rules) masks (split .joins)
   book-serves =
       subst (λ (x : SplitBook). Serves (b .rules) (x .masks) (x .split .joins)) (sym is-split) (split-serves (b .rules) (from .before) (rules-read book (from .accepted) .few) (from .sized))
-
-  -- ... so that what the public functions give by them is what the rules give
-  pub book-fires : Fires (b .rules) (fireOf masks (split .joins))
-  book-fires = fire-serves book-serves
-
-  pub book-paints : Bytes book → (a : ℕ) → (bit (paintedOf masks) a ≡ 1) ↔ ((c : ℕ) × Has b a (Colour c))
-  book-paints bytes =
-      let k = book-accepted book bytes (from .accepted) .keeps in
-      painted-serves book-serves (λ a c m. omega (arith, k .sound .rules-fit _ m .body-fits, k .colours-ok .few))
 
 -- ── The bit of the start motif at the whole sheet ──
 

@@ -2,12 +2,11 @@
 use mathlib.Core.Path.{_≡_, refl, sym, ap, _∙_, subst}
 use mathlib.Core.Logic.{⊎-elim, _↔_}
 use mathlib.Core.Bool.{Bool, true, false, true≢false}
-use Prim.Native.Nat.{ℕ, zero, suc, _+_, _^_, _≤_, _<_}
-use native.Mathlib.Nat.{pow-suc, one-mul, lt-of-lt-of-le}
+use Prim.Native.Nat.{ℕ, zero, suc, _+_, _^_, _<_}
+use native.Mathlib.Nat.{pow-suc, one-mul}
 use native.Mathlib.Decide.{ℕ-discrete}
 use native.Mathlib.Omega.{arith}
 use lib.Bits.{bitOr, or-shifted-r, or-zero-r}
-use lib.Pow.{pow-mono}
 use borrow.Author.Tests.{eq-eqb, ne-eqb}
 use Rattle.names.specs.Pick.{pick}
 use Rattle.names.proofs.Tests.{true-or-false}
@@ -65,14 +64,6 @@ has-bits (suc k) test a l e =
 pub entry-bit : (b : Contents) (q : Picture) (a : ℕ) → (bit (entry b q) a ≡ 1) ↔ ((a < b .motifs) × (derives? b a q ≡ true))
 unfolding entry
 entry-bit b q a = (bits-has (b .motifs) (λ x. derives? b x q) a, λ v. has-bits (b .motifs) (λ x. derives? b x q) a (v .0) (v .1))
-
-pub entry-lt : (b : Contents) (q : Picture) → entry b q < 2 ^ (b .motifs)
-unfolding entry
-entry-lt b q = bits-lt (b .motifs) (λ x. derives? b x q)
-
--- An entry is a number of 32 bits.
-pub entry-fits : (b : Contents) (q : Picture) → b .motifs ≤ 32 → entry b q < 2 ^ 32
-entry-fits b q h = lt-of-lt-of-le (entry-lt b q) (pow-mono h)
 
 pub entry-derives : (b : Contents) (q : Picture) (a : ℕ) → bit (entry b q) a ≡ 1 → Derives b a q
 entry-derives b q a h = decided b a q .0 (entry-bit b q a .0 h .1)

@@ -1,18 +1,15 @@
 -- A bit of a gathering is a bit of one of its parts; a join fires exactly where both motifs are set, and then sets its head's bit alone.
 use mathlib.Core.Path.{_≡_, refl, sym, ap, ap₂, _∙_, subst}
-use mathlib.Core.List.{List, [], _∷_, List·Memᴰ, List·Memᴰ·cases-cons, List·Memᴰ·not-nil}
 use mathlib.Core.Logic.{⊎-elim}
 use Prim.Native.Nat.{ℕ, zero, suc, _+_, _-_, _^_, _<_}
 use native.Mathlib.Omega.{arith}
 use native.Mathlib.Decide.{ℕ-discrete}
 use native.Mathlib.Numerals.{add-one}
 use lib.Bits.{bitAnd, bitOr}
-use lib.ListN.{length, getD}
 use borrow.Author.Tests.{eq-eqb, ne-eqb}
 use Rattle.names.specs.Bits.{bit}
 use Rattle.pieces.specs.Firing.{firing, gathered}
 use Rattle.names.proofs.Bits.{none-set, same-bit, or-split, or-left, or-right, bit-pow, pow-has, and-pow-zero, and-pow-some, all-bits}
-use Rattle.names.proofs.Listing.{getD-mem}
 
 pub gathered-next : (n : ℕ) (f : ℕ → ℕ) → gathered (n + 1) f ≡ bitOr (gathered n f) (f n)
 unfolding gathered
@@ -52,22 +49,6 @@ gathered-back n f g e = all-bits (gathered n f) (gathered n g) (λ a. same-bit (
         let (i, h, u) = gathered-has n g a o in
         let twice : n - 1 - (n - 1 - i) ≡ i = omega arith in
         has-gathered n f a (n - 1 - i) (omega arith) (ap (λ (x : ℕ). bit x a) (e (n - 1 - i) (omega arith) ∙ ap g twice) ∙ u)
-
--- ── Over a list ──
-
-pub member-at : {A : Type 0} (l : List A) (d : A) {a : A} → List·Memᴰ a l → (i : ℕ) × (i < length l) × (getD l i d ≡ a)
-member-at [] d m = absurd (List·Memᴰ·not-nil m)
-member-at (x ∷ xs) d m =
-    ⊎-elim (λ e. (0, omega arith, sym e)) (λ u. let (i, h, e) = member-at xs d u in (suc i, omega arith, e)) (List·Memᴰ·cases-cons m)
-
-module _ {A : Type 0} (l : List A) (d : A) (f : A → ℕ) (a : ℕ) where
-  pub all-has : bit (gathered (length l) (λ i. f (getD l i d))) a ≡ 1 → (x : A) × List·Memᴰ x l × (bit (f x) a ≡ 1)
-  all-has o = let (i, h, u) = gathered-has (length l) _ a o in (getD l i d, getD-mem l i d h, u)
-
-  pub has-all : (x : A) → List·Memᴰ x l → bit (f x) a ≡ 1 → bit (gathered (length l) (λ i. f (getD l i d))) a ≡ 1
-  has-all x m o =
-      let (i, h, e) = member-at l d m in
-      has-gathered (length l) _ a i h (subst (λ (z : A). bit (f z) a ≡ 1) (sym e) o)
 
 -- ── One join ──
 

@@ -1,6 +1,6 @@
 -- The piece after p: one to the right; at the end of its row, at the start of the next row; after the last row, one column wider; and after the
 -- widest, one row taller. Each time one block of the list is full, so that the slot rises by one.
-use mathlib.Core.Path.{_≡_, sym, ap, _∙_}
+use mathlib.Core.Path.{_≡_, ap, _∙_}
 use Prim.Native.Nat.{ℕ, _+_, _-_, _*_, _≤_, _<_}
 use native.Mathlib.Nat.{zero-mul, mul-zero, add-mul, one-mul, mul-add}
 use native.Mathlib.Omega.{arith}
@@ -42,13 +42,6 @@ module _ (m n u v t l : ℕ) (h : l + 1 ≡ n - v) (k : t + 1 ≡ m - u) where
 last : (m n : ℕ) → slotAt m n m 0 0 0 ≡ total m n
 unfolding slotAt stretches
 last m n = omega (arith, total-stretches m n, mul-zero (m - m), zero-mul (n - 0))
-
--- The whole sheet is the last piece.
-pub slot-whole : (m n : ℕ) → 1 ≤ m → 1 ≤ n → slotOf m n (piece m n 0 0) + 1 ≡ total m n
-unfolding slotOf
-slot-whole m n hm hn =
-    let e : m - 1 + 1 ≡ m = omega arith in
-    sym (taller m n (m - 1) (n - 1) 0 0 (omega arith) (omega arith) (omega arith)) ∙ ap (λ (x : ℕ). slotAt m n x 0 0 0) e ∙ last m n
 
 module _ (m n : ℕ) (p : Piece) (i : Inside m n p) where
   pub next-right : p .left + p .width < n → NextTo m n p (piece (p .height) (p .width) (p .top) (p .left + 1))

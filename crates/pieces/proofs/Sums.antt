@@ -16,10 +16,6 @@ unfoldable pub sum : ℕ → (ℕ → ℕ) → ℕ
 sum zero f = 0
 sum (suc n) f = sum n f + f n
 
-pub sum-zero : (f : ℕ → ℕ) → sum 0 f ≡ 0
-unfolding sum
-sum-zero f = refl
-
 pub sum-next : (n : ℕ) (f : ℕ → ℕ) → sum (n + 1) f ≡ sum n f + f n
 unfolding sum
 sum-next n f = rw add-one

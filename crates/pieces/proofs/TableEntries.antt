@@ -1,21 +1,19 @@
 -- What stands in the table: at the slot of a piece its entry, in the last slot that of the whole sheet, and bit a of an entry is set exactly when
 -- motif a derives the piece.
-use mathlib.Core.Path.{_≡_, refl, sym, ap, ap₂, _∙_, subst}
+use mathlib.Core.Path.{_≡_, refl, sym, ap, _∙_}
 use mathlib.Core.Logic.{_↔_}
 use mathlib.Core.List.{List, [], _∷_, map}
-use Prim.Native.Nat.{ℕ, zero, suc, _+_, _-_, _≤_, _<_}
+use Prim.Native.Nat.{ℕ, zero, suc, _-_, _<_}
 use native.Mathlib.Omega.{arith}
 use lib.ListN.{length, getD, length-map}
 use Rattle.books.specs.Contents.{Contents}
-use Rattle.books.specs.Picture.{Picture, Same}
+use Rattle.books.specs.Picture.{Picture}
 use Rattle.books.specs.Derives.{Derives}
-use Rattle.books.proofs.SamePictures.{derives-same, same-sym}
-use Rattle.pieces.specs.Pieces.{piece, Inside, pieces, total, slotOf}
+use Rattle.pieces.specs.Pieces.{Inside, pieces, total, slotOf}
 use Rattle.pieces.specs.Table.{cut, entry, table}
 use Rattle.names.specs.Bits.{bit}
 use Rattle.pieces.specs.declared.piece.Piece.{Piece}
 use Rattle.pieces.proofs.Entries.{entry-derives, derives-entry}
-use Rattle.pieces.proofs.NextPiece.{slot-whole}
 use Rattle.pieces.proofs.Slots.{slot-lt, getD-slot, length-pieces}
 
 pub getD-map : {A : Type 0} (f : A → ℕ) (l : List A) (i : ℕ) (d : A) → i < length l → getD (map f l) i 0 ≡ f (getD l i d)
@@ -42,23 +40,3 @@ module _ (b : Contents) (p : Picture) where
       λ o. entry-derives b (cut p q) a (ap (λ (x : ℕ). bit x a) (sym table-at) ∙ o),
       λ d. ap (λ (x : ℕ). bit x a) table-at ∙ derives-entry b (cut p q) a h d,
     )
-
-  -- The last entry is that of the whole sheet.
-  abbrev whole : Piece
-  whole = piece (p .rows) (p .cols) 0 0
-
-  whole-same : Same (cut p whole) p
-  whole-same =
-      record { same-rows = refl; same-cols = refl; same-cell = λ i j hi hj. ap₂ (p .cell) (none i) (none j) }
-    where
-      none : (x : ℕ) → 0 + x ≡ x
-      none x = omega arith
-
-  pub table-whole : 1 ≤ p .rows → 1 ≤ p .cols → (a : ℕ) → a < b .motifs
-      → (bit (getD (table b p) (total (p .rows) (p .cols) - 1) 0) a ≡ 1) ↔ Derives b a p
-  table-whole hm hn a h =
-      let i : Inside (p .rows) (p .cols) whole = record { tall = hm; wide = hn; low = omega arith; right = omega arith } in
-      let e : slotOf (p .rows) (p .cols) whole ≡ total (p .rows) (p .cols) - 1 = omega (arith, slot-whole (p .rows) (p .cols) hm hn) in
-      let v = table-bit whole i a h in
-      subst (λ (k : ℕ). (bit (getD (table b p) k 0) a ≡ 1) ↔ Derives b a p) e
-      (λ o. derives-same whole-same (v .0 o), λ d. v .1 (derives-same (same-sym whole-same) d))
