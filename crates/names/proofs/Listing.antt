@@ -78,12 +78,6 @@ listed-first (x ∷ xs) m n h =
     (λ d. listed-later x (xs ++ m) n d
     ∙ ap suc (⊎-elim (λ e. absurd (d e)) (listed-first xs m n) (List·Memᴰ·cases-cons h)))
 
-pub listed-rest : (l m : List Name) (n : Name) → (List·Memᴰ n l → ⊥) → listed (l ++ m) n ≡ length l + listed m n
-listed-rest [] m n none = omega arith
-listed-rest (x ∷ xs) m n none =
-    listed-later x (xs ++ m) n (λ e. none (List·Memᴰ·head e))
-    ∙ omega (arith, listed-rest xs m n (λ h. none (List·Memᴰ·tail h)))
-
 -- In a list of distinct names each has its own number.
 pub listed-own : (l : List Name) (i : ℕ) → Distinct l → i < length l → listed l (getD l i []) ≡ i
 listed-own [] i apart h = absurd (omega arith)

@@ -101,11 +101,6 @@ module _ (s : List ℕ) (c : Colours) (start len : ℕ) (g : Places s c) (room :
             (rw (getD-set-same (c .starts) (c .count) start 0 (omega (arith, g .starts64)), getD-set-same (c .lens) (c .count) len 0 (omega (arith, g .lens64))) l);
       }
 
-  names-kept : (k i : ℕ) → i + k ≤ c .count → namesFrom s (withColour c start len) i k ≡ namesFrom s c i k
-  names-kept zero i h = refl
-  names-kept (suc k) i h =
-      rw (names-kept k (i + 1) (omega arith), getD-set-other (c .starts) (c .count) i start 0 (omega arith), getD-set-other (c .lens) (c .count) i len 0 (omega arith))
-
   -- the names of so many, and of one more
   names-split : (k i : ℕ) → i + k ≡ c .count → namesFrom s (withColour c start len) i (suc k) ≡ namesFrom s c i k ++ (take len (drop start s) ∷ [])
   names-split zero i h =
