@@ -12,9 +12,6 @@ use Rattle.books.specs.inner.Wrote.{Wrote}
 pub wrote : {before after : List ℕ} {at next : ℕ} (l : List ℕ) → next ≡ past before at l → after ≡ put before at l → at + length l ≤ length before → Wrote before at l next after
 wrote {before} {after} {at} l p h room = record { place = p ∙ past-in before at l room; held = h }
 
-pub wrote-nothing : (out : List ℕ) (at : ℕ) → Wrote out at [] at out
-wrote-nothing out at = record { place = omega arith; held = sym (put-nil out at) }
-
 pub wrote-length : {before after l : List ℕ} {at next : ℕ} → Wrote before at l next after → length after ≡ length before
 wrote-length {before} {l = l} {at = at} w = ap length (w .held) ∙ put-length before at l
 

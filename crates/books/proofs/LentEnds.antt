@@ -63,9 +63,6 @@ module _ {A : Type 0} (book : List ℕ) (refuse : Answer → A) where
       → lentBook input book refuse go ≡ refuse (blaming input (bookOf book .fault))
   book-refused-first input go n = simp (ne-eqb (bookOf book .fault .number) 0 n)
 
-  pub book-goes-on : (input : ℕ) (go : Contents → A) → bookOf book .fault .number ≡ 0 → lentBook input book refuse go ≡ go (contentsOf book)
-  book-goes-on input go z = simp (eq-eqb (bookOf book .fault .number) 0 z)
-
   module _ (sheet : List ℕ) (go : Contents → Picture → A) where
     pub sheet-refused-second : bookOf book .fault .number ≡ 0 → (sheetOf sheet .fault .number ≡ 0 → ⊥)
         → lentBoth book sheet refuse go ≡ refuse (blaming 2 (sheetOf sheet .fault))
