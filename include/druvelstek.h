@@ -2,9 +2,9 @@
 //
 // A book is one family of layouts and a sheet is a grid of colours with its job ticket, both spelt byte by byte as
 // docs/RULES.md says. The library tells whether the family derives the sheet, and why not where it does not, gives the
-// table of pieces and one derivation, tells which sizes the family has, reports on a whole run of sheets, looks up
-// names, rules, sizes and tickets, and makes new books of lent ones. Each call is proved to keep what its comment says,
-// on every input.
+// table of pieces and one derivation, judges derivations that others chose, tells which sizes the family has, reports
+// on a whole run of sheets, looks up names, rules, sizes and tickets, and makes new books of lent ones. Each call is
+// proved to keep what its comment says, on every input.
 //
 // Nothing in the bytes tells a book from a sheet, and some are both: 2, 1 "a", 1 "b", 4, 3, 1, 0, 0, 0 is a book of
 // four motifs with one rule, and a sheet of three rows and one column for job 4. A caller keeps apart which file is
@@ -39,7 +39,7 @@ extern "C" {
 
 // The version of rules and calls that this header describes, and the call that tells the archive's. A host compares the
 // two before any other call, so that a header and an archive of two versions are noticed.
-#define DV_VERSION 7
+#define DV_VERSION 8
 uint64_t dv_version(void);
 
 // The greatest sizes.
@@ -61,6 +61,14 @@ uint64_t dv_version(void);
 // Enough entries of the work slice and of the tree slice for every sheet.
 #define DV_MOST_WORK 6084
 #define DV_MOST_TREE 574
+
+// A node of a lent tree: the number of its rule, and its k, the columns or rows of its first part, 0 for a colour rule.
+struct dv_node {
+    uint16_t rule, cut;
+};
+
+// Nodes of a tree of the largest sheet. More may be lent; none is looked at past one more than the sheet's tree has.
+#define DV_MOST_NODES 287
 
 // Entries of a size card.
 #define DV_CARD_ENTRIES 12
@@ -90,6 +98,9 @@ static inline size_t dv_tree_entries(size_t rows, size_t columns)
     return rows == 0 || columns == 0 ? 0 : 2 * (2 * rows * columns - 1);
 }
 
+// The nodes of a tree of such a sheet; none where there is no cell.
+static inline size_t dv_tree_nodes(size_t rows, size_t columns) { return dv_tree_entries(rows, columns) / 2; }
+
 // The kinds of rules: a cell of one colour; a left and a right part; an upper and a lower part.
 enum dv_kind { DV_KIND_COLOUR = 0, DV_KIND_ACROSS = 1, DV_KIND_DOWN = 2 };
 
@@ -99,7 +110,8 @@ enum dv_kind { DV_KIND_COLOUR = 0, DV_KIND_ACROSS = 1, DV_KIND_DOWN = 2 };
 enum dv_reason { DV_REASON_COLOUR = 1, DV_REASON_SIZE = 2, DV_REASON_PIECE = 3, DV_REASON_NO_PIECE = 4 };
 
 // The answer numbers. 1 to 8 blame the input in which the fault stands, 1 the first and 2 the second, and have a place
-// in it, counted from 0. All others blame 0, with place 0. 14 is no answer, and that number is not used again.
+// in it, counted from 0. All others blame 0, and have place 0 but for 16. 14 is no answer, and that number is not used
+// again.
 enum dv_answer_number {
     DV_ACCEPTED = 0,
     DV_ENDS_EARLY = 1,      // input ends inside or before something due; place: its length
@@ -116,7 +128,8 @@ enum dv_answer_number {
     DV_NOT_DERIVED = 11,    // the start motif does not derive the sheet
     DV_TOO_MANY = 12,       // a combination exceeds 64 colours, 32 motifs or 200 rules
     DV_OUT_SHORT = 13,      // output, card or figures slice shorter than the result
-    DV_IN_FAMILY = 15       // the sheet is in the family, so that there is no reason why not
+    DV_IN_FAMILY = 15,      // the sheet is in the family, so that there is no reason why not
+    DV_NOT_A_TREE = 16      // the lent nodes are no derivation of the sheet; place: the first node that fails, from 0
 };
 
 // A fixed text for each answer number, in English, to stand after what it is said of, as in "the sheet: not in the
@@ -154,6 +167,8 @@ static inline const char *dv_text(unsigned number)
         return "the output, card or figures slice is too short";
     case DV_IN_FAMILY:
         return "in the family";
+    case DV_NOT_A_TREE:
+        return "not a derivation of the sheet";
     default:
         return "no answer has this number";
     }
@@ -220,6 +235,20 @@ static inline size_t dv_size_columns(uint64_t size) { return (size_t)(size >> 32
 // works. Everything else in work and tree is unchanged.
 uint64_t dv_derive(const uint8_t *book, size_t book_len, const uint8_t *sheet, size_t sheet_len, uint32_t *work,
                    size_t work_len, uint16_t *tree, size_t tree_len);
+
+// Tells whether nodes that another program chose are a tree that derives the sheet from the start motif, with nothing
+// left over: each node, then the nodes of its left or upper part, then those of its right or lower part. Every rule and
+// every k that derive the sheet are taken, not only those of dv_derive, whose tree is one of them. Answers, in this
+// order: 1 to 8 blaming 1, the book; 1 to 8 blaming 2, the sheet; 16; 0. No slice is written, and any number of nodes
+// may be lent.
+//
+// A node is judged by the motif and the piece that it is due for, before the nodes of its parts. It fails where no rule
+// has its number, or its rule's head is another motif; where its colour rule stands on a piece of more than one cell,
+// on a cell of another colour, or with a k that is not 0; and where its join's k leaves a part with no columns or rows.
+// The place of 16 is the first node that fails, from 0. Where a node is missing it is the number that the node would
+// have, and where nodes are left over the number of those that were read.
+uint64_t dv_check_tree(const uint8_t *book, size_t book_len, const uint8_t *sheet, size_t sheet_len,
+                       const struct dv_node *nodes, size_t nodes_len);
 
 // Writes the family's size card, for order entry: bit c-1 of entry r-1 is set exactly when the family has some sheet of
 // r rows and c columns, in any of its colours; other bits are clear. Answers, in this order: 1 to 8 blaming 1; 13 where
@@ -368,6 +397,14 @@ static inline uint64_t dv_checked_derive(const uint8_t *book, size_t book_len, c
     return dv_derive(book, book_len, sheet, sheet_len, work, work_len, tree, tree_len);
 }
 
+static inline uint64_t dv_checked_check_tree(const uint8_t *book, size_t book_len, const uint8_t *sheet,
+                                             size_t sheet_len, const struct dv_node *nodes, size_t nodes_len)
+{
+    assert(dv_is_lent(book, book_len, 1) && dv_is_lent(sheet, sheet_len, 1));
+    assert(nodes_len <= SIZE_MAX / 2 && dv_is_lent(nodes, 2 * nodes_len, sizeof nodes->rule));
+    return dv_check_tree(book, book_len, sheet, sheet_len, nodes, nodes_len);
+}
+
 static inline uint64_t dv_checked_size_card(const uint8_t *book, size_t book_len, uint32_t *card, size_t card_len)
 {
     assert(dv_is_lent(book, book_len, 1) && dv_is_lent(card, card_len, sizeof *card));
@@ -431,6 +468,7 @@ DV_CHECKED_OF_ONE(transposed)
 #define dv_rule dv_checked_rule
 #define dv_sheet_size dv_checked_sheet_size
 #define dv_derive dv_checked_derive
+#define dv_check_tree dv_checked_check_tree
 #define dv_size_card dv_checked_size_card
 #define dv_why_not dv_checked_why_not
 #define dv_run_report dv_checked_run_report

@@ -4,7 +4,7 @@
 
 #include "compare.h"
 
-enum { SLICES = 2 };
+enum { SLICES = 3 };
 
 // An input; null where the call takes none.
 struct input {

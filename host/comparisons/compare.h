@@ -24,6 +24,8 @@ uint64_t compare_colour(const struct bytes *book, size_t number);
 uint64_t compare_rule(const struct bytes *book, size_t number);
 uint64_t compare_sheet_size(const struct bytes *sheet);
 uint64_t compare_derive(const struct bytes *book, const struct bytes *sheet, size_t work_len, size_t tree_len);
+uint64_t compare_check_tree(const struct bytes *book, const struct bytes *sheet, const struct dv_node *nodes,
+                            size_t count);
 // The card is put into card, where that is not null and the answer is 0.
 uint64_t compare_size_card(const struct bytes *book, size_t card_len, uint32_t card[DV_CARD_ENTRIES]);
 uint64_t compare_why_not(const struct bytes *book, const struct bytes *sheet, size_t work_len);

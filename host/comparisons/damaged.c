@@ -4,6 +4,14 @@
 #include "../shared/grow.h"
 #include "compare.h"
 
+static void compare_some_tree(const struct bytes *book, const struct bytes *sheet)
+{
+    struct dv_node nodes[8];
+    for (size_t i = 0; i < 8; i++)
+        nodes[i] = (struct dv_node){(uint16_t)chance_below(6), (uint16_t)chance_below(3)};
+    compare_check_tree(book, sheet, nodes, chance_below(9));
+}
+
 static void compare_as_book(const struct bytes *book, const struct bytes *sheet, const struct bytes *other)
 {
     compare_read_book(book);
@@ -12,6 +20,7 @@ static void compare_as_book(const struct bytes *book, const struct bytes *sheet,
     compare_derive(book, sheet, one_in(4) ? 0 : ROOMY_WORK, one_in(4) ? 0 : ROOMY_TREE);
     compare_size_card(book, one_in(4) ? 0 : DV_CARD_ENTRIES, NULL);
     compare_why_not(book, sheet, one_in(4) ? 0 : ROOMY_WORK);
+    compare_some_tree(book, sheet);
     enum combination combination = (enum combination)chance_below(COMBINATIONS);
     if (one_in(2))
         compare_combination(combination, book, other, one_in(4) ? 0 : ROOMY_OUT, NULL);
@@ -25,6 +34,7 @@ static void compare_as_sheet(const struct bytes *book, const struct bytes *sheet
     compare_sheet_size(sheet);
     compare_derive(book, sheet, one_in(4) ? 0 : ROOMY_WORK, one_in(4) ? 0 : ROOMY_TREE);
     compare_why_not(book, sheet, one_in(4) ? 0 : ROOMY_WORK);
+    compare_some_tree(book, sheet);
 }
 
 // Every byte as every other, every beginning, every byte dropped or doubled, and bytes that follow the end.

@@ -140,6 +140,25 @@ static void expect_report(void)
            "the report of a run");
 }
 
+static uint64_t check_tree(const struct dv_node *nodes, size_t count)
+{
+    return judged->check_tree(house.at, house.length, sheet_a.at, sheet_a.length, nodes, count);
+}
+
+// Its own tree, one with another cut, a node that fails in the middle, one node short and one over, and none.
+static void expect_trees(void)
+{
+    struct dv_node nodes[12] = {{0, 1}, {1, 1}, {2, 0}, {3, 0}, {0, 1}, {1, 1}, {2, 0}, {3, 0}, {1, 1}, {2, 0}, {3, 0}};
+    static const struct dv_node other[] = {{0, 2}, {0, 1}, {1, 1}, {2, 0}, {3, 0}, {1, 1},
+                                           {2, 0}, {3, 0}, {1, 1}, {2, 0}, {3, 0}};
+    expect(check_tree(nodes, 11) == 0 && check_tree(other, 11) == 0, "two trees of sheet A");
+    expect(check_tree(nodes, 10) == (16 | 10 << 12), "one node short");
+    expect(check_tree(nodes, 12) == (16 | 11 << 12), "one node over");
+    expect(check_tree(nodes, 0) == 16, "no nodes");
+    nodes[4].cut = 2;
+    expect(check_tree(nodes, 11) == (16 | 4 << 12), "a cut that leaves a part empty");
+}
+
 static void expect_lookups(void)
 {
     static const uint64_t rules[] = {UINT64_C(0x100000100), UINT64_C(0x102010200), UINT64_C(0x100000001),
@@ -160,6 +179,7 @@ KIND(house)
         expect_cards();
         expect_reasons();
         expect_report();
+        expect_trees();
         expect_lookups();
     }
     if (compare_read_book(&book_and_sheet) != 0 || compare_read_sheet(&book_and_sheet) != UINT64_C(4) << 32)

@@ -15,6 +15,11 @@ uint64_t independent_sheet_size(const uint8_t *sheet, size_t sheet_len);
 uint64_t independent_derive(const uint8_t *book, size_t book_len, const uint8_t *sheet, size_t sheet_len,
                             uint32_t *work, size_t work_len, uint16_t *tree, size_t tree_len);
 
+// The one thing that it takes from the header.
+struct dv_node;
+uint64_t independent_check_tree(const uint8_t *book, size_t book_len, const uint8_t *sheet, size_t sheet_len,
+                                const struct dv_node *nodes, size_t nodes_len);
+
 uint64_t independent_size_card(const uint8_t *book, size_t book_len, uint32_t *card, size_t card_len);
 
 uint64_t independent_why_not(const uint8_t *book, size_t book_len, const uint8_t *sheet, size_t sheet_len,

@@ -8,6 +8,8 @@
 
 enum combination { EITHER_OF, BESIDE, ABOVE, RUN, STACK, MIRRORED, FLIPPED, TRANSPOSED, COMBINATIONS };
 
+struct dv_node;
+
 struct engine {
     const char *name;
     uint64_t (*read_book)(const uint8_t *book, size_t book_len);
@@ -17,6 +19,8 @@ struct engine {
     uint64_t (*sheet_size)(const uint8_t *sheet, size_t sheet_len);
     uint64_t (*derive)(const uint8_t *book, size_t book_len, const uint8_t *sheet, size_t sheet_len, uint32_t *work,
                        size_t work_len, uint16_t *tree, size_t tree_len);
+    uint64_t (*check_tree)(const uint8_t *book, size_t book_len, const uint8_t *sheet, size_t sheet_len,
+                           const struct dv_node *nodes, size_t nodes_len);
     uint64_t (*size_card)(const uint8_t *book, size_t book_len, uint32_t *card, size_t card_len);
     uint64_t (*why_not)(const uint8_t *book, size_t book_len, const uint8_t *sheet, size_t sheet_len, uint32_t *work,
                         size_t work_len);

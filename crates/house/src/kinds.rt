@@ -2,6 +2,7 @@
 use crate::asking;
 use crate::cards;
 use crate::combining;
+use crate::judging;
 use crate::lent;
 use crate::lines;
 use crate::printing;
@@ -40,6 +41,7 @@ fn run(line: &[u8], first: &[u8], second: &[u8], kept: &mut [u8]) {
     match lent::byte_at(line, 0) {
         b'k' => spelling::keep(lent::byte_at(line, 5), first, kept),
         b'm' => combining::make(line, first, second, kept),
+        b'l' => judging::judge(line, first, second, kept),
         _ => asked(line, first, second),
     }
 }

@@ -49,7 +49,7 @@ motif-below b sound {a} x =
     let (i, y, u, able) = derives-able x in sound .rules-fit _ (at-has b i a y u) .head-fits
 
 -- A cell shows a colour of the book exactly where it has its number.
-number-name : (l : List Name) (n : Name) (c : ℕ) → Distinct l → c < length l → (eqb (listed l n) c ≡ true) ↔ ((c < length l) × (n ≡ getD l c []))
+pub number-name : (l : List Name) (n : Name) (c : ℕ) → Distinct l → c < length l → (eqb (listed l n) c ≡ true) ↔ ((c < length l) × (n ≡ getD l c []))
 number-name l n c apart h = (
   λ e. let f : listed l n ≡ c = eqb-true (listed l n) c e in
       let (_, g) = listed-found l n (listed-mem l n (omega arith)) in (h, sym g ∙ ap (λ (k : ℕ). getD l k []) f),

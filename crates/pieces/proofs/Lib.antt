@@ -31,6 +31,7 @@ pub mod EveryNode
 pub mod TreeGiven
 pub mod ExactViews
 pub mod TheTree
+pub mod PiecesOnSheets
 pub mod Endings
 pub mod Judging
 pub mod Lacking

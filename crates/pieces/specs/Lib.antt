@@ -13,5 +13,6 @@ pub mod Firing
 pub mod Filling
 pub mod Rights
 pub mod Largest
+pub mod OnSheet
 pub mod Asking
 pub mod inner

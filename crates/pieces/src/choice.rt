@@ -35,7 +35,7 @@ enum Tried {
 }
 
 // Whether a piece is one cell of a colour.
-fn covers(colours: &[u8], size: Size, p: Piece, colour: u8) -> bool
+pub(crate) fn covers(colours: &[u8], size: Size, p: Piece, colour: u8) -> bool
     requires { ⌜ Coloured size (now colours) p ⌝ }
     ensures { λ r. ⌜ r ≡ covers (hasColour size (now (colours .entry))) p colour ⌝ }
 {

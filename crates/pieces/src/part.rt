@@ -6,19 +6,19 @@ ghost use Rattle.pieces.specs.Parts.{reach};
 ghost use Rattle.pieces.specs.inner.PartsOf.{CutIn, partsOf};
 
 // A piece and its motif.
-pub(crate) struct Part {
-    pub(crate) piece: Piece,
-    pub(crate) motif: u8,
+pub struct Part {
+    pub piece: Piece,
+    pub motif: u8,
 }
 
 // The first columns of a piece, or rows, and the rest of them.
-pub(crate) struct Parts {
-    pub(crate) first: Part,
-    pub(crate) rest: Part,
+pub struct Parts {
+    pub first: Part,
+    pub rest: Part,
 }
 
 // How far a piece reaches in a direction: its columns, or its rows.
-pub(crate) fn reach(p: Piece, d: Dir) -> usize
+pub fn reach(p: Piece, d: Dir) -> usize
     ensures { λ r. ⌜ r ≡ reach d p ⌝ }
 {
     match d {

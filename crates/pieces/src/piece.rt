@@ -9,7 +9,7 @@ ghost use Rattle.pieces.specs.Most.{most};
 ghost use Rattle.pieces.specs.inner.Room.{mostCells};
 
 // The most rows, and the most columns, that the numbers have room for.
-pub(crate) const MOST: usize = 24;
+pub const MOST: usize = 24;
 
 // So many rows and columns, from a top row and a left column on.
 pub struct Piece {

@@ -12,6 +12,11 @@ static uint64_t derive(void)
     return dv_derive(slice[0].at, slice[0].length, slice[1].at, slice[1].length, (uint32_t *)(void *)slice[2].at,
                      slice[2].length, (uint16_t *)(void *)slice[3].at, slice[3].length);
 }
+static uint64_t check_tree(void)
+{
+    return dv_check_tree(slice[0].at, slice[0].length, slice[1].at, slice[1].length,
+                         (struct dv_node *)(void *)slice[2].at, slice[2].length / 2);
+}
 static uint64_t size_card(void)
 {
     return dv_size_card(slice[0].at, slice[0].length, (uint32_t *)(void *)slice[1].at, slice[1].length);
@@ -51,6 +56,7 @@ const struct call calls[] = {
     {"dv_rule", rule, {BOOK}, {0}, 0},
     {"dv_sheet_size", sheet_size, {SHEET}, {0}, 0},
     {"dv_derive", derive, {BOOK, SHEET}, {sizeof(uint32_t), sizeof(uint16_t)}, ENDS_EARLY},
+    {"dv_check_tree", check_tree, {BOOK, SHEET, NODES}, {0}, ENDS_EARLY},
     {"dv_size_card", size_card, {BOOK}, {sizeof(uint32_t)}, ENDS_EARLY},
     {"dv_why_not", why_not, {BOOK, SHEET}, {sizeof(uint32_t)}, ENDS_EARLY},
     {"dv_run_report", run_report, {BOOK, RUN}, {sizeof(uint32_t), sizeof(uint32_t)}, DV_OUT_SHORT},

@@ -5,9 +5,9 @@
 #define DV_CHECKED
 #include <druvelstek.h>
 
-// What a call reads, at most two of these, and how many slices it may write.
-enum input { NO_INPUT, BOOK, SHEET, RUN };
-enum { READ = 2, WRITTEN = 2, SLICES = READ + WRITTEN };
+// What a call reads, at most three of these, and how many slices it may write.
+enum input { NO_INPUT, BOOK, SHEET, RUN, NODES };
+enum { READ = 3, WRITTEN = 2, SLICES = READ + WRITTEN };
 
 // The slices of a call, those that it reads first. The size is that of an entry, in bytes.
 struct slice {

@@ -20,10 +20,16 @@ static const uint8_t house[] = {SLATES, 3, 0, 4, 0, 1, 0, 0, 0, 2, 1, 2, 1, 0, 0
 static const uint8_t sheet_a[] = {SLATES, 0, 2, 3, 0, 0, 0, 1, 1, 1};
 static const uint8_t run_of_a[] = {26, SLATES, 0, 2, 3, 0, 0, 0, 1, 1, 1};
 
+static const uint16_t tree_a[] = {0, 1, 1, 1, 2, 0, 3, 0, 0, 1, 1, 1, 2, 0, 3, 0, 1, 1, 2, 0, 3, 0};
+
+// The size is that of what a slice is aligned to: of nodes, each of their two numbers.
 static const struct {
-    const uint8_t *at;
-    size_t length;
-} good[] = {[BOOK] = {house, sizeof house}, [SHEET] = {sheet_a, sizeof sheet_a}, [RUN] = {run_of_a, sizeof run_of_a}};
+    const void *at;
+    size_t length, size;
+} good[] = {[BOOK] = {house, sizeof house, 1},
+            [SHEET] = {sheet_a, sizeof sheet_a, 1},
+            [RUN] = {run_of_a, sizeof run_of_a, 1},
+            [NODES] = {tree_a, sizeof tree_a, sizeof *tree_a}};
 
 // The slices before the first that is written, and all of them.
 static int read_by(const struct call *call)
@@ -57,9 +63,9 @@ static void lend(const struct call *call)
     // What is read goes from here on down, so that what is written after it is aligned.
     uint8_t *begin = at;
     for (int i = read; i-- > 0;) {
-        size_t length = good[call->read[i]].length;
+        size_t length = good[call->read[i]].length, size = good[call->read[i]].size;
         begin -= length;
-        slice[i] = (struct slice){begin, length, 1};
+        slice[i] = (struct slice){begin, length / size, size};
         memcpy(begin, good[call->read[i]].at, length);
     }
     for (int i = read; i < slices_of(call); i++) {

@@ -9,6 +9,7 @@
 #include "../../shared/chance.h"
 #include "../../shared/engine.h"
 #include "../../shared/grow.h"
+#include "../../shared/nodes.h"
 
 enum { ROOM = 1 << 18, PAINT = 0xa5, MARGIN = 8192, BY_CHANCE = 60 };
 
@@ -17,6 +18,7 @@ static struct run run;
 static enum combination combination;
 static uint32_t work[DV_MOST_WORK];
 static uint16_t tree[DV_MOST_TREE];
+static struct dv_node nodes[DV_MOST_NODES];
 static uint32_t card[DV_CARD_ENTRIES], figures[DV_REPORT_ENTRIES];
 static uint8_t out[DV_LONGEST_BOOK];
 static uint64_t answer;
@@ -30,6 +32,10 @@ static void sheet_size(void) { answer = dv_sheet_size(sheet.at, sheet.length); }
 static void derive(void)
 {
     answer = dv_derive(book.at, book.length, sheet.at, sheet.length, work, DV_MOST_WORK, tree, DV_MOST_TREE);
+}
+static void check_tree(void)
+{
+    answer = dv_check_tree(book.at, book.length, sheet.at, sheet.length, nodes, DV_MOST_NODES);
 }
 static void size_card(void) { answer = dv_size_card(book.at, book.length, card, DV_CARD_ENTRIES); }
 static void why_not(void) { answer = dv_why_not(book.at, book.length, sheet.at, sheet.length, work, DV_MOST_WORK); }
@@ -74,6 +80,7 @@ static struct kind kinds[] = {
     {"dv_rule", rule, 0},
     {"dv_sheet_size", sheet_size, 0},
     {"dv_derive", derive, 0},
+    {"dv_check_tree", check_tree, 0},
     {"dv_size_card", size_card, 0},
     {"dv_why_not", why_not, 0},
     {"dv_run_report", run_report, 0},
@@ -86,10 +93,12 @@ static void note(size_t *noted, size_t bytes)
     most = bytes > most ? bytes : most;
 }
 
-// Every call on the book, the second book and the sheet.
+// Every call on the book, the second book, the sheet and the tree of its derivation.
 static void measure(void)
 {
     size_t before = used(nothing);
+    derive();
+    nodes_of(tree, DV_MOST_NODES, nodes);
     for (size_t i = 0; i < sizeof kinds / sizeof *kinds; i++)
         note(&kinds[i].most, used(kinds[i].call) - before);
     for (int i = 0; i < COMBINATIONS; i++) {

@@ -1,0 +1,151 @@
+-- Of any book and sheet the code answers what the definition does: it judges the whole sheet as the picture, and nodes beyond as many as a tree can have, and one, change nothing.
+use Prim.Native.Nat.{ℕ, _+_, _*_, _≤_, _<_, min}
+use mathlib.Core.Path.{_≡_, refl, sym, ap, _∙_}
+use mathlib.Core.List.{List, [], _∷_}
+use mathlib.Core.Logic.{⊎-elim}
+use native.Mathlib.Decide.{ℕ-discrete}
+use native.Mathlib.Omega.{arith}
+use borrow.Author.Tests.{le-leb, lt-leb}
+use lib.ListN.{length, take, drop, length-append, take-append-drop}
+use lib.Seq.{take-all, length-take-le}
+use Rattle.names.specs.Colours.{namesIn}
+use Rattle.names.specs.Name.{listed}
+use Rattle.names.specs.Pick.{andThen}
+use Rattle.names.specs.declared.number.Fault.{Fault}
+use Rattle.names.proofs.Finding.{find-listed}
+use Rattle.names.specs.Bytes.{Bytes}
+use Rattle.names.proofs.Tests.{lt-or-le}
+use Rattle.books.specs.Answer.{blaming}
+use Rattle.books.specs.Book.{bookOf}
+use Rattle.books.specs.Contents.{Contents}
+use Rattle.books.specs.Decide.{pictures}
+use Rattle.books.specs.Lent.{contentsOf, pictureOf, Accepted, lentSheet}
+use Rattle.books.specs.Numbering.{numbersOf}
+use Rattle.books.specs.Picture.{Picture}
+use Rattle.books.specs.Sheet.{sheetOf}
+use Rattle.books.specs.declared.family.Family.{Family}
+use Rattle.books.specs.declared.sheet.Sheet.{Sheet}
+use Rattle.books.proofs.Deciding.{pictures-lessen}
+use Rattle.books.proofs.LentEnds.{book-refused-first, sheet-refused-second}
+use Rattle.books.proofs.NumberedCells.{numbers-for}
+use Rattle.books.proofs.ReadingBooks.{book-places}
+use Rattle.books.proofs.ReadingSheets.{sheet-lies}
+use Rattle.pieces.proofs.AcceptedInputs.{as-read, cells-numbered}
+use Rattle.pieces.proofs.CellsFirst.{cell-before}
+use Rattle.pieces.proofs.WholeTable.{book-colours, cell-name}
+use Rattle.trees.specs.declared.held.Held.{Held}
+use Rattle.trees.specs.declared.node.Node.{Node}
+use Rattle.trees.specs.Judge.{Judged, past, failed, judge, ended, checked}
+use Rattle.trees.specs.Outcome.{treeAnswer}
+use Rattle.trees.specs.inner.Held.{heldTo, lookedAt, Holds, ended16, judgedHeld, heldAnswer}
+use Rattle.trees.specs.inner.OnSheets.{verdict, judgedAt}
+use Rattle.trees.proofs.Counting.{far-nodes}
+use Rattle.trees.proofs.Endings.{answered}
+use Rattle.trees.proofs.HeldTo.{held-size, held-fine, book-first, sheet-second, then-judged}
+use Rattle.trees.proofs.PiecesAlike.{Numbers, sheet-judged}
+use Rattle.trees.proofs.Rows.{Says, says}
+use Rattle.trees.proofs.Theorems.{ends}
+
+module _ (b : Contents) (p : Picture) (ns : List Node) where
+  -- a verdict ends as judging does: it is past all nodes exactly where none is left
+  ended-alike : ended16 (verdict (judge b (b .start) p ns 0)) (length ns) ≡ blaming 0 (checked b p ns)
+  unfolding checked judge andThen
+  ended-alike =
+      by-judged (judge b (b .start) p ns 0)
+      (says (pictures b) (b .rules) (λ q. q .rows + q .cols) (pictures-lessen b) (p .rows + p .cols) (b .start) p ns 0 (omega arith))
+    where
+      by-judged : (j : Judged) → Says (pictures b) (b .rules) (λ q. q .rows + q .cols) (pictures-lessen b) (b .start) p ns 0 j → ended16 (verdict j) (length ns) ≡ blaming 0 (ended j)
+      by-judged (past e []) (xs, row, split, place) =
+          let all : length ns ≤ e = omega (arith, ap length split ∙ length-append xs []) in
+          rw (le-leb (length ns) e all)
+      by-judged (past e (v ∷ vs)) (xs, row, split, place) =
+          let some : e < length ns = omega (arith, ap length split ∙ length-append xs (v ∷ vs)) in
+          rw (lt-leb (length ns) e some)
+      by-judged (failed e) said = refl
+
+module _ (book sheet : List ℕ) (bytes-book : Bytes book) (bytes-sheet : Bytes sheet) (fine : Accepted book sheet) where
+  abbrev f : Family
+  f = bookOf book .family
+
+  abbrev g : Sheet
+  g = sheetOf sheet .sheet
+
+  abbrev b : Contents
+  b = contentsOf book
+
+  abbrev p : Picture
+  p = pictureOf sheet
+
+  given : Numbers b p (numbersOf book (f .colours) sheet g)
+  given =
+      let read = as-read book (fine .book-fine) sheet (fine .sheet-fine) bytes-book bytes-sheet in
+      let numbers = cells-numbered book (fine .book-fine) sheet (fine .sheet-fine) in
+      let s = sheet-lies sheet (fine .sheet-fine) .within in
+      record {
+        sound = read .book-keeps .sound;
+        apart = read .book-keeps .colours-ok .distinct;
+        rows-few = omega (arith, s .rows-few);
+        cols-few = omega (arith, s .cols-few);
+        all = numbers .all;
+        each = λ i j hi hj. numbers .each (i * g .size .cols + j) (cell-before (g .size .rows) (g .size .cols) i j hi hj)
+            ∙ (find-listed book (f .colours) _ (book-colours read) ∙ ap (listed (namesIn book (f .colours))) (sym (cell-name read i j hi hj)));
+      }
+
+  held-judged : (ns : List Node) → judgedHeld (heldTo book sheet) ns ≡ verdict (judge b (b .start) p ns 0)
+  unfolding heldTo judgedAt
+  held-judged ns =
+      let s = sheet-lies sheet (fine .sheet-fine) .within in
+      rw (numbers-for book (f .colours) sheet g (book-places book .few))
+      (ap verdict (sheet-judged b p (numbersOf book (f .colours) sheet g) given (b .start) ns 0 (s .rows-some) (s .cols-some)))
+
+  -- what the code tells of a whole row is the answer
+  told : (ns : List Node) → treeAnswer book sheet ns ≡ heldAnswer (heldTo book sheet) ns
+  unfolding heldTo
+  told ns =
+      answered book sheet ns fine (ends b p ns) ∙ sym (ended-alike b p ns)
+      ∙ ap (λ v. ended16 v (length ns)) (sym (held-judged ns))
+      ∙ sym (then-judged (heldTo book sheet) ns (fine .book-fine) (fine .sheet-fine))
+
+  -- nodes beyond the first 2mn change nothing
+  far : (ns : List Node) → treeAnswer book sheet ns ≡ treeAnswer book sheet (take (min (length ns) (2 * (g .size .rows * g .size .cols))) ns)
+  far ns =
+      let cells : ℕ = 2 * (g .size .rows * g .size .cols) in
+      ⊎-elim
+      (λ (h : length ns < cells).
+      let all : min (length ns) cells ≡ length ns = omega arith in
+      rw (all, take-all (length ns) ns (omega arith)))
+      (λ (h : cells ≤ length ns).
+      let some : min (length ns) cells ≡ cells = omega arith in
+      let s = sheet-lies sheet (fine .sheet-fine) .within in
+      let enough : cells ≤ length (take cells ns) = omega (arith, length-take-le cells ns h) in
+      let apart : checked b p ns ≡ checked b p (take cells ns) =
+      ap (checked b p) (sym (take-append-drop cells ns)) ∙ far-nodes b p (record { tall = s .rows-some; wide = s .cols-some }) (take cells ns) (drop cells ns) enough in
+      rw some
+      (answered book sheet ns fine (ends b p ns) ∙ ap (λ (x : Fault). blaming 0 x) apart ∙ sym (answered book sheet (take cells ns) fine (ends b p (take cells ns)))))
+      (lt-or-le (length ns) cells)
+
+-- The code looks at no more than that of a lent row, and answers by it.
+module _ (book sheet : List ℕ) (bytes-book : Bytes book) (bytes-sheet : Bytes sheet) where
+  tells : (ns : List Node) → heldAnswer (heldTo book sheet) (take (lookedAt (length ns) (heldTo book sheet)) ns) ≡ treeAnswer book sheet ns
+  unfolding treeAnswer heldTo
+  tells ns = by-book (ℕ-discrete (bookOf book .fault .number) 0)
+    where
+      some : List Node
+      some = take (lookedAt (length ns) (heldTo book sheet)) ns
+
+      by-sheet : bookOf book .fault .number ≡ 0 → Dec (sheetOf sheet .fault .number ≡ 0) → heldAnswer (heldTo book sheet) some ≡ treeAnswer book sheet ns
+      by-sheet z (yes y) =
+          let fine : Accepted book sheet = record { book-fine = z; sheet-fine = y } in
+          sym (far book sheet bytes-book bytes-sheet fine ns ∙ told book sheet bytes-book bytes-sheet fine some)
+      by-sheet z (no n) =
+          sheet-second (heldTo book sheet) some z n
+          ∙ sym (sheet-refused-second book (λ a. a) sheet (λ b p. blaming 0 (checked b p ns)) z n)
+
+      by-book : Dec (bookOf book .fault .number ≡ 0) → heldAnswer (heldTo book sheet) some ≡ treeAnswer book sheet ns
+      by-book (yes z) = by-sheet z (ℕ-discrete (sheetOf sheet .fault .number) 0)
+      by-book (no n) =
+          book-first (heldTo book sheet) some n
+          ∙ sym (book-refused-first book (λ a. a) 1 (λ b. lentSheet 2 sheet (λ a. a) (λ p. blaming 0 (checked b p ns))) n)
+
+  pub holds : {o : Held} → o ≡ heldTo book sheet → Holds book sheet o
+  holds e = rw e (record { small = held-size book sheet; fine = held-fine book sheet; tells = tells })

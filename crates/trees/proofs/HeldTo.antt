@@ -1,0 +1,82 @@
+-- What was read is what a tree is held to, whether it is refused or not: it is made of a book and a numbered sheet, and its sheet has no more rows and columns than there may be.
+use Prim.Native.Nat.{ℕ, _≤_}
+use mathlib.Core.Path.{_≡_, sym, ap, _∙_}
+use mathlib.Core.List.{List}
+use mathlib.Core.Logic.{⊎-elim}
+use native.Mathlib.Omega.{arith}
+use borrow.Author.Tests.{eqb-true, eqb-false, eq-eqb, ne-eqb}
+use lib.Dec.{eqb}
+use lib.ListN.{length, take}
+use lib.Seq.{length-take-le}
+use Rattle.names.proofs.Tests.{true-or-false}
+use Rattle.books.specs.Answer.{blaming}
+use Rattle.books.specs.Book.{bookOf}
+use Rattle.books.specs.Numbering.{Numbers}
+use Rattle.books.specs.Sheet.{sheetOf}
+use Rattle.books.specs.Size.{greatest}
+use Rattle.books.specs.declared.answer.Answer.{Answer}
+use Rattle.books.specs.declared.book.BookRead.{BookRead}
+use Rattle.books.specs.declared.sheet.SheetFigures.{SheetFigures}
+use Rattle.books.proofs.NumberedCells.{numbers-room}
+use Rattle.books.proofs.ReadingBooks.{book-count, book-size}
+use Rattle.books.proofs.ReadingSheets.{sheet-lies, sheet-refused}
+use Rattle.books.proofs.SizesWithin.{within-more}
+use Rattle.trees.specs.declared.held.Held.{Held}
+use Rattle.trees.specs.declared.judge.Verdict.{Verdict}
+use Rattle.trees.specs.declared.node.Node.{Node}
+use Rattle.trees.specs.inner.Held.{heldTo, HeldFine, ended16, judgedHeld, heldAnswer}
+
+pub held-made : (book sheet : List ℕ) {b : BookRead} {s : SheetFigures} {cells : List ℕ} → b ≡ bookOf book
+    → Numbers book (b .family .colours) sheet s cells
+    → _≡_ {A = Held} (record {
+      book = b .fault;
+      sheet = s .fault;
+      rules = b .family .rules;
+      count = b .family .count;
+      start = b .family .start;
+      size = s .size;
+      cells = cells;
+    }) (heldTo book sheet)
+unfolding heldTo
+held-made book sheet read shown = rw (shown .cells, shown .figures, read)
+
+pub held-size : (book sheet : List ℕ) → (heldTo book sheet .size .rows ≤ greatest) × (heldTo book sheet .size .cols ≤ greatest)
+unfolding heldTo
+held-size book sheet =
+    ⊎-elim
+    (λ t. let within = sheet-lies sheet (eqb-true _ 0 t) .within in (within .rows-few, within .cols-few))
+    (λ t. rw (heldTo, sheet-refused sheet (eqb-false _ 0 t) .none) (omega arith, omega arith))
+    (true-or-false (eqb (sheetOf sheet .fault .number) 0))
+
+pub held-fine : (book sheet : List ℕ) → heldTo book sheet .sheet .number ≡ 0 → HeldFine (heldTo book sheet)
+unfolding heldTo
+held-fine book sheet y =
+    record {
+      rules-few = book-count book;
+      rules-held = omega (arith, book-count book, book-size book);
+      cells-all = numbers-room book (bookOf book .family .colours) sheet;
+      sizes = within-more (omega arith) (sheet-lies sheet y .within);
+    }
+
+-- ── The order of the answers ──
+
+module _ (o : Held) (ns : List Node) where
+  pub book-first : (o .book .number ≡ 0 → ⊥) → heldAnswer o ns ≡ blaming 1 (o .book)
+  unfolding heldAnswer
+  book-first n = rw (ne-eqb (o .book .number) 0 n)
+
+  module _ (z : o .book .number ≡ 0) where
+    pub sheet-second : (o .sheet .number ≡ 0 → ⊥) → heldAnswer o ns ≡ blaming 2 (o .sheet)
+    unfolding heldAnswer
+    sheet-second n = rw (eq-eqb (o .book .number) 0 z, ne-eqb (o .sheet .number) 0 n)
+
+    pub then-judged : o .sheet .number ≡ 0 → heldAnswer o ns ≡ ended16 (judgedHeld o ns) (length ns)
+    unfolding heldAnswer
+    then-judged y = rw (eq-eqb (o .book .number) 0 z, eq-eqb (o .sheet .number) 0 y)
+
+-- a verdict on the first so many nodes, and what was told of it
+pub told-held : (o : Held) (nodes : List Node) (count : ℕ) {v : Verdict} {a : Answer} → count ≤ length nodes → o .book .number ≡ 0 → o .sheet .number ≡ 0
+    → v ≡ judgedHeld o (take count nodes) → a ≡ ended16 v count → a ≡ heldAnswer o (take count nodes)
+told-held o nodes count {v} h z y judged told =
+    told ∙ ap (λ (w : Verdict). ended16 w count) judged ∙ ap (ended16 (judgedHeld o (take count nodes))) (sym (length-take-le count nodes h))
+    ∙ sym (then-judged o (take count nodes) z y)

@@ -1,0 +1,4 @@
+pub mod OnSheets
+pub mod Gather
+pub mod Held
+pub mod Waiting
