@@ -88,16 +88,20 @@ module _ (book : List ℕ) {b : BookFigures} {rows : List (List ℕ)} (read : Bo
 
 -- ── The loop ──
 
--- one more rule is laid out
+-- one more rule is laid out, in whatever form
+pub laid-next : {A : Type 0} (form : Rule → A) (none : A) (rules : List Rule) (x : A) (i : ℕ) → i < length rules → i < mostRules → x ≡ form (getD rules i noRule)
+    → set (map form (take i rules) ++ replicate (mostRules - i) none) i x ≡ map form (take (i + 1) rules) ++ replicate (mostRules - (i + 1)) none
+laid-next {A} form none rules x i h g e =
+    let long : length (map form (take i rules)) ≡ i = length-map (take i rules) form ∙ length-take-le i rules (omega arith) in
+    let one : map form (take (i + 1) rules) ≡ map form (take i rules) ++ (x ∷ []) =
+    rw (add-one, take-suc rules i noRule, e) (map-append form (take i rules) (getD rules i noRule ∷ [])) in
+    let left : mostRules - i ≡ mostRules - (i + 1) + 1 = omega arith in
+    rw (left, add-one (mostRules - (i + 1)), one, append-assoc) (set-at (map form (take i rules)) _ _ x i long)
+
 pub lent-next : (rules : List Rule) (x : List ℕ) (i : ℕ) → i < length rules → i < mostRules → x ≡ fourOf (getD rules i noRule)
     → set (lentRules rules i) i x ≡ lentRules rules (i + 1)
 unfolding lentRules
-lent-next rules x i h g e =
-    let long : length (map fourOf (take i rules)) ≡ i = length-map (take i rules) fourOf ∙ length-take-le i rules (omega arith) in
-    let one : map fourOf (take (i + 1) rules) ≡ map fourOf (take i rules) ++ (x ∷ []) =
-    rw (add-one, take-suc rules i noRule, e) (map-append fourOf (take i rules) (getD rules i noRule ∷ [])) in
-    let left : mostRules - i ≡ mostRules - (i + 1) + 1 = omega arith in
-    rw (left, add-one (mostRules - (i + 1)), one, append-assoc) (set-at (map fourOf (take i rules)) _ _ x i long)
+lent-next = laid-next fourOf (replicate 4 0)
 
 -- more than all cannot be laid out
 pub lent-all : (rules : List Rule) (count : ℕ) → length rules ≤ mostRules → mostRules ≤ count → lentRules rules mostRules ≡ lentRules rules count

@@ -2,6 +2,9 @@ pub mod Plainly
 pub mod LentRules
 pub mod SamePictures
 pub mod Gluing
+pub mod Moving
+pub mod GreaterCounts
+pub mod StandingRules
 pub mod NothingEmpty
 pub mod CellsCalled
 pub mod Searches
@@ -33,6 +36,8 @@ pub mod SpellingOn
 pub mod SpellingDrafts
 pub mod Packing
 pub mod LentEnds
+pub mod Outcomes
+pub mod NewBooks
 pub mod Demand1
 pub mod Showing
 pub mod Settled

@@ -177,6 +177,9 @@ rule-settled s k r q = settled
 pub sheet-size-settled : (s : List ℕ) (r q : Size) → r ≡ sizeOf s → q ≡ sizeOf s → r ≡ q
 sheet-size-settled s r q = settled
 
+pub pack-rule-settled : (rule : Rule) (r q : ℕ) → r ≡ packedRule rule → q ≡ packedRule rule → r ≡ q
+pack-rule-settled rule r q = settled
+
 pub dv-rule-settled : (s : List ℕ) (k r q : ℕ) → r ≡ ruleShown s k → q ≡ ruleShown s k → r ≡ q
 dv-rule-settled s k r q = settled
 

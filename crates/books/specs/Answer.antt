@@ -1,5 +1,5 @@
 -- What a call answers, and the one number that a C host gets.
-use Prim.Native.Nat.{ℕ, _+_, _*_, _%_, _^_, _<_}
+use Prim.Native.Nat.{ℕ, _+_, _*_, _/_, _%_, _^_, _<_}
 use lib.Dec.{eqb}
 use Rattle.names.specs.Pick.{pick}
 use Rattle.names.specs.declared.number.Fault.{Fault}
@@ -26,3 +26,10 @@ pub record Packs (a : Answer) (count : ℕ) : Type 0 where
   pub blamed-fits : a .blamed < 2 ^ 4
   pub place-fits : a .place < 2 ^ 20
   pub count-fits : count < 2 ^ 32
+
+-- the answer and the count, taken apart as the C header does
+abbrev pub answerIn : ℕ → Answer
+answerIn r = answer (r % 2 ^ 8) (r / 2 ^ 8 % 2 ^ 4) (r / 2 ^ 12 % 2 ^ 20)
+
+abbrev pub countIn : ℕ → ℕ
+countIn r = r / 2 ^ 32

@@ -6,6 +6,7 @@ pub mod Plain
 pub mod Search
 pub mod Decide
 pub mod Keeps
+pub mod Moved
 pub mod Grid
 pub mod ContentsIn
 pub mod Rules
@@ -25,5 +26,7 @@ pub mod Calls
 pub mod Lookups
 pub mod Numbering
 pub mod Draft
+pub mod Outcome
+pub mod NewBook
 pub mod inner
 pub mod Tickets

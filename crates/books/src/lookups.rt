@@ -6,7 +6,7 @@ use crate::sheet::sheet_figures;
 use crate::size::Size;
 ghost use mathlib.Core.Path.{_≡_};
 ghost use Prim.Native.Nat.{_+_, _*_, _^_};
-ghost use Rattle.books.specs.Lookups.{ruleOf, sizeOf, ruleShown, sizeShown, version};
+ghost use Rattle.books.specs.Lookups.{ruleOf, sizeOf, packedRule, ruleShown, sizeShown, version};
 
 // A rule of a book, or that there is none with the number asked for.
 pub enum RuleFound {
@@ -36,7 +36,7 @@ pub fn sheet_size(sheet: &[u8]) -> Size
 }
 
 // A byte for each part of a rule, and 1 above them, so that no rule is 0.
-fn pack_rule(head: u8, kind: u8, first: u8, second: u8) -> u64
+fn pack_parts(head: u8, kind: u8, first: u8, second: u8) -> u64
     ensures { λ r. ⌜ r ≡ head + 2 ^ 8 * kind + 2 ^ 16 * first + 2 ^ 24 * second + 2 ^ 32 ⌝ }
 {
     head as u64
@@ -44,6 +44,18 @@ fn pack_rule(head: u8, kind: u8, first: u8, second: u8) -> u64
         + 65536 * (first as u64)
         + 16777216 * (second as u64)
         + 4294967296
+}
+
+// A rule in one number: rules are equal exactly when their numbers are.
+pub fn pack_rule(rule: Rule) -> u64
+    ensures { λ r. ⌜ r ≡ packedRule rule ⌝ }
+{
+    let body = rule.body;
+    match body {
+        Body::Colour(colour) => pack_parts(rule.head, 0, colour, 0),
+        Body::Across(left, right) => pack_parts(rule.head, 1, left, right),
+        Body::Down(upper, lower) => pack_parts(rule.head, 2, upper, lower),
+    }
 }
 
 // The rule with a number, for the C host: its parts in one number, or 0.
@@ -54,14 +66,7 @@ pub extern "C" fn dv_rule(book: &[u8], number: usize) -> u64
     let found = rule(book, number);
     match found {
         RuleFound::Missing => 0,
-        RuleFound::There(r) => {
-            let body = r.body;
-            match body {
-                Body::Colour(colour) => pack_rule(r.head, 0, colour, 0),
-                Body::Across(left, right) => pack_rule(r.head, 1, left, right),
-                Body::Down(upper, lower) => pack_rule(r.head, 2, upper, lower),
-            }
-        }
+        RuleFound::There(r) => pack_rule(r),
     }
 }
 

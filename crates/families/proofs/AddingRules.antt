@@ -3,18 +3,17 @@
 use Prim.Native.Nat.{ℕ, suc, _+_, _≤_, _<_}
 use mathlib.Core.Path.{_≡_, refl, sym, _∙_, ap}
 use mathlib.Core.Bool.{Bool}
-use mathlib.Core.List.{List, [], _∷_, _++_, map, List·Memᴰ, Memᴰ·cast}
+use mathlib.Core.List.{List, [], _∷_, _++_, map, List·Memᴰ}
 use native.Mathlib.Omega.{arith}
-use native.Mathlib.Numerals.{add-one}
 use lib.Dec.{eqb}
-use lib.ListN.{length, getD, take, drop, set, length-append, length-map, drop-of-length-le}
-use lib.Seq.{sets, sets-eq, length-sets, length-take-le, take-at, drop-cons, getD-take}
+use lib.ListN.{length, getD, take, drop, set, length-append, length-map}
+use lib.Seq.{sets, sets-eq, length-sets, take-at}
 use Rattle.names.specs.Pick.{pick}
-use Rattle.names.proofs.Listing.{getD-mem}
 use Rattle.books.specs.Keeps.{mostRules}
 use Rattle.books.specs.Rules.{noRule}
 use Rattle.books.specs.declared.family.Family.{Family}
 use Rattle.books.specs.declared.rule.Rule.{Rule}
+use Rattle.books.proofs.StandingRules.{there-length, there-next, there-none, there-stands, one-written}
 use Rattle.families.specs.Combine.{copies}
 use Rattle.families.specs.inner.Counts.{headed}
 use Rattle.families.specs.inner.Gathered.{rulesStanding, followed, raisedBy, changed, Rows}
@@ -33,27 +32,23 @@ ruleOn k i = getD (k .rules) i noRule
 pub next-place : (at i : ℕ) → at + (i + 1) ≡ at + i + 1
 next-place at i = omega arith
 
--- one rule written, and the others after it
-pub one-written : (rules : List Rule) (at : ℕ) (x : Rule) (xs : List Rule) → sets (set rules at x) (at + 1) xs ≡ sets rules at (x ∷ xs)
-one-written rules at x xs = ap (λ (n : ℕ). sets (set rules at x) n xs) (add-one at)
-
 -- what is left to be changed from a place on, changed there, makes the whole
 abbrev pub StillChanges : (Rule → Rule) → Rules → List Rule → List Rule → ℕ → Type 0
 StillChanges t k before rules i = sets rules i (map t (drop i (rulesStanding k))) ≡ sets before 0 (map t (rulesStanding k))
 
 module _ (k : Rules) (rows : Rows k) where
+  places-enough : k .count ≤ length (k .rules)
+  places-enough = omega (arith, rows .few, rows .places-all)
+
   pub standing-length : length (rulesStanding k) ≡ k .count
-  standing-length = length-take-le (k .count) (k .rules) (omega (arith, rows .few, rows .places-all))
+  standing-length = there-length (k .rules) (k .count) places-enough
 
   -- one rule less is left
   pub left-next : (i : ℕ) → i < k .count → drop i (rulesStanding k) ≡ ruleOn k i ∷ drop (i + 1) (rulesStanding k)
-  left-next i h =
-      drop-cons (rulesStanding k) i noRule (omega (arith, standing-length))
-      ∙ ap (λ (r : Rule). r ∷ drop (suc i) (rulesStanding k)) (getD-take (k .count) (k .rules) i noRule h)
-      ∙ ap (λ (n : ℕ). ruleOn k i ∷ drop n (rulesStanding k)) (sym (add-one i))
+  left-next = there-next (k .rules) (k .count) places-enough
 
   pub left-none : (i : ℕ) → k .count ≤ i → drop i (rulesStanding k) ≡ []
-  left-none i h = drop-of-length-le (rulesStanding k) {i = i} (omega (arith, standing-length))
+  left-none = there-none (k .rules) (k .count) places-enough
 
   -- one rule less is left to be changed
   pub change-next : (t : Rule → Rule) (rules : List Rule) (i : ℕ) → i < k .count
@@ -66,7 +61,7 @@ module _ (k : Rules) (rows : Rows k) where
   change-none t rules i h = ap (λ (l : List Rule). sets rules i (map t l)) (left-none i h)
 
   pub rule-stands : (i : ℕ) → i < k .count → List·Memᴰ (ruleOn k i) (rulesStanding k)
-  rule-stands i h = Memᴰ·cast (sym (getD-take (k .count) (k .rules) i noRule h)) (getD-mem (rulesStanding k) i noRule (omega (arith, standing-length)))
+  rule-stands = there-stands (k .rules) (k .count) places-enough
 
   -- the head of the next rule decides whether it is counted and copied
   module _ (s : ℕ) (i : ℕ) (h : i < k .count) {t : Bool} (test : eqb (ruleOn k i .head) s ≡ t) where

@@ -16,19 +16,20 @@ use Rattle.books.proofs.LongestBook.{spelling-bytes}
 use Rattle.families.specs.Joined.{Both, Run}
 use Rattle.families.specs.Images.{reversed, transpose, Image}
 use Rattle.families.specs.Combine.{either-of, beside, above, run, stack, mirrored, flipped, transposed}
-use Rattle.families.specs.Outcome.{Outcome, made, onOne, onSecond, onTwo, Leaves}
+use Rattle.books.specs.Outcome.{Outcome, Leaves}
+use Rattle.families.specs.Outcome.{made, onOne, onSecond, onTwo}
 use Rattle.books.specs.Lent.{contentsOf}
-use Rattle.families.specs.NewBook.{IsBook, Held, NewBook}
-use Rattle.families.specs.Answers.{answerIn, countIn}
+use Rattle.books.specs.NewBook.{IsBook, Held, NewBook}
+use Rattle.books.specs.Answer.{answerIn, countIn}
 use Rattle.families.specs.declared.asked.Change.the-variants.{Mirrored, Flipped, Transposed}
 use Rattle.families.proofs.Keeping.{KeptTwo, KeptOne, joined-keeps, either-of-keeps, repeated-keeps, changed-keeps, keeps-within}
-use Rattle.families.proofs.Outcomes.{lent-ends, accepted-spelled}
+use Rattle.books.proofs.Outcomes.{lent-ends}
+use Rattle.books.proofs.NewBooks.{accepted-spelled, Spelled, spelled-accepted, spelled-contents, new-book}
 use Rattle.families.proofs.ReadingOff.{one-read, two-read}
 use Rattle.families.proofs.Refusing.{one-verdict}
-use Rattle.families.proofs.NewBooks.{Spelled, spelled-accepted, spelled-contents, new-book, made-spelled}
+use Rattle.families.proofs.NewBooks.{made-spelled}
 use Rattle.families.proofs.Lengths.{changed-as-long}
-use Rattle.families.proofs.Theorems.{either-of-holds, beside-holds, above-holds, run-holds, stack-holds, mirrored-holds, flipped-holds, transposed-holds}
-use Rattle.families.proofs.Theorems.{mirrored-again, flipped-again, transposed-again}
+use Rattle.families.proofs.Theorems.{either-of-holds, beside-holds, above-holds, run-holds, stack-holds, mirrored-holds, flipped-holds, transposed-holds, mirrored-again, flipped-again, transposed-again}
 
 -- A call on two books that answers 0 has written a book that holds what X makes of theirs; ...
 abbrev pub HoldsTwo : (Contents → Contents → Contents) → ((Picture → Type 0) → (Picture → Type 0) → Picture → Type 0) → Type 0

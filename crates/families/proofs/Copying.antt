@@ -12,7 +12,8 @@ use Rattle.names.proofs.Picking.{pick-ind}
 use Rattle.names.proofs.Tests.{true-or-false}
 use Rattle.books.specs.declared.rule.Rule.{Rule}
 use Rattle.books.specs.declared.rule.Body.{Body}
-use Rattle.families.specs.Combine.{moved, movedRule, copies}
+use Rattle.books.specs.Moved.{moved, movedRule}
+use Rattle.families.specs.Combine.{copies}
 
 pub copies-forth : (n s : ℕ) (x : Body) (rs : List Rule) → List·Memᴰ (record { head = s; body = x }) rs
     → List·Memᴰ (record { head = n; body = x }) (copies n s rs)

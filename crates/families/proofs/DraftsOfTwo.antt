@@ -20,7 +20,8 @@ use Rattle.books.specs.declared.rule.Body.{Body}
 use Rattle.books.specs.declared.rule.Body.the-variants.{Colour, Across, Down}
 use Rattle.families.specs.Merged.{merged}
 use Rattle.families.specs.inner.Merges.{Merges}
-use Rattle.families.specs.Combine.{moved, renumbered, raised, copies, bothBooks, joined, either-of}
+use Rattle.books.specs.Moved.{moved}
+use Rattle.families.specs.Combine.{renumbered, raised, copies, bothBooks, joined, either-of}
 use Rattle.families.specs.inner.Asked.{paired}
 use Rattle.families.specs.inner.Gathered.{rulesStanding, followed, raisedBy}
 use Rattle.families.specs.inner.Lent.{rulesOf, Lent}

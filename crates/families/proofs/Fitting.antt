@@ -15,8 +15,10 @@ use Rattle.books.specs.Keeps.{BodyFits, RuleFits, Sound}
 use Rattle.books.specs.declared.rule.Rule.{Rule}
 use Rattle.books.specs.declared.rule.Body.{Body}
 use Rattle.books.specs.declared.rule.Body.the-variants.{Colour, Across, Down}
+use Rattle.books.proofs.GreaterCounts.{rule-more}
 use Rattle.families.specs.Merged.{merged}
-use Rattle.families.specs.Combine.{moved, movedRule, renumbered, raised, copies, bothBooks, either-of, joined, repeated, rebodied}
+use Rattle.books.specs.Moved.{moved, movedRule}
+use Rattle.families.specs.Combine.{renumbered, raised, copies, bothBooks, either-of, joined, repeated, rebodied}
 use Rattle.families.specs.inner.Asked.{changedBody}
 use Rattle.families.specs.declared.asked.Change.{Change}
 use Rattle.families.specs.declared.asked.Change.the-variants.{Mirrored, Flipped, Transposed}
@@ -30,15 +32,8 @@ RulesFit m n rs = (r : Rule) → List·Memᴰ r rs → RuleFits m n r
 fit-append : (m n : ℕ) (xs ys : List Rule) → RulesFit m n xs → RulesFit m n ys → RulesFit m n (xs ++ ys)
 fit-append m n xs ys h k r u = ⊎-elim (h r) (k r) (List·Memᴰ·append-cases xs u)
 
-body-more : (m n m′ n′ : ℕ) (x : Body) → m ≤ m′ → n ≤ n′ → BodyFits m n x → BodyFits m′ n′ x
-body-more m n m′ n′ (Colour c) h k f = omega arith
-body-more m n m′ n′ (Across l r) h k f = omega arith
-body-more m n m′ n′ (Down u v) h k f = omega arith
-
 pub fit-more : (m n m′ n′ : ℕ) (xs : List Rule) → m ≤ m′ → n ≤ n′ → RulesFit m n xs → RulesFit m′ n′ xs
-fit-more m n m′ n′ xs h k f r u =
-    let w = f r u in
-    record { head-fits = omega (arith, w .head-fits); body-fits = body-more m n m′ n′ (r .body) h k (w .body-fits) }
+fit-more m n m′ n′ xs h k f r u = rule-more m n m′ n′ r h k (f r u)
 
 fit-copies : (m n a s : ℕ) (xs : List Rule) → a < m → RulesFit m n xs → RulesFit m n (copies a s xs)
 fit-copies m n a s xs h f r u =

@@ -2,7 +2,6 @@
 -- and no others, so that a derivation goes over rule by rule, forth and back.
 use Prim.Native.Nat.{ℕ, _<_}
 use mathlib.Core.Path.{_≡_, refl, sym, _∙_, ap}
-use mathlib.Core.List.{Memᴰ·cast}
 use lib.ListN.{length}
 use Rattle.books.specs.Contents.{Contents, Has, Called, name}
 use Rattle.books.specs.Picture.{Picture, joins}
@@ -11,8 +10,9 @@ use Rattle.books.specs.declared.rule.Dir.{Dir}
 use Rattle.books.specs.Derives.{Derives, paint, join}
 use Rattle.books.specs.Keeps.{BodyFits, Sound}
 use Rattle.books.specs.declared.rule.Body.{Body}
-use Rattle.books.specs.declared.rule.Body.the-variants.{Colour, Across, Down}
-use Rattle.families.specs.Combine.{moved}
+use Rattle.books.specs.declared.rule.Body.the-variants.{Colour}
+use Rattle.books.specs.Moved.{moved}
+use Rattle.books.proofs.Moving.{moved-joins, colour-back, joins-back, has-cast}
 
 -- The motifs of f stand in h as m says, and its colours as c says.
 pub record Inside (f h : Contents) (m c : ℕ → ℕ) : Type 0 where
@@ -20,32 +20,9 @@ pub record Inside (f h : Contents) (m c : ℕ → ℕ) : Type 0 where
   pub back : (a : ℕ) (y : Body) → a < f .motifs → Has h (m a) y → (x : Body) × Has f a x × (y ≡ moved m c x)
   pub named : (k : ℕ) → k < length (f .colours) → Called h (c k) (name f k)
 
-moved-joins : (m c : ℕ → ℕ) (d : Dir) (l r : ℕ) → joins d (m l) (m r) ≡ moved m c (joins d l r)
-moved-joins m c across l r = refl
-moved-joins m c down u v = refl
-
 fits-joins : (m n : ℕ) (d : Dir) (l r : ℕ) → BodyFits m n (joins d l r) → (l < m) × (r < m)
 fits-joins m n across l r h = h
 fits-joins m n down u v h = h
-
--- A renumbered body comes from a body of the same kind.
-colour-back : (m c : ℕ → ℕ) (k : ℕ) (x : Body) → Colour k ≡ moved m c x → (j : ℕ) × (x ≡ Colour j) × (k ≡ c j)
-colour-back m c k (Colour j) e = (j, refl, cc)
-colour-back m c k (Across l r) e = (0, cc, cc)
-colour-back m c k (Down u v) e = (0, cc, cc)
-
-joins-back : (m c : ℕ → ℕ) (d : Dir) (l r : ℕ) (x : Body) → joins d l r ≡ moved m c x
-    → (i : ℕ) × (j : ℕ) × (x ≡ joins d i j) × (l ≡ m i) × (r ≡ m j)
-joins-back m c across l r (Colour k) e = (0, 0, cc, cc, cc)
-joins-back m c across l r (Across i j) e = (i, j, refl, cc, cc)
-joins-back m c across l r (Down i j) e = (0, 0, cc, cc, cc)
-joins-back m c down l r (Colour k) e = (0, 0, cc, cc, cc)
-joins-back m c down l r (Across i j) e = (0, 0, cc, cc, cc)
-joins-back m c down l r (Down i j) e = (i, j, refl, cc, cc)
-
--- A rule under an equal head, with an equal body.
-pub has-cast : (b : Contents) {a a′ : ℕ} {x x′ : Body} → a ≡ a′ → x ≡ x′ → Has b a′ x′ → Has b a x
-has-cast b p q h = Memᴰ·cast (λ i. record { head = p i; body = q i }) h
 
 module _ (f h : Contents) (m c : ℕ → ℕ) (sf : Sound f) (s : Inside f h m c) where
   pub inside-forth : {a : ℕ} {p : Picture} → Derives f a p → Derives h (m a) p

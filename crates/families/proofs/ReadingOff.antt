@@ -1,25 +1,16 @@
 -- What a host reads off a call's number, with the slice that it finds, is the call's outcome: every outcome packs, since its parts are bounded.
 use Prim.Native.Nat.{ℕ}
-use mathlib.Core.Path.{_≡_, _∙_}
+use mathlib.Core.Path.{_≡_}
 use mathlib.Core.List.{List}
 use native.Mathlib.Omega.{arith}
 use Rattle.names.specs.Bytes.{Bytes}
 use Rattle.books.specs.Contents.{Contents}
-use Rattle.books.specs.Answer.{answer}
-use Rattle.books.proofs.Packing.{apart}
-use Rattle.families.specs.Outcome.{Outcome, onOne, onTwo, Leaves}
-use Rattle.families.specs.Answers.{answerIn, countIn}
+use Rattle.books.specs.Outcome.{Leaves}
+use Rattle.families.specs.Outcome.{onOne, onTwo}
 use Rattle.families.proofs.Keeping.{KeptTwo, KeptOne}
-use Rattle.families.proofs.Outcomes.{Packed, accepted-spelled, made-packs, lent-packs}
-
-abbrev pub readOf : ℕ → List ℕ → Outcome
-readOf r left = record { answer = answerIn r; count = countIn r; out = left }
-
-read-off : (o : Outcome) (left : List ℕ) (r : ℕ) → Packed o → Leaves o r left → readOf r left ≡ o
-read-off o left r packs leaves =
-    let parts = apart (o .answer) (o .count) packs in
-    (λ i. readOf (leaves .answers i) (leaves .leaves i))
-    ∙ (λ i. record { answer = answer (parts .number-is i) (parts .blamed-is i) (parts .place-is i); count = parts .count-is i; out = o .out })
+use Rattle.books.proofs.Outcomes.{lent-packs, readOf, read-off}
+use Rattle.books.proofs.NewBooks.{accepted-spelled}
+use Rattle.families.proofs.Outcomes.{made-packs}
 
 -- of a call on one book, ...
 pub one-read : (op : Contents → Contents) → KeptOne op → (book out left : List ℕ) (r : ℕ) → Bytes book

@@ -16,10 +16,12 @@ use Rattle.books.specs.declared.rule.Rule.{Rule}
 use Rattle.books.specs.declared.rule.Body.{Body}
 use Rattle.books.specs.declared.rule.Body.the-variants.{Colour, Across, Down}
 use Rattle.families.specs.Merged.{without, merged}
-use Rattle.families.specs.Combine.{moved, renumbered, raised, bothBooks}
+use Rattle.books.specs.Moved.{moved}
+use Rattle.families.specs.Combine.{renumbered, raised, bothBooks}
 use Rattle.families.proofs.Merging.{merged-mem}
 use Rattle.families.proofs.Heads.{HeadsFrom, heads-own, heads-raised, heads-raised-below, heads-append, heads-more, in-first, in-rest}
-use Rattle.families.proofs.Inside.{Inside, has-cast, inside-forth, inside-back}
+use Rattle.books.proofs.Moving.{has-cast}
+use Rattle.families.proofs.Inside.{Inside, inside-forth, inside-back}
 
 moved-same : (x : Body) → moved (λ n. n) (λ n. n) x ≡ x
 moved-same (Colour c) = refl

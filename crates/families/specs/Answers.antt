@@ -1,5 +1,5 @@
--- What a host reads off the number of a call.
-use Prim.Native.Nat.{ℕ, _/_, _%_, _^_, _≤_, _<_}
+-- What the number of a call tells.
+use Prim.Native.Nat.{ℕ, _≤_, _<_}
 use mathlib.Core.Path.{_≡_}
 use mathlib.Core.List.{List}
 use mathlib.Core.Logic.{_↔_, _⊎_}
@@ -11,13 +11,6 @@ use Rattle.books.specs.SpellBook.{spellBook}
 use Rattle.books.specs.Answer.{answer}
 use Rattle.books.specs.declared.answer.Answer.{Answer}
 use Rattle.families.specs.Limits.{WithinLimits}
-
--- the answer and the count, taken apart as the C header does
-abbrev pub answerIn : ℕ → Answer
-answerIn r = answer (r % 2 ^ 8) (r / 2 ^ 8 % 2 ^ 4) (r / 2 ^ 12 % 2 ^ 20)
-
-abbrev pub countIn : ℕ → ℕ
-countIn r = r / 2 ^ 32
 
 -- the answer is the fault of the book s, lent as this input, at a place within it
 pub record Blames (input : ℕ) (s : List ℕ) (a : Answer) : Type 0 where

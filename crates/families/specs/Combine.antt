@@ -5,6 +5,7 @@ use lib.Dec.{eqb}
 use Rattle.names.specs.Pick.{pick}
 use Rattle.names.specs.Name.{listed}
 use Rattle.books.specs.Contents.{Contents, name}
+use Rattle.books.specs.Moved.{movedRule}
 use Rattle.books.specs.Picture.{joins}
 use Rattle.books.specs.declared.rule.Dir.the-variants.{Across as across, Down as down}
 use Rattle.books.specs.declared.rule.Dir.{Dir}
@@ -12,15 +13,6 @@ use Rattle.books.specs.declared.rule.Rule.{Rule}
 use Rattle.books.specs.declared.rule.Body.{Body}
 use Rattle.books.specs.declared.rule.Body.the-variants.{Colour, Across, Down}
 use Rattle.families.specs.Merged.{merged}
-
--- a body, and a rule, with the motifs renumbered by m and the colours by c
-abbrev pub moved : (ℕ → ℕ) → (ℕ → ℕ) → Body → Body
-moved m c (Colour x) = Colour (c x)
-moved m c (Across l r) = Across (m l) (m r)
-moved m c (Down u v) = Down (m u) (m v)
-
-abbrev pub movedRule : (ℕ → ℕ) → (ℕ → ℕ) → Rule → Rule
-movedRule m c r = record { head = m (r .head); body = moved m c (r .body) }
 
 -- a colour number of g follows its name into the merged list
 abbrev pub renumbered : Contents → Contents → ℕ → ℕ

@@ -4,7 +4,6 @@ pub mod Merged
 pub mod Combine
 pub mod Limits
 pub mod Outcome
-pub mod NewBook
 pub mod Answers
 pub mod EachCall
 pub mod inner

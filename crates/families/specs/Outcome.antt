@@ -1,43 +1,15 @@
 -- What a call of a combination answers and leaves, from the bytes of the lent books and of the output slice.
-use Prim.Native.Nat.{ℕ}
-use mathlib.Core.Path.{_≡_}
 use mathlib.Core.List.{List}
-use lib.Dec.{leb}
-use lib.ListN.{length}
+use Prim.Native.Nat.{ℕ}
 use Rattle.names.specs.Pick.{pick}
-use Rattle.names.specs.Put.{put}
+use Rattle.books.specs.Answer.{plain}
 use Rattle.books.specs.Contents.{Contents}
-use Rattle.books.specs.Lent.{lentBook}
-use Rattle.books.specs.SpellBook.{spellBook}
-use Rattle.books.specs.Answer.{plain, packed}
-use Rattle.books.specs.declared.answer.Answer.{Answer}
+use Rattle.books.specs.Outcome.{Outcome, refused, written, lent}
 use Rattle.families.specs.Limits.{withinLimits?}
 
--- the answer, the bytes written, and the output slice
-pub record Outcome : Type 0 where
-  pub answer : Answer
-  pub count : ℕ
-  pub out : List ℕ
-
--- a refusal writes nothing
-abbrev pub refused : Answer → List ℕ → Outcome
-refused a out = record { answer = a; count = 0; out = out }
-
--- the book of these contents at the front of the slice
-abbrev pub spelled : Contents → List ℕ → Outcome
-spelled c out = record { answer = plain 0; count = length (spellBook c); out = put out 0 (spellBook c) }
-
--- ... or 13 where the slice is shorter than its spelling
-unfoldable pub written : Contents → List ℕ → Outcome
-written c out = pick (leb (length (spellBook c)) (length out)) (spelled c out) (refused (plain 13) out)
-
--- 12 where they exceed the limits
+-- the book of these contents, or 13; 12 where they exceed the limits
 unfoldable pub made : Contents → List ℕ → Outcome
 made c out = pick (withinLimits? c) (written c out) (refused (plain 12) out)
-
--- a lent book: where it is refused nothing is written, and else its contents go on
-unfoldable pub lent : ℕ → List ℕ → List ℕ → (Contents → Outcome) → Outcome
-lent input s out go = lentBook input s (λ a. refused a out) go
 
 -- a combination of one book
 abbrev pub onOne : (Contents → Contents) → List ℕ → List ℕ → Outcome
@@ -49,8 +21,3 @@ onSecond op second out = lent 2 second out (λ g. made (op g) out)
 
 abbrev pub onTwo : (Contents → Contents → Contents) → List ℕ → List ℕ → List ℕ → Outcome
 onTwo op first second out = lent 1 first out (λ f. onSecond (op f) second out)
-
--- a call's number, and the slice as it leaves it, are those of an outcome
-pub record Leaves (o : Outcome) (r : ℕ) (out : List ℕ) : Type 0 where
-  pub answers : r ≡ packed (o .answer) (o .count)
-  pub leaves : out ≡ o .out

@@ -29,7 +29,8 @@ use Rattle.pieces.specs.Derivation.{judged, roomed, derivation}
 use Rattle.families.specs.Merged.{without, merged}
 use Rattle.families.specs.Combine.{copies, joined, repeated, either-of, beside, run, transposed}
 use Rattle.families.specs.Limits.{countsWithin?, withinLimits?}
-use Rattle.families.specs.Outcome.{written, made, lent}
+use Rattle.books.specs.Outcome.{written, lent}
+use Rattle.families.specs.Outcome.{made}
 use Rattle.house.specs.Bytes.{houseBook, houseContents, sheetA, sheetAReordered, sheetASlate, oneCell, oneColumn, oneRow, transposedBook, besideBook, runBook, eitherOfBook}
 use Rattle.house.specs.Asked.{asked, changed, withItself, wrote}
 

@@ -6,7 +6,7 @@ use lib.ListN.{length, getD, take}
 use lib.Seq.{sets}
 use Rattle.books.specs.Keeps.{mostRules}
 use Rattle.books.specs.declared.rule.Rule.{Rule}
-use Rattle.families.specs.Combine.{movedRule}
+use Rattle.books.specs.Moved.{movedRule}
 use Rattle.families.specs.declared.gathering.Rules.{Rules}
 
 -- the rules that stand

@@ -6,7 +6,8 @@ use Rattle.books.specs.Contents.{Contents}
 use Rattle.books.specs.ContentsIn.{contentsIn}
 use Rattle.families.specs.inner.Lent.{Lent}
 use Rattle.families.specs.inner.Asked.{paired}
-use Rattle.families.proofs.Reading.{read-lent, read-accepted, blamed-leaves}
+use Rattle.books.proofs.Outcomes.{read-accepted, blamed-leaves}
+use Rattle.families.proofs.Reading.{read-lent}
 use Rattle.families.proofs.Finishing.{finished-leaves}
 use borrow.Author.Needs.{needs}
 use Rattle.families.proofs.answering.on_second.Statement.{statement}

@@ -4,7 +4,8 @@ use mathlib.Core.List.{List}
 use denote.Ref.{now}
 use Rattle.families.specs.Outcome.{onSecond}
 use Rattle.families.specs.inner.Asked.{paired}
-use Rattle.families.proofs.Reading.{read-lent, read-accepted, blamed-leaves}
+use Rattle.books.proofs.Outcomes.{read-accepted, blamed-leaves}
+use Rattle.families.proofs.Reading.{read-lent}
 use borrow.Author.Needs.{needs}
 use Rattle.families.proofs.answering.on_two.Statement.{statement}
 use Rattle.families.proofs.answering.on_two.Tie as tie

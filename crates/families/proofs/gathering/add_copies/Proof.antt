@@ -11,7 +11,8 @@ use Rattle.books.specs.Keeps.{mostRules}
 use Rattle.families.specs.Combine.{copies}
 use Rattle.families.specs.inner.Gathered.{rulesStanding}
 use Rattle.families.proofs.Counting.{copies-length}
-use Rattle.families.proofs.AddingRules.{one-written, left-none, copied-next}
+use Rattle.books.proofs.StandingRules.{one-written}
+use Rattle.families.proofs.AddingRules.{left-none, copied-next}
 use Rattle.families.proofs.gathering.add_copies.Statement.{statement}
 use Rattle.families.proofs.gathering.add_copies.Tie as tie
 

@@ -6,7 +6,8 @@ use native.Mathlib.Nat.{add-zero}
 use lib.ListN.{drop}
 use lib.Seq.{sets}
 use Rattle.families.specs.inner.Gathered.{rulesStanding}
-use Rattle.families.proofs.AddingRules.{next-place, one-written, standing-length, left-next, left-none}
+use Rattle.books.proofs.StandingRules.{one-written}
+use Rattle.families.proofs.AddingRules.{next-place, standing-length, left-next, left-none}
 use Rattle.families.proofs.gathering.add_rules.Statement.{statement}
 use Rattle.families.proofs.gathering.add_rules.Tie as tie
 
