@@ -1,6 +1,6 @@
 // A small RIP, to start a host from: tells which sizes a family has, a sheet's job ticket, whether the sheet belongs to
-// the family and how it is made up or why not, and, where a second book is given, joins the two families. Rows, columns
-// and bytes are counted from 1, as people do.
+// the family and how it is made up or why not, and, where a second book is given, joins the two families, tidied where
+// they are too much for one book. Rows, columns and bytes are counted from 1, as people do.
 //
 //     example BOOK SHEET [SECOND-BOOK]
 //
@@ -8,12 +8,13 @@
 #include <druvelstek.h>
 #include <stdio.h>
 #include <stdlib.h>
+#include <string.h>
 
 enum { BELONGS = 0, DECLINED = 1, REFUSED = 2 };
 
 static uint8_t book[DV_LONGEST_BOOK + 1], second[DV_LONGEST_BOOK + 1], sheet[DV_LONGEST_SHEET + 1];
 static size_t book_len, second_len, sheet_len;
-static uint8_t joined[DV_LONGEST_BOOK];
+static uint8_t joined[DV_LONGEST_BOOK], tidied[DV_LONGEST_BOOK];
 static uint32_t work[DV_MOST_WORK];
 static uint16_t tree[DV_MOST_TREE];
 static uint32_t card[DV_CARD_ENTRIES];
@@ -134,11 +135,36 @@ static int ask(void)
     }
 }
 
-// Joins the two families, and tells whether there is a book of both.
-static int join(void)
+// Puts the tidied book, which has the same sheets, in the place of a book, and gives its length.
+static size_t tidy(const char *what, uint8_t *bytes, size_t length)
+{
+    uint64_t answer = dv_tidy(bytes, length, tidied, sizeof tidied);
+    if (dv_number(answer) != DV_ACCEPTED) {
+        say(what, answer, what, "");
+        return length;
+    }
+    printf("%s tidied: %zu bytes of %zu\n", what, dv_count(answer), length);
+    memcpy(bytes, tidied, dv_count(answer));
+    return dv_count(answer);
+}
+
+static uint64_t join_side_by_side(void)
 {
     uint64_t answer = dv_beside(book, book_len, second, second_len, joined, sizeof joined);
     say("the two families side by side", answer, "the book", "the second book");
+    return answer;
+}
+
+// Joins the two families, and tells whether there is a book of both. What is too much for one book is often motifs that
+// nothing uses, left from earlier combinations.
+static int join(void)
+{
+    uint64_t answer = join_side_by_side();
+    if (dv_number(answer) == DV_TOO_MANY) {
+        book_len = tidy("the book", book, book_len);
+        second_len = tidy("the second book", second, second_len);
+        answer = join_side_by_side();
+    }
     if (dv_number(answer) != DV_ACCEPTED)
         return 0;
     printf("a book of %zu bytes\n", dv_count(answer));

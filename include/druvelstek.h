@@ -39,7 +39,7 @@ extern "C" {
 
 // The version of rules and calls that this header describes, and the call that tells the archive's. A host compares the
 // two before any other call, so that a header and an archive of two versions are noticed.
-#define DV_VERSION 8
+#define DV_VERSION 9
 uint64_t dv_version(void);
 
 // The greatest sizes.
@@ -129,7 +129,8 @@ enum dv_answer_number {
     DV_TOO_MANY = 12,       // a combination exceeds 64 colours, 32 motifs or 200 rules
     DV_OUT_SHORT = 13,      // output, card or figures slice shorter than the result
     DV_IN_FAMILY = 15,      // the sheet is in the family, so that there is no reason why not
-    DV_NOT_A_TREE = 16      // the lent nodes are no derivation of the sheet; place: the first node that fails, from 0
+    DV_NOT_A_TREE = 16,     // the lent nodes are no derivation of the sheet; place: the first node that fails, from 0
+    DV_NOT_REWRITTEN = 17   // the start motif of a book to be tidied cannot be rewritten to colours, sizes forgotten
 };
 
 // A fixed text for each answer number, in English, to stand after what it is said of, as in "the sheet: not in the
@@ -169,14 +170,16 @@ static inline const char *dv_text(unsigned number)
         return "in the family";
     case DV_NOT_A_TREE:
         return "not a derivation of the sheet";
+    case DV_NOT_REWRITTEN:
+        return "its start motif cannot be rewritten to colours";
     default:
         return "no answer has this number";
     }
 }
 
 // An answer is number + 2^8 * blamed + 2^12 * place + 2^32 * count; here it is taken apart. The count is the number of
-// bytes that a combination wrote, or of sizes on a card, or a sheet's ticket, or a reason, 0 on refusal and for every
-// other call.
+// bytes that a combination or dv_tidy wrote, or of sizes on a card, or a sheet's ticket, or a reason, 0 on refusal and
+// for every other call.
 static inline unsigned dv_number(uint64_t answer) { return (unsigned)(answer & 0xff); }
 static inline unsigned dv_blamed(uint64_t answer) { return (unsigned)(answer >> 8 & 0xf); }
 static inline size_t dv_place(uint64_t answer) { return (size_t)(answer >> 12 & 0xfffff); }
@@ -337,6 +340,17 @@ uint64_t dv_flipped(const uint8_t *book, size_t book_len, uint8_t *out, size_t o
 // The family's sheets with rows and columns exchanged: exchanges kinds 1 and 2. Nothing else changes.
 uint64_t dv_transposed(const uint8_t *book, size_t book_len, uint8_t *out, size_t out_len);
 
+// The same family in a book without what nothing uses, which leaves room for combinations. A motif is kept when it can
+// be rewritten to colours with sizes forgotten and can be reached from the start by rules whose motifs all can. Rules
+// that use only kept motifs are kept, but for later copies of an equal rule. The colour list stays, and what is left is
+// renumbered in its old order. The tidied book derives the same sheets, of every size, and tidying it again gives the
+// same bytes.
+//
+// Answers, in this order: 1 to 8 blaming 1; 17 exactly when the start motif cannot be rewritten to colours with sizes
+// forgotten, so that the family has no sheet at all; 13; 0. On 0 the first dv_count bytes of out are the tidied book.
+// Everything else in out is unchanged.
+uint64_t dv_tidy(const uint8_t *book, size_t book_len, uint8_t *out, size_t out_len);
+
 #ifdef DV_CHECKED
 
 // Whether a slice of entries of so many bytes is null only where it is empty, is aligned, and ends where addresses do
@@ -435,7 +449,7 @@ static inline uint64_t dv_checked_run_report(const uint8_t *book, size_t book_le
     return dv_run_report(book, book_len, run, run_len, work, work_len, figures, figures_len);
 }
 
-// The combinations of two books, and those of one, differ in the call alone.
+// The combinations of two books differ in the call alone, and so do those of one and dv_tidy.
 #define DV_CHECKED_OF_TWO(name)                                                                                        \
     static inline uint64_t dv_checked_##name(const uint8_t *first, size_t first_len, const uint8_t *second,            \
                                              size_t second_len, uint8_t *out, size_t out_len)                          \
@@ -459,6 +473,7 @@ DV_CHECKED_OF_ONE(stack)
 DV_CHECKED_OF_ONE(mirrored)
 DV_CHECKED_OF_ONE(flipped)
 DV_CHECKED_OF_ONE(transposed)
+DV_CHECKED_OF_ONE(tidy)
 #undef DV_CHECKED_OF_TWO
 #undef DV_CHECKED_OF_ONE
 
@@ -480,6 +495,7 @@ DV_CHECKED_OF_ONE(transposed)
 #define dv_mirrored dv_checked_mirrored
 #define dv_flipped dv_checked_flipped
 #define dv_transposed dv_checked_transposed
+#define dv_tidy dv_checked_tidy
 
 #endif
 

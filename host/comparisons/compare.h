@@ -36,7 +36,10 @@ uint64_t compare_run_report(const struct bytes *book, const struct run *run, siz
 uint64_t compare_combination(enum combination combination, const struct bytes *first, const struct bytes *second,
                              size_t out_len, struct bytes *made);
 
-// The same with rooms exact, one short, one over and none.
+// The tidied book is put into tidied, where that is not null and the answer is 0.
+uint64_t compare_tidy(const struct bytes *book, size_t out_len, struct bytes *tidied);
+
+// A combination with rooms exact, one short, one over and none.
 void compare_rooms_of_combination(enum combination combination, const struct bytes *first, const struct bytes *second);
 
 #endif

@@ -21,6 +21,7 @@ static void compare_as_book(const struct bytes *book, const struct bytes *sheet,
     compare_size_card(book, one_in(4) ? 0 : DV_CARD_ENTRIES, NULL);
     compare_why_not(book, sheet, one_in(4) ? 0 : ROOMY_WORK);
     compare_some_tree(book, sheet);
+    compare_tidy(book, one_in(4) ? 0 : ROOMY_OUT, NULL);
     enum combination combination = (enum combination)chance_below(COMBINATIONS);
     if (one_in(2))
         compare_combination(combination, book, other, one_in(4) ? 0 : ROOMY_OUT, NULL);

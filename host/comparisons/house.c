@@ -159,6 +159,42 @@ static void expect_trees(void)
     expect(check_tree(nodes, 11) == (16 | 4 << 12), "a cut that leaves a part empty");
 }
 
+// A book of 32 motifs, each of them two of the next, and the last a cell; its rules from the last to the first, so that
+// the motifs are reached one by one.
+static const struct bytes chain = BYTES(
+    SLATES, 32, 0, 32, 31, 0, 0, 30, 1, 31, 31, 29, 1, 30, 30, 28, 1, 29, 29, 27, 1, 28, 28, 26, 1, 27, 27, 25, 1, 26,
+    26, 24, 1, 25, 25, 23, 1, 24, 24, 22, 1, 23, 23, 21, 1, 22, 22, 20, 1, 21, 21, 19, 1, 20, 20, 18, 1, 19, 19, 17, 1,
+    18, 18, 16, 1, 17, 17, 15, 1, 16, 16, 14, 1, 15, 15, 13, 1, 14, 14, 12, 1, 13, 13, 11, 1, 12, 12, 10, 1, 11, 11, 9,
+    1, 10, 10, 8, 1, 9, 9, 7, 1, 8, 8, 6, 1, 7, 7, 5, 1, 6, 6, 4, 1, 5, 5, 3, 1, 4, 4, 2, 1, 3, 3, 1, 1, 2, 2, 0, 1, 1,
+    1);
+
+// Nothing reaches motif 1, motif 2 cannot be rewritten, motif 3 stands beside motif 2 only, and a rule stands twice.
+static const struct bytes untidy = BYTES(SLATES, 6, 5, 9, 5, 1, 4, 0, 0, 0, 1, 1, 1, 4, 0, 5, 2, 2, 3, 3, 0, 0, 4, 0, 0,
+                                         5, 1, 4, 0, 2, 1, 2, 0, 4, 0, 1);
+static const struct bytes neat = BYTES(SLATES, 3, 2, 4, 2, 1, 1, 0, 0, 0, 1, 1, 0, 0, 1, 0, 1);
+static const struct bytes endless = BYTES(SLATES, 2, 0, 2, 0, 1, 0, 1, 1, 0, 0);
+
+// Whether a book is tidied to this one, in a slice that is just long enough.
+static bool tidies(const struct bytes *book, const struct bytes *tidied)
+{
+    uint8_t out[DV_LONGEST_BOOK];
+    return judged->tidy(book->at, book->length, out, tidied->length) == (uint64_t)tidied->length << 32 &&
+           memcmp(out, tidied->at, tidied->length) == 0;
+}
+
+static void expect_tidy(void)
+{
+    uint8_t out[DV_LONGEST_BOOK];
+    expect(tidies(&house, &house), "it is tidy");
+    expect(judged->tidy(house.at, house.length, out, house.length - 1) == 13, "one byte short");
+    expect(tidies(&house_beside, &house_beside) && tidies(&house_run, &house_run) &&
+               tidies(&house_either, &house_either),
+           "its combinations are tidy");
+    expect(tidies(&chain, &chain), "motifs that are reached one by one");
+    expect(tidies(&untidy, &neat) && tidies(&neat, &neat), "what is not kept");
+    expect(judged->tidy(endless.at, endless.length, out, 0) == 17, "a start that cannot be rewritten");
+}
+
 static void expect_lookups(void)
 {
     static const uint64_t rules[] = {UINT64_C(0x100000100), UINT64_C(0x102010200), UINT64_C(0x100000001),
@@ -180,6 +216,7 @@ KIND(house)
         expect_reasons();
         expect_report();
         expect_trees();
+        expect_tidy();
         expect_lookups();
     }
     if (compare_read_book(&book_and_sheet) != 0 || compare_read_sheet(&book_and_sheet) != UINT64_C(4) << 32)

@@ -1,8 +1,6 @@
 // The eight combinations: the new contents are made, held to the limits, and spelt.
-#include <string.h>
-
 #include "independent.h"
-#include "read.h"
+#include "write.h"
 
 static void add_rule(struct book *book, unsigned head, unsigned kind, unsigned first, unsigned second)
 {
@@ -39,52 +37,6 @@ static void add_copies(struct book *book, unsigned from, unsigned to, unsigned h
     }
 }
 
-// A number below 16,384.
-static uint8_t *spell_number(uint8_t *out, unsigned number)
-{
-    if (number > 127) {
-        *out++ = (uint8_t)(number % 128 + 128);
-        number /= 128;
-    }
-    *out++ = (uint8_t)number;
-    return out;
-}
-
-static size_t spell(const struct book *book, uint8_t *bytes)
-{
-    uint8_t *out = spell_number(bytes, book->colours.count);
-    for (unsigned i = 0; i < book->colours.count; i++) {
-        struct name name = book->colours.name[i];
-        out = spell_number(out, name.length);
-        memcpy(out, name.bytes, name.length);
-        out += name.length;
-    }
-    out = spell_number(out, book->motifs);
-    out = spell_number(out, book->start);
-    out = spell_number(out, book->rules);
-    for (unsigned i = 0; i < book->rules; i++) {
-        struct rule rule = book->rule[i];
-        *out++ = rule.head;
-        *out++ = rule.kind;
-        *out++ = rule.first;
-        if (rule.kind != KIND_COLOUR)
-            *out++ = rule.second;
-    }
-    return (size_t)(out - bytes);
-}
-
-static uint64_t written(const struct book *book, uint8_t *out, size_t out_len)
-{
-    uint8_t bytes[3429];
-    if (book->colours.count > 64 || book->motifs > 32 || book->rules > 200)
-        return independent_answer(12, 0, 0);
-    size_t length = spell(book, bytes);
-    if (out_len < length)
-        return independent_answer(13, 0, 0);
-    memcpy(out, bytes, length);
-    return (uint64_t)length << 32;
-}
-
 static uint64_t both_of(struct book *f, struct book *g, const uint8_t *first, size_t first_len, const uint8_t *second,
                         size_t second_len)
 {
@@ -105,7 +57,7 @@ uint64_t independent_either_of(const uint8_t *first, size_t first_len, const uin
     add_copies(&f, 0, own, f.start, start);
     add_copies(&f, own, both, g.start + raised, start);
     f.start = start;
-    return written(&f, out, out_len);
+    return independent_written(&f, out, out_len);
 }
 
 // Beside and above.
@@ -121,7 +73,7 @@ static uint64_t joined(const uint8_t *first, size_t first_len, const uint8_t *se
     unsigned start = f.motifs++;
     add_rule(&f, start, kind, f.start, g.start + raised);
     f.start = start;
-    return written(&f, out, out_len);
+    return independent_written(&f, out, out_len);
 }
 
 uint64_t independent_beside(const uint8_t *first, size_t first_len, const uint8_t *second, size_t second_len,
@@ -147,7 +99,7 @@ static uint64_t repeated(const uint8_t *bytes, size_t length, uint8_t *out, size
     add_copies(&f, 0, f.rules, f.start, start);
     add_rule(&f, start, kind, f.start, start);
     f.start = start;
-    return written(&f, out, out_len);
+    return independent_written(&f, out, out_len);
 }
 
 uint64_t independent_run(const uint8_t *book, size_t book_len, uint8_t *out, size_t out_len)
@@ -172,7 +124,7 @@ static uint64_t exchanged(const uint8_t *bytes, size_t length, uint8_t *out, siz
         if (rule.kind == kind)
             f.rule[i] = (struct rule){rule.head, rule.kind, rule.second, rule.first};
     }
-    return written(&f, out, out_len);
+    return independent_written(&f, out, out_len);
 }
 
 uint64_t independent_mirrored(const uint8_t *book, size_t book_len, uint8_t *out, size_t out_len)
@@ -194,5 +146,5 @@ uint64_t independent_transposed(const uint8_t *book, size_t book_len, uint8_t *o
     for (unsigned i = 0; i < f.rules; i++)
         if (f.rule[i].kind != KIND_COLOUR)
             f.rule[i].kind = (uint8_t)(KIND_ACROSS + KIND_DOWN - f.rule[i].kind);
-    return written(&f, out, out_len);
+    return independent_written(&f, out, out_len);
 }

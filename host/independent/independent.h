@@ -41,4 +41,6 @@ uint64_t independent_mirrored(const uint8_t *book, size_t book_len, uint8_t *out
 uint64_t independent_flipped(const uint8_t *book, size_t book_len, uint8_t *out, size_t out_len);
 uint64_t independent_transposed(const uint8_t *book, size_t book_len, uint8_t *out, size_t out_len);
 
+uint64_t independent_tidy(const uint8_t *book, size_t book_len, uint8_t *out, size_t out_len);
+
 #endif

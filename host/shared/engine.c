@@ -18,6 +18,7 @@ const struct engine library = {
     dv_run_report,
     {dv_either_of, dv_beside, dv_above},
     {dv_run, dv_stack, dv_mirrored, dv_flipped, dv_transposed},
+    dv_tidy,
 };
 
 const struct engine independent = {
@@ -34,6 +35,7 @@ const struct engine independent = {
     independent_run_report,
     {independent_either_of, independent_beside, independent_above},
     {independent_run, independent_stack, independent_mirrored, independent_flipped, independent_transposed},
+    independent_tidy,
 };
 
 const char *const combination_name[COMBINATIONS] = {

@@ -29,6 +29,7 @@ struct engine {
     uint64_t (*of_two[RUN])(const uint8_t *first, size_t first_len, const uint8_t *second, size_t second_len,
                             uint8_t *out, size_t out_len);
     uint64_t (*of_one[COMBINATIONS - RUN])(const uint8_t *book, size_t book_len, uint8_t *out, size_t out_len);
+    uint64_t (*tidy)(const uint8_t *book, size_t book_len, uint8_t *out, size_t out_len);
 };
 
 extern const struct engine library, independent;

@@ -32,6 +32,13 @@ head -c 70000 /dev/zero >"$place/long.bin"
 says 0 '*12 of 144 sizes*job ticket 0*the sheet: accepted*side by side*one above the other*Slate U' \
     example "$book" "$sheet"
 says 0 '*the two families side by side: accepted?a book of 52 bytes' example "$book" "$sheet" "$book"
+# The sample book with 29 motifs that nothing uses, and one whose start cannot be rewritten: too much to be joined.
+printf "\2$slates\40\0\4\0\1\0\0\0\2\1\2\1\0\0\2\0\1" >"$place/untidy.bin"
+printf "\2$slates\40\3\5\0\1\0\0\0\2\1\2\1\0\0\2\0\1\3\1\3\0" >"$place/endless.bin"
+says 0 '*side by side: too many colours, motifs or rules?the book tidied: 34 bytes of 34?the second book tidied: 34 bytes of 34?the two families side by side: accepted?a book of 52 bytes' \
+    example "$place/untidy.bin" "$sheet" "$book"
+says 2 '*the second book: its start motif cannot be rewritten to colours?the two families side by side: too many *' \
+    example "$book" "$sheet" "$place/endless.bin"
 says 1 '*job ticket 301*not in the family*rows 1 to 2 of columns 2 to 3, *' example "$book" "$samples/declined.bin"
 of_sheet 1 '*row 2, column 3 has a colour that no rule names' "\3$slates\3Red\0\2\3\0\0\0\1\1\2"
 of_sheet 1 '*the family has no sheet of 1 by 1' "\2$slates\0\1\1\0"

@@ -74,4 +74,4 @@ sizeShown s = packedSize (sizeOf s)
 
 -- how many of the customer's requests have landed
 abbrev pub version : ℕ
-version = 8
+version = 9

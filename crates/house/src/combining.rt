@@ -1,15 +1,16 @@
-// A combination of books.
+// A new book of lent ones: a combination, or one tidied.
 use crate::lent;
 use crate::lines;
 use crate::printing;
 use crate::spelling;
 
-// A combination, by its first letter.
+// A combination, by its first letter, or the book as tidying leaves it, neat.
 fn combined(letter: u8, first: &[u8], second: &[u8], out: &mut [u8]) -> u64 {
     match letter {
         b'e' => families::calls::dv_either_of(first, second, out),
         b'b' => families::calls::dv_beside(first, second, out),
         b'r' => families::calls::dv_run(first, out),
+        b'n' => tidy::calls::dv_tidy(first, out),
         _ => families::calls::dv_transposed(first, out),
     }
 }

@@ -1,6 +1,7 @@
-// A book or a sheet read by itself.
+// A book or a sheet read by itself, and whether two inputs are the same.
 use crate::lent;
 use crate::printing;
+use names::name;
 
 // Whether the bytes are a book.
 fn book(bytes: &[u8]) {
@@ -27,6 +28,15 @@ fn figures(book: &[u8]) {
     printing::end();
 }
 
+// Whether two inputs are the same, byte for byte.
+fn equal(first: &[u8], second: &[u8]) {
+    if name::same_name(first, first.len(), second, second.len()) {
+        printing::text(b": yes\n");
+    } else {
+        printing::text(b": no\n");
+    }
+}
+
 // A call that reads, by its letter, or a heading; any other line has nothing more to it.
 pub(crate) fn read(letter: u8, first: &[u8], second: &[u8]) {
     match letter {
@@ -34,6 +44,7 @@ pub(crate) fn read(letter: u8, first: &[u8], second: &[u8]) {
         b's' => sheet(first),
         b'i' => ink(first, second),
         b'f' => figures(first),
+        b'e' => equal(first, second),
         b'h' => printing::end(),
         _ => {}
     }

@@ -46,6 +46,7 @@ OF_ONE(stack)
 OF_ONE(mirrored)
 OF_ONE(flipped)
 OF_ONE(transposed)
+OF_ONE(tidy)
 
 enum { ENDS_EARLY = DV_ENDS_EARLY | 1 << 8 };
 
@@ -68,5 +69,6 @@ const struct call calls[] = {
     {"dv_mirrored", mirrored, {BOOK}, {1}, ENDS_EARLY},
     {"dv_flipped", flipped, {BOOK}, {1}, ENDS_EARLY},
     {"dv_transposed", transposed, {BOOK}, {1}, ENDS_EARLY},
+    {"dv_tidy", tidy, {BOOK}, {1}, ENDS_EARLY},
 };
 const size_t calls_count = sizeof calls / sizeof *calls;

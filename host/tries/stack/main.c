@@ -43,6 +43,7 @@ static void run_report(void)
 {
     answer = dv_run_report(book.at, book.length, run.at, run.length, work, DV_MOST_WORK, figures, DV_REPORT_ENTRIES);
 }
+static void tidy(void) { answer = dv_tidy(book.at, book.length, out, sizeof out); }
 static void make(void)
 {
     answer = combine(&library, combination, book.at, book.length, second.at, second.length, out, sizeof out);
@@ -84,6 +85,7 @@ static struct kind kinds[] = {
     {"dv_size_card", size_card, 0},
     {"dv_why_not", why_not, 0},
     {"dv_run_report", run_report, 0},
+    {"dv_tidy", tidy, 0},
 };
 static size_t most_of[COMBINATIONS];
 

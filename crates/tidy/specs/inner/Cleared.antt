@@ -1,0 +1,43 @@
+-- What is left of a family, and how an equal rule is found.
+use Prim.Native.Nat.{ℕ, _-_}
+use mathlib.Core.Bool.{Bool, true, false}
+use mathlib.Core.List.{List, [], _∷_, _++_, map}
+use lib.Dec.{eqb}
+use lib.ListN.{length, take, replicate}
+use lib.Seq.{sets}
+use Rattle.names.specs.Pick.{pick, andThen, orElse}
+use Rattle.books.specs.Keeps.{mostRules}
+use Rattle.books.specs.Lookups.{packedRule}
+use Rattle.books.specs.declared.family.Family.{Family}
+use Rattle.books.specs.declared.rule.Rule.{Rule}
+use Rattle.tidy.specs.Marks.{rank}
+use Rattle.tidy.specs.Tidied.{firsts, uses, usable, renumbered}
+use Rattle.tidy.specs.inner.Steps.{rulesStanding}
+
+-- the first rules in numbers, and zeros behind them
+unfoldable pub numbersOf : List Rule → ℕ → List ℕ
+numbersOf rules count = map packedRule (take count rules) ++ replicate (mostRules - count) 0
+
+-- whether a number stands in a list
+unfoldable pub among : List ℕ → ℕ → Bool
+among [] n = false
+among (k ∷ ks) n = orElse (eqb k n) (λ _. among ks n)
+
+-- whether a rule is left: its motifs are all marked, and its number stands not among those before it
+unfoldable pub isLeft : ℕ → Rule → List ℕ → ℕ → Bool
+isLeft m r before number = andThen (uses m r) (λ _. pick (among before number) false true)
+
+-- the rules that are left of those that follow others
+abbrev pub leftAfter : ℕ → List Rule → List Rule → List Rule
+leftAfter m before rs = map (renumbered m) (usable m (firsts before rs))
+
+-- ... stand in the first places, and behind them what stood there
+unfoldable pub cleared : ℕ → Family → Family
+cleared m f =
+    record {
+      colours = f .colours;
+      motifs = rank m (f .motifs);
+      start = rank m (f .start);
+      count = length (leftAfter m [] (rulesStanding f));
+      rules = sets (f .rules) 0 (leftAfter m [] (rulesStanding f));
+    }
