@@ -8,6 +8,7 @@ pub mod StandingRules
 pub mod NothingEmpty
 pub mod CellsCalled
 pub mod Searches
+pub mod AlikeSearches
 pub mod Deciding
 pub mod Onwards
 pub mod StandingNumbers

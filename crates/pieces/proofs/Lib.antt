@@ -32,6 +32,8 @@ pub mod TreeGiven
 pub mod ExactViews
 pub mod TheTree
 pub mod PiecesOnSheets
+pub mod ComingApart
+pub mod PiecesAlike
 pub mod Endings
 pub mod Judging
 pub mod Lacking

@@ -1,10 +1,12 @@
 -- The pieces of a sheet without its table: whether a piece lies on the sheet, its parts, and whether it is one cell of a colour. Each is settled of any piece.
 use Prim.Native.Nat.{ℕ, _+_, _-_, _*_}
-use mathlib.Core.Bool.{Bool}
+use mathlib.Core.Path.{_≡_}
+use mathlib.Core.Bool.{Bool, true}
 use mathlib.Core.List.{List}
 use lib.Dec.{eqb, ltb, leb}
 use lib.ListN.{length, getD}
 use Rattle.names.specs.Pick.{pick, andThen}
+use Rattle.books.specs.Search.{Cutting}
 use Rattle.books.specs.declared.rule.Dir.{Dir}
 use Rattle.books.specs.declared.size.Size.{Size}
 use Rattle.pieces.specs.declared.piece.Piece.{Piece}
@@ -36,3 +38,14 @@ numbered cols colours c q = eqb (getD colours (q .top * cols + q .left) 0) c
 unfoldable pub coversOn : Size → List ℕ → Piece → ℕ → Bool
 coversOn s colours q c =
     andThen (liesOn s q) (λ _. andThen (leb (s .rows * s .cols) (length colours)) (λ _. covers (numbered (s .cols) colours) q c))
+
+-- the pieces of a sheet as they come apart
+abbrev pub onSheet : Size → List ℕ → Cutting Piece
+onSheet s colours =
+    record {
+      reach = reach;
+      first = firstPart;
+      rest = restPart;
+      Shows = λ c q. coversOn s colours q c ≡ true;
+      shown = λ c q. coversOn s colours q c;
+    }

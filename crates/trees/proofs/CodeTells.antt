@@ -8,11 +8,8 @@ use native.Mathlib.Omega.{arith}
 use borrow.Author.Tests.{le-leb, lt-leb}
 use lib.ListN.{length, take, drop, length-append, take-append-drop}
 use lib.Seq.{take-all, length-take-le}
-use Rattle.names.specs.Colours.{namesIn}
-use Rattle.names.specs.Name.{listed}
 use Rattle.names.specs.Pick.{andThen}
 use Rattle.names.specs.declared.number.Fault.{Fault}
-use Rattle.names.proofs.Finding.{find-listed}
 use Rattle.names.specs.Bytes.{Bytes}
 use Rattle.names.proofs.Tests.{lt-or-le}
 use Rattle.books.specs.Answer.{blaming}
@@ -30,19 +27,17 @@ use Rattle.books.proofs.LentEnds.{book-refused-first, sheet-refused-second}
 use Rattle.books.proofs.NumberedCells.{numbers-for}
 use Rattle.books.proofs.ReadingBooks.{book-places}
 use Rattle.books.proofs.ReadingSheets.{sheet-lies}
-use Rattle.pieces.proofs.AcceptedInputs.{as-read, cells-numbered}
-use Rattle.pieces.proofs.CellsFirst.{cell-before}
-use Rattle.pieces.proofs.WholeTable.{book-colours, cell-name}
+use Rattle.pieces.proofs.PiecesAlike.{sheet-numbered}
 use Rattle.trees.specs.declared.held.Held.{Held}
 use Rattle.trees.specs.declared.node.Node.{Node}
 use Rattle.trees.specs.Judge.{Judged, past, failed, judge, ended, checked}
 use Rattle.trees.specs.Outcome.{treeAnswer}
 use Rattle.trees.specs.inner.Held.{heldTo, lookedAt, Holds, ended16, judgedHeld, heldAnswer}
 use Rattle.trees.specs.inner.OnSheets.{verdict, judgedAt}
+use Rattle.trees.proofs.Agreeing.{sheet-judged}
 use Rattle.trees.proofs.Counting.{far-nodes}
 use Rattle.trees.proofs.Endings.{answered}
 use Rattle.trees.proofs.HeldTo.{held-size, held-fine, book-first, sheet-second, then-judged}
-use Rattle.trees.proofs.PiecesAlike.{Numbers, sheet-judged}
 use Rattle.trees.proofs.Rows.{Says, says}
 use Rattle.trees.proofs.Theorems.{ends}
 
@@ -76,27 +71,12 @@ module _ (book sheet : List ℕ) (bytes-book : Bytes book) (bytes-sheet : Bytes 
   abbrev p : Picture
   p = pictureOf sheet
 
-  given : Numbers b p (numbersOf book (f .colours) sheet g)
-  given =
-      let read = as-read book (fine .book-fine) sheet (fine .sheet-fine) bytes-book bytes-sheet in
-      let numbers = cells-numbered book (fine .book-fine) sheet (fine .sheet-fine) in
-      let s = sheet-lies sheet (fine .sheet-fine) .within in
-      record {
-        sound = read .book-keeps .sound;
-        apart = read .book-keeps .colours-ok .distinct;
-        rows-few = omega (arith, s .rows-few);
-        cols-few = omega (arith, s .cols-few);
-        all = numbers .all;
-        each = λ i j hi hj. numbers .each (i * g .size .cols + j) (cell-before (g .size .rows) (g .size .cols) i j hi hj)
-            ∙ (find-listed book (f .colours) _ (book-colours read) ∙ ap (listed (namesIn book (f .colours))) (sym (cell-name read i j hi hj)));
-      }
-
   held-judged : (ns : List Node) → judgedHeld (heldTo book sheet) ns ≡ verdict (judge b (b .start) p ns 0)
   unfolding heldTo judgedAt
   held-judged ns =
       let s = sheet-lies sheet (fine .sheet-fine) .within in
       rw (numbers-for book (f .colours) sheet g (book-places book .few))
-      (ap verdict (sheet-judged b p (numbersOf book (f .colours) sheet g) given (b .start) ns 0 (s .rows-some) (s .cols-some)))
+      (ap verdict (sheet-judged b p (numbersOf book (f .colours) sheet g) (sheet-numbered book sheet bytes-book bytes-sheet fine) (b .start) ns 0 (s .rows-some) (s .cols-some)))
 
   -- what the code tells of a whole row is the answer
   told : (ns : List Node) → treeAnswer book sheet ns ≡ heldAnswer (heldTo book sheet) ns

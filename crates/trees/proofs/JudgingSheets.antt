@@ -5,52 +5,28 @@ use mathlib.Core.Path.{_≡_, refl, sym, ap, _∙_, subst}
 use mathlib.Core.List.{List, [], _∷_}
 use native.Mathlib.Omega.{arith}
 use lib.ListN.{length, getD}
-use Rattle.names.proofs.Tests.{and-both}
-use Rattle.books.specs.Search.{Cutting, Lessens}
+use Rattle.books.specs.Search.{Cutting}
 use Rattle.books.specs.declared.rule.Dir.{Dir}
-use Rattle.books.specs.declared.rule.Dir.the-variants.{Across as across, Down as down}
 use Rattle.books.specs.declared.rule.Rule.{Rule}
 use Rattle.books.specs.declared.size.Size.{Size}
-use Rattle.pieces.specs.OnSheet.{liesOn, two, partsOn, coversOn}
+use Rattle.pieces.specs.OnSheet.{two, partsOn, onSheet}
 use Rattle.pieces.specs.Parts.{reach, firstPart, restPart}
 use Rattle.pieces.specs.Pieces.{Inside}
 use Rattle.pieces.specs.declared.part.Part.{Part}
 use Rattle.pieces.specs.declared.piece.Piece.{Piece}
+use Rattle.pieces.proofs.ComingApart.{bulk, pieces-lessen}
 use Rattle.pieces.proofs.PartsOfPieces.{first-inside, rest-inside}
-use Rattle.pieces.proofs.PiecesOnSheets.{lies-told, parts-found}
+use Rattle.pieces.proofs.PiecesOnSheets.{parts-found}
 use Rattle.trees.specs.declared.judge.Verdict.{Verdict}
 use Rattle.trees.specs.declared.node.Node.{Node}
 use Rattle.trees.specs.declared.step.Step.{Step}
 use Rattle.trees.specs.declared.step.Step.the-variants.{Wrong, Cell, Join}
 use Rattle.trees.specs.Trees.{noNode}
 use Rattle.trees.specs.Judge.{Judged, past, failed, followed, step}
-use Rattle.trees.specs.inner.OnSheets.{onSheet, node, nodesIn, verdict, judgedAt, Lying}
+use Rattle.trees.specs.inner.OnSheets.{node, nodesIn, verdict, judgedAt, Lying}
 use Rattle.trees.specs.inner.Waiting.{after}
 use Rattle.trees.proofs.Steps.{PartsAt, Means, step-means}
 use Rattle.trees.proofs.Places.{judgeAt, at-end, at-wrong, at-cell, at-parts}
-
--- ── A cut lessens rows and columns in all ──
-
-first-less : (d : Dir) (k : ℕ) (q : Piece) → 1 ≤ k → k < reach d q → (firstPart d k q) .height + (firstPart d k q) .width < q .height + q .width
-first-less across k q h l = omega arith
-first-less down k q h l = omega arith
-
-rest-less : (d : Dir) (k : ℕ) (q : Piece) → 1 ≤ k → k < reach d q → (restPart d k q) .height + (restPart d k q) .width < q .height + q .width
-rest-less across k q h l = omega arith
-rest-less down k q h l = omega arith
-
-abbrev pub bulk : Piece → ℕ
-bulk q = q .height + q .width
-
-pub pieces-lessen : (s : Size) (cells : List ℕ) → Lessens (onSheet s cells) bulk
-unfolding coversOn
-pieces-lessen s cells =
-    record {
-      tested = λ c q. (λ e. e, λ e. e);
-      first-less = first-less;
-      rest-less = rest-less;
-      cell-some = λ c q e. let (on, _) = and-both (liesOn s q) _ e in omega (arith, lies-told s q on .1 .tall);
-    }
 
 -- ── Two rows of numbers as one of nodes ──
 
@@ -134,7 +110,9 @@ module _ (s : Size) (cells : List ℕ) (rules : List Rule) (x : Part) (numbers c
 
       -- ... have fewer rows and columns in all, ...
       pub both-less : (bulk (first .piece) < bulk q) × (bulk (rest .piece) < bulk q)
-      both-less = (first-less d k q (right .from-one) (right .inside), rest-less d k q (right .from-one) (right .inside))
+      both-less =
+          let less = pieces-lessen s cells in
+          (less .first-less d k q (right .from-one) (right .inside), less .rest-less d k q (right .from-one) (right .inside))
 
       -- ... and are judged in turn, the second from the place after the first
       pub parts-in-turn : judgedAt s cells rules x ns at ≡ after (judgedAt s cells rules first ns (at + 1)) (λ f. judgedAt s cells rules rest ns f)

@@ -17,7 +17,6 @@ pub mod Calling
 pub mod Copying
 pub mod LaidOut
 pub mod HeldTo
-pub mod PiecesAlike
 pub mod CodeTells
 pub mod ThinCall
 pub mod JudgingSheets

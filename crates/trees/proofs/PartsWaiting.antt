@@ -13,16 +13,18 @@ use lib.Seq.{getD-set-same, getD-set-other}
 use Rattle.books.specs.declared.rule.Dir.{Dir}
 use Rattle.books.specs.declared.rule.Rule.{Rule}
 use Rattle.books.specs.declared.size.Size.{Size}
+use Rattle.pieces.specs.OnSheet.{onSheet}
 use Rattle.pieces.specs.Parts.{firstPart, restPart}
 use Rattle.pieces.specs.Pieces.{Inside}
 use Rattle.pieces.specs.declared.part.Part.{Part}
+use Rattle.pieces.proofs.ComingApart.{bulk}
 use Rattle.trees.specs.declared.judge.Verdict.{Verdict}
 use Rattle.trees.specs.declared.node.Node.{Node}
 use Rattle.trees.specs.declared.step.Step.the-variants.{Wrong, Cell, Join}
 use Rattle.trees.specs.Judge.{step}
-use Rattle.trees.specs.inner.OnSheets.{onSheet, node, nodesIn, judgedAt, Lying}
+use Rattle.trees.specs.inner.OnSheets.{node, nodesIn, judgedAt, Lying}
 use Rattle.trees.specs.inner.Waiting.{mostWaiting, after, judgedAll, noPart, lined}
-use Rattle.trees.proofs.JudgingSheets.{bulk, wrongAt, none-left, wrong-here, cell-here, both-lie, both-less, parts-in-turn}
+use Rattle.trees.proofs.JudgingSheets.{wrongAt, none-left, wrong-here, cell-here, both-lie, both-less, parts-in-turn}
 
 -- ── One verdict after another ──
 

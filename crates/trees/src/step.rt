@@ -7,8 +7,9 @@ use pieces::part::Part;
 use pieces::part::reach;
 ghost use mathlib.Core.Path.{_≡_};
 ghost use Rattle.books.specs.RuleBytes.{rulesIn};
+ghost use Rattle.pieces.specs.OnSheet.{onSheet};
 ghost use Rattle.trees.specs.Judge.{step};
-ghost use Rattle.trees.specs.inner.OnSheets.{node, onSheet};
+ghost use Rattle.trees.specs.inner.OnSheets.{node};
 
 // It fails; it is a cell; or it joins two parts, of these motifs.
 pub(crate) enum Step {

@@ -1,31 +1,18 @@
 -- What the code judges by: the pieces of a sheet as they come apart in it, with the numbers of the cells' colours.
 use Prim.Native.Nat.{ℕ, _+_, _≤_}
 use mathlib.Core.Path.{_≡_}
-use mathlib.Core.Bool.{true}
 use mathlib.Core.List.{List, [], _∷_}
 use lib.ListN.{length, drop}
-use Rattle.books.specs.Search.{Cutting}
 use Rattle.books.specs.declared.rule.Rule.{Rule}
 use Rattle.books.specs.declared.size.Size.{Size}
 use Rattle.pieces.specs.Most.{most}
-use Rattle.pieces.specs.OnSheet.{coversOn}
-use Rattle.pieces.specs.Parts.{reach, firstPart, restPart}
+use Rattle.pieces.specs.OnSheet.{onSheet}
 use Rattle.pieces.specs.Pieces.{Inside}
 use Rattle.pieces.specs.declared.part.Part.{Part}
 use Rattle.pieces.specs.declared.piece.Piece.{Piece}
 use Rattle.trees.specs.declared.judge.Verdict.{Verdict}
 use Rattle.trees.specs.declared.node.Node.{Node}
 use Rattle.trees.specs.Judge.{Judged, past, failed, judgeIn}
-
-abbrev pub onSheet : Size → List ℕ → Cutting Piece
-onSheet s cells =
-    record {
-      reach = reach;
-      first = firstPart;
-      rest = restPart;
-      Shows = λ c q. coversOn s cells q c ≡ true;
-      shown = λ c q. coversOn s cells q c;
-    }
 
 abbrev pub node : ℕ → ℕ → Node
 node i k = record { rule = i; cut = k }

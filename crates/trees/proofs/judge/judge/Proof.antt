@@ -6,12 +6,12 @@ use lib.ListN.{length, getD}
 use denote.Ref.{now}
 use borrow.Author.Needs.{needs}
 use Rattle.books.specs.RuleBytes.{rulesIn}
-use Rattle.pieces.specs.OnSheet.{two}
+use Rattle.pieces.specs.OnSheet.{two, onSheet}
 use Rattle.pieces.specs.Parts.{firstPart, restPart}
 use Rattle.trees.specs.declared.step.Step.{Step}
 use Rattle.trees.specs.declared.step.Step.the-variants.{Join}
 use Rattle.trees.specs.Judge.{step}
-use Rattle.trees.specs.inner.OnSheets.{onSheet, node}
+use Rattle.trees.specs.inner.OnSheets.{node}
 use Rattle.trees.proofs.JudgingSheets.{parts-here}
 use Rattle.trees.specs.inner.Waiting.{mostWaiting}
 use Rattle.trees.proofs.PartsWaiting.{Judging, judging-starts, on, few-wait, none-due, wrong-due, last-due, cell-due, join-due}

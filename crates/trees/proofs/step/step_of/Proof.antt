@@ -8,7 +8,7 @@ use denote.Ref.{now}
 use borrow.Author.Needs.{needs}
 use Rattle.books.specs.Search.{Cutting}
 use Rattle.pieces.specs.declared.piece.Piece.{Piece}
-use Rattle.trees.specs.inner.OnSheets.{onSheet}
+use Rattle.pieces.specs.OnSheet.{onSheet}
 use Rattle.trees.proofs.StepsOfRows.{no-row, other-head, cell-cut, cell-other, cell-right, join-uncut, join-beyond, join-right}
 use Rattle.trees.proofs.step.step_of.Statement.{statement}
 use Rattle.trees.proofs.step.step_of.Tie as tie
