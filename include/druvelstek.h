@@ -39,7 +39,7 @@ extern "C" {
 
 // The version of rules and calls that this header describes, and the call that tells the archive's. A host compares the
 // two before any other call, so that a header and an archive of two versions are noticed.
-#define DV_VERSION 9
+#define DV_VERSION 10
 uint64_t dv_version(void);
 
 // The greatest sizes.
@@ -109,9 +109,9 @@ enum dv_kind { DV_KIND_COLOUR = 0, DV_KIND_ACROSS = 1, DV_KIND_DOWN = 2 };
 // it has, and the start motif derives no piece.
 enum dv_reason { DV_REASON_COLOUR = 1, DV_REASON_SIZE = 2, DV_REASON_PIECE = 3, DV_REASON_NO_PIECE = 4 };
 
-// The answer numbers. 1 to 8 blame the input in which the fault stands, 1 the first and 2 the second, and have a place
-// in it, counted from 0. All others blame 0, and have place 0 but for 16. 14 is no answer, and that number is not used
-// again.
+// The answer numbers. 1 to 8 and 18 blame the input in which the fault stands, 1 the first and 2 the second, and have a
+// place in it, counted from 0. All others blame 0, and have place 0 but for 16. 14 is no answer, and that number is not
+// used again. A book's faults are 1 to 8 and 18, whichever comes first from the left; dv_tidy alone takes equal rules.
 enum dv_answer_number {
     DV_ACCEPTED = 0,
     DV_ENDS_EARLY = 1,      // input ends inside or before something due; place: its length
@@ -130,7 +130,8 @@ enum dv_answer_number {
     DV_OUT_SHORT = 13,      // output, card or figures slice shorter than the result
     DV_IN_FAMILY = 15,      // the sheet is in the family, so that there is no reason why not
     DV_NOT_A_TREE = 16,     // the lent nodes are no derivation of the sheet; place: the first node that fails, from 0
-    DV_NOT_REWRITTEN = 17   // the start motif of a book to be tidied cannot be rewritten to colours, sizes forgotten
+    DV_NOT_REWRITTEN = 17,  // the start motif of a book to be tidied cannot be rewritten to colours, sizes forgotten
+    DV_RULE_TWICE = 18      // an equal rule stood earlier in the book; place: first byte of the later rule
 };
 
 // A fixed text for each answer number, in English, to stand after what it is said of, as in "the sheet: not in the
@@ -172,6 +173,8 @@ static inline const char *dv_text(unsigned number)
         return "not a derivation of the sheet";
     case DV_NOT_REWRITTEN:
         return "its start motif cannot be rewritten to colours";
+    case DV_RULE_TWICE:
+        return "a rule stands twice: dv_tidy makes a book without it";
     default:
         return "no answer has this number";
     }
@@ -185,8 +188,8 @@ static inline unsigned dv_blamed(uint64_t answer) { return (unsigned)(answer >> 
 static inline size_t dv_place(uint64_t answer) { return (size_t)(answer >> 12 & 0xfffff); }
 static inline size_t dv_count(uint64_t answer) { return (size_t)(answer >> 32); }
 
-// Reads a book. Answers 0 when it is the spelling of a family's contents, and else 1 to 8, blaming 1, for the first
-// fault from the left.
+// Reads a book. Answers 0 when it is the spelling of a family's contents, and else 1 to 8 or 18, blaming 1, for the
+// first fault from the left. A rule that stands twice is told once the later one is read in full.
 uint64_t dv_read_book(const uint8_t *book, size_t book_len);
 
 // Reads a sheet, and answers like dv_read_book. On 0 the count is the number of its job ticket, which has no part in
@@ -226,8 +229,8 @@ uint64_t dv_sheet_size(const uint8_t *sheet, size_t sheet_len);
 static inline size_t dv_size_rows(uint64_t size) { return (size_t)(size & 0xffffffff); }
 static inline size_t dv_size_columns(uint64_t size) { return (size_t)(size >> 32); }
 
-// Decides whether the family derives the sheet of m rows and n columns. Answers, in this order: 1 to 8 blaming 1, the
-// book; 1 to 8 blaming 2, the sheet; 9; 10; 11; 0.
+// Decides whether the family derives the sheet of m rows and n columns. Answers, in this order: 1 to 8 or 18 blaming
+// 1, the book; 1 to 8 blaming 2, the sheet; 9; 10; 11; 0.
 //
 // On 0 and 11 the first dv_work_entries(m, n) entries of work hold the table of pieces: by height, then width, then
 // top row, then left column, each rising; bit A is set exactly when motif A derives that piece, other bits are clear.
@@ -242,8 +245,8 @@ uint64_t dv_derive(const uint8_t *book, size_t book_len, const uint8_t *sheet, s
 // Tells whether nodes that another program chose are a tree that derives the sheet from the start motif, with nothing
 // left over: each node, then the nodes of its left or upper part, then those of its right or lower part. Every rule and
 // every k that derive the sheet are taken, not only those of dv_derive, whose tree is one of them. Answers, in this
-// order: 1 to 8 blaming 1, the book; 1 to 8 blaming 2, the sheet; 16; 0. No slice is written, and any number of nodes
-// may be lent.
+// order: 1 to 8 or 18 blaming 1, the book; 1 to 8 blaming 2, the sheet; 16; 0. No slice is written, and any number of
+// nodes may be lent.
 //
 // A node is judged by the motif and the piece that it is due for, before the nodes of its parts. It fails where no rule
 // has its number, or its rule's head is another motif; where its colour rule stands on a piece of more than one cell,
@@ -254,9 +257,9 @@ uint64_t dv_check_tree(const uint8_t *book, size_t book_len, const uint8_t *shee
                        const struct dv_node *nodes, size_t nodes_len);
 
 // Writes the family's size card, for order entry: bit c-1 of entry r-1 is set exactly when the family has some sheet of
-// r rows and c columns, in any of its colours; other bits are clear. Answers, in this order: 1 to 8 blaming 1; 13 where
-// the card slice has fewer than DV_CARD_ENTRIES entries; 0, with the number of sizes as the count, which is that of the
-// set bits. A refusal writes nothing. Everything else in card is unchanged.
+// r rows and c columns, in any of its colours; other bits are clear. Answers, in this order: 1 to 8 or 18 blaming 1;
+// 13 where the card slice has fewer than DV_CARD_ENTRIES entries; 0, with the number of sizes as the count, which is
+// that of the set bits. A refusal writes nothing. Everything else in card is unchanged.
 uint64_t dv_size_card(const uint8_t *book, size_t book_len, uint32_t *card, size_t card_len);
 
 // Whether a card has a size, of 1 to DV_MOST_ROWS rows and 1 to DV_MOST_COLUMNS columns.
@@ -266,8 +269,8 @@ static inline int dv_has_size(const uint32_t *card, size_t rows, size_t columns)
 }
 
 // Says why a sheet of m rows and n columns is not in the family, for the desk that got 11. Answers, in this order: 1 to
-// 8 blaming 1, the book; 1 to 8 blaming 2, the sheet; 9; 15 where the sheet is in the family; 0, with a reason as the
-// count, taken apart below. It is the first of these that is true:
+// 8 or 18 blaming 1, the book; 1 to 8 blaming 2, the sheet; 9; 15 where the sheet is in the family; 0, with a reason as
+// the count, taken apart below. It is the first of these that is true:
 // - DV_REASON_COLOUR, with row and column: a cell whose colour no rule of the book names, the first such cell, row by
 //   row. Each colour rule names its colour, whether the start motif leads to it or not; the book's list names none.
 // - DV_REASON_SIZE: the family has no sheet of m rows and n columns, as its size card says.
@@ -293,10 +296,10 @@ static inline size_t dv_reason_width(uint64_t answer) { return (size_t)(answer >
 // run has no sheets. What a sheet answers is what dv_derive does with room enough: 0 to 8 or 11. The figures are those
 // of enum dv_figure; what they say of cells and tickets is of accepted sheets alone.
 //
-// Answers, in this order: 13 where the figures slice has fewer than DV_REPORT_ENTRIES entries; 1 to 8 blaming 1, the
-// book; then, blaming 2, with a place in the run: 3 at 0 for a longer run; 1 or 2 for the first length that ends early
-// or is misspelt, and 1, at the run's length, for one that passes the end; 9 where work has fewer than DV_MOST_WORK
-// entries; 0. The lengths of the whole run are judged before its first sheet.
+// Answers, in this order: 13 where the figures slice has fewer than DV_REPORT_ENTRIES entries; 1 to 8 or 18
+// blaming 1, the book; then, blaming 2, with a place in the run: 3 at 0 for a longer run; 1 or 2 for the first length
+// that ends early or is misspelt, and 1, at the run's length, for one that passes the end; 9 where work has fewer than
+// DV_MOST_WORK entries; 0. The lengths of the whole run are judged before its first sheet.
 //
 // On 13 nothing is written. On 0 the first DV_REPORT_ENTRIES entries of figures are the figures and the first
 // DV_MOST_WORK entries of work are 0. On every other answer all these figures are 0, and work is unchanged. Everything
@@ -304,14 +307,14 @@ static inline size_t dv_reason_width(uint64_t answer) { return (size_t)(answer >
 uint64_t dv_run_report(const uint8_t *book, size_t book_len, const uint8_t *run, size_t run_len, uint32_t *work,
                        size_t work_len, uint32_t *figures, size_t figures_len);
 
-// The eight combinations. Each answers, in this order: 1 to 8 blaming 1, the first book; 1 to 8 blaming 2, the second;
-// 12; 13; 0. On 0 the first dv_count bytes of out are the new book. Everything else in out is unchanged.
+// The eight combinations. Each answers, in this order: 1 to 8 or 18 blaming 1, the first book; 1 to 8 or 18 blaming 2,
+// the second; 12; 13; 0. On 0 the first dv_count bytes of out are the new book. Everything else in out is unchanged.
 //
 // F, the first book, has f motifs and start s; G, the second, has g motifs and start t. F's colours come first, then
 // those of G not in F by name, in G's order; G's colour numbers follow their names. G's motifs are raised by f.
 
 // The sheets of either family. New start f+g: F's rules, G's rules, copies of F's rules with head s, then of G's with
-// head t, copies taking the new head.
+// head t, copies taking the new head. A later rule equal to an earlier one is left out, and 12 counts what remains.
 uint64_t dv_either_of(const uint8_t *first, size_t first_len, const uint8_t *second, size_t second_len, uint8_t *out,
                       size_t out_len);
 
@@ -340,11 +343,12 @@ uint64_t dv_flipped(const uint8_t *book, size_t book_len, uint8_t *out, size_t o
 // The family's sheets with rows and columns exchanged: exchanges kinds 1 and 2. Nothing else changes.
 uint64_t dv_transposed(const uint8_t *book, size_t book_len, uint8_t *out, size_t out_len);
 
-// The same family in a book without what nothing uses, which leaves room for combinations. A motif is kept when it can
-// be rewritten to colours with sizes forgotten and can be reached from the start by rules whose motifs all can. Rules
-// that use only kept motifs are kept, but for later copies of an equal rule. The colour list stays, and what is left is
-// renumbered in its old order. The tidied book derives the same sheets, of every size, and tidying it again gives the
-// same bytes.
+// The same family in a book without what nothing uses, which leaves room for combinations, and without later copies of
+// equal rules, so that every call reads it: this call alone takes a book in which a rule stands twice. A motif is kept
+// when it can be rewritten to colours with sizes forgotten and can be reached from the start by rules whose motifs all
+// can. Rules that use only kept motifs are kept, but for later copies of an equal rule. The colour list stays, and what
+// is left is renumbered in its old order. The tidied book derives the same sheets, of every size, and tidying it again
+// gives the same bytes.
 //
 // Answers, in this order: 1 to 8 blaming 1; 17 exactly when the start motif cannot be rewritten to colours with sizes
 // forgotten, so that the family has no sheet at all; 13; 0. On 0 the first dv_count bytes of out are the tidied book.

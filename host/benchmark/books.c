@@ -14,8 +14,8 @@ void press_family(struct family *family, unsigned rules)
     add_rule(family, 0, DV_KIND_ACROSS, 0, 0);
     add_rule(family, 0, DV_KIND_DOWN, 0, 0);
     while (family->rules < rules)
-        add_rule(family, chance_below(MOTIFS), family->rules % 2 == 0 ? DV_KIND_ACROSS : DV_KIND_DOWN,
-                 chance_below(MOTIFS), chance_below(MOTIFS));
+        add_new_rule(family, chance_below(MOTIFS), family->rules % 2 == 0 ? DV_KIND_ACROSS : DV_KIND_DOWN,
+                     chance_below(MOTIFS), chance_below(MOTIFS));
 }
 
 void heavy_book(struct bytes *book, bool turned, unsigned rules)
@@ -28,7 +28,7 @@ void heavy_book(struct bytes *book, bool turned, unsigned rules)
         add_ink(&family.palette, name);
     }
     while (family.rules < rules)
-        add_rule(&family, 0, family.rules % 2 == 0 ? DV_KIND_ACROSS : DV_KIND_DOWN, chance_below(MOTIFS - 1),
-                 chance_below(MOTIFS - 1));
+        add_new_rule(&family, 0, family.rules % 2 == 0 ? DV_KIND_ACROSS : DV_KIND_DOWN, chance_below(MOTIFS - 1),
+                     chance_below(MOTIFS - 1));
     spell_book(&family, book);
 }

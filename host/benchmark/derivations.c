@@ -90,7 +90,7 @@ static void measure_large_reason(void)
     add_rule(&family, 0, DV_KIND_ACROSS, 0, 0);
     add_rule(&family, 0, DV_KIND_DOWN, 0, 0);
     while (family.rules < DV_MOST_RULES)
-        add_rule(&family, chance_from(1, MOTIFS - 1), family.rules % 2 == 0 ? DV_KIND_ACROSS : DV_KIND_DOWN,
+        add_new_rule(&family, chance_from(1, MOTIFS - 1), family.rules % 2 == 0 ? DV_KIND_ACROSS : DV_KIND_DOWN,
                  chance_below(MOTIFS), chance_below(MOTIFS));
     grid.cell[DV_MOST_ROWS / 2 * DV_MOST_COLUMNS + DV_MOST_COLUMNS / 2] = 1;
     measure_reason("why not, 12 by 12, 200 rules", &family, &grid);

@@ -78,8 +78,13 @@ static void expect_sheets(void)
 static void expect_books(void)
 {
     static const uint8_t misspelt[] = {128, 0};
-    struct bytes rules_200 = BYTES(1, 1, 'a', 1, 0, 200, 1);
-    rules_200.length += 200 * 3;
+    // Rules of motif 0, each with two other motifs.
+    struct bytes rules_200 = BYTES(1, 1, 'a', 15, 0, 200, 1);
+    for (uint8_t i = 0; i < 200; i++) {
+        const uint8_t rule[] = {0, 1, i / 15, i % 15};
+        memcpy(rules_200.at + rules_200.length, rule, sizeof rule);
+        rules_200.length += sizeof rule;
+    }
     expect(judged->read_book(misspelt, sizeof misspelt) == (2 | 1 << 8), "P7");
     expect(judged->read_book(rules_200.at, rules_200.length) == 0, "P8");
     expect(makes(TRANSPOSED, &house_transposed), "P9, the book");

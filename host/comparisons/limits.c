@@ -17,7 +17,8 @@ static void plain_palette(struct palette *palette, unsigned count, unsigned leng
     }
 }
 
-// A family whose numbers are each the greatest that may stand there. With no motifs or colours they are 0.
+// A family whose numbers are each the greatest that may stand there, or as little less as makes its rules differ, as
+// far as they can. With no motifs or colours they are 0.
 static void plain_family(struct family *family, unsigned motifs, unsigned rules)
 {
     unsigned motif = motifs == 0 ? 0 : motifs - 1, colours = family->palette.count;
@@ -25,9 +26,11 @@ static void plain_family(struct family *family, unsigned motifs, unsigned rules)
     family->start = motif;
     family->rules = rules;
     for (unsigned i = 0; i < rules; i++) {
-        unsigned kind = i % 3;
-        unsigned colour = colours == 0 ? 0 : colours - 1;
-        family->rule[i] = (struct rule){motif, kind, kind == DV_KIND_COLOUR ? colour : motif, motif};
+        unsigned kind = i % 3, less = i / 3;
+        unsigned colour = colours == 0 ? 0 : colours - 1 - less % colours;
+        unsigned first = motifs == 0 ? 0 : motif - less / motifs % motifs;
+        unsigned second = motifs == 0 ? 0 : motif - less % motifs;
+        family->rule[i] = (struct rule){motif, kind, kind == DV_KIND_COLOUR ? colour : first, second};
     }
 }
 

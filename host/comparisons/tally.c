@@ -10,7 +10,7 @@ enum { ENOUGH = 50, NO_ANSWER = 14 };
 
 static const char *kind;
 static uint64_t seed_of_run;
-static unsigned long comparisons, answers[DV_NOT_REWRITTEN + 1], reasons[DV_REASON_NO_PIECE + 1];
+static unsigned long comparisons, answers[DV_RULE_TWICE + 1], reasons[DV_REASON_NO_PIECE + 1];
 
 void say_kind(void)
 {
@@ -25,7 +25,7 @@ void count_comparison(void)
 // 14 is no answer any more.
 void count_answer(unsigned number)
 {
-    if (number > DV_NOT_REWRITTEN || number == NO_ANSWER)
+    if (number > DV_RULE_TWICE || number == NO_ANSWER)
         wrong("both engines answer with a number that is no answer");
     answers[number]++;
 }
@@ -69,7 +69,7 @@ void compare_kinds(uint64_t seed)
         printf("%s %s %lu", i == 0 ? "" : ",", kind, comparisons - before);
     }
     printf("\n");
-    for (unsigned i = DV_ACCEPTED; i <= DV_NOT_REWRITTEN; i++)
+    for (unsigned i = DV_ACCEPTED; i <= DV_RULE_TWICE; i++)
         if (i != NO_ANSWER)
             expect_enough(answers[i], "answer", i);
     for (unsigned i = DV_REASON_COLOUR; i <= DV_REASON_NO_PIECE; i++)

@@ -37,7 +37,8 @@ static bool tidy(const struct bytes *book, struct bytes *tidied)
     if (dv_number(answer) != DV_ACCEPTED || compare_read_book(tidied) != DV_ACCEPTED)
         wrong("a book cannot be tidied");
     compare_rooms(book, tidied->length);
-    expect_same_sizes(book, tidied);
+    if (compare_read_book(book) == DV_ACCEPTED)
+        expect_same_sizes(book, tidied);
     if (compare_tidy(tidied, ROOMY_OUT, &again) != answer || memcmp(again.at, tidied->at, tidied->length) != 0)
         wrong("a tidied book is not left as it is");
     return true;
@@ -72,10 +73,8 @@ static void litter(struct family *family)
     family->motifs += more;
     for (unsigned i = chance_below(2 * more + 2); i > 0 && family->rules < DV_MOST_RULES; i--)
         add_some_rule(family, old - 1);
-    while (one_in(2) && family->rules < DV_MOST_RULES) {
-        struct rule rule = family->rule[chance_below(family->rules)];
-        add_rule(family, rule.head, rule.kind, rule.first, rule.second);
-    }
+    while (one_in(2))
+        repeat_rule(family);
     shuffle_rules(family);
 }
 
@@ -91,7 +90,8 @@ static void compare_book(const struct family *family, const struct bytes *book)
             spoil_cell(&grid);
         spell_sheet(&grid, &sheet);
         uint64_t answer = compare_derive(book, &sheet, ROOMY_WORK, ROOMY_TREE);
-        if (compare_derive(&tidied, &sheet, ROOMY_WORK, ROOMY_TREE) != answer)
+        uint64_t of_tidied = compare_derive(&tidied, &sheet, ROOMY_WORK, ROOMY_TREE);
+        if (dv_number(answer) != DV_RULE_TWICE && of_tidied != answer)
             wrong("a book and the tidied one differ on a sheet");
     }
 }

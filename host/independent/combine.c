@@ -37,6 +37,16 @@ static void add_copies(struct book *book, unsigned from, unsigned to, unsigned h
     }
 }
 
+// Leaves out each rule of which an equal one stands earlier.
+static void leave_out_copies(struct book *book)
+{
+    unsigned rules = book->rules;
+    book->rules = 0;
+    for (unsigned i = 0; i < rules; i++)
+        if (!independent_stands(book, book->rules, book->rule[i]))
+            book->rule[book->rules++] = book->rule[i];
+}
+
 static uint64_t both_of(struct book *f, struct book *g, const uint8_t *first, size_t first_len, const uint8_t *second,
                         size_t second_len)
 {
@@ -56,6 +66,7 @@ uint64_t independent_either_of(const uint8_t *first, size_t first_len, const uin
     unsigned both = f.rules, start = f.motifs++;
     add_copies(&f, 0, own, f.start, start);
     add_copies(&f, own, both, g.start + raised, start);
+    leave_out_copies(&f);
     f.start = start;
     return independent_written(&f, out, out_len);
 }

@@ -135,19 +135,32 @@ static bool read_rule(struct reader *in, const struct book *book, struct rule *r
     return true;
 }
 
+bool independent_stands(const struct book *book, unsigned rules, struct rule rule)
+{
+    for (unsigned i = 0; i < rules; i++)
+        if (memcmp(&book->rule[i], &rule, sizeof rule) == 0)
+            return true;
+    return false;
+}
+
 static bool at_end(struct reader *in)
 {
     return in->at == in->length || refuse(in, 8, in->at);
 }
 
-static bool read_book(struct reader *in, struct book *book)
+// With or without the test for equal rules.
+static bool read_book(struct reader *in, struct book *book, bool copies_taken)
 {
     if (!read_colours(in, &book->colours) || !read_range(in, 1, 32, &book->motifs) ||
         !read_below(in, book->motifs, &book->start) || !read_range(in, 1, 200, &book->rules))
         return false;
-    for (unsigned i = 0; i < book->rules; i++)
+    for (unsigned i = 0; i < book->rules; i++) {
+        size_t place = in->at;
         if (!read_rule(in, book, &book->rule[i]))
             return false;
+        if (!copies_taken && independent_stands(book, i, book->rule[i]))
+            return refuse(in, 18, place);
+    }
     return at_end(in);
 }
 
@@ -168,7 +181,13 @@ static bool read_sheet(struct reader *in, struct sheet *sheet)
 uint64_t independent_book_of(struct book *book, const uint8_t *bytes, size_t length, unsigned blamed)
 {
     struct reader in = {bytes, length, 0, 0, 0};
-    return read_book(&in, book) ? 0 : independent_answer(in.number, blamed, in.place);
+    return read_book(&in, book, false) ? 0 : independent_answer(in.number, blamed, in.place);
+}
+
+uint64_t independent_untidy_of(struct book *book, const uint8_t *bytes, size_t length)
+{
+    struct reader in = {bytes, length, 0, 0, 0};
+    return read_book(&in, book, true) ? 0 : independent_answer(in.number, 1, in.place);
 }
 
 uint64_t independent_sheet_of(struct sheet *sheet, const uint8_t *bytes, size_t length, unsigned blamed)

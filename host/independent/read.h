@@ -2,6 +2,7 @@
 #ifndef INDEPENDENT_READ_H
 #define INDEPENDENT_READ_H
 
+#include <stdbool.h>
 #include <stddef.h>
 #include <stdint.h>
 
@@ -51,9 +52,15 @@ uint64_t independent_answer(unsigned number, unsigned blamed, size_t place);
 // The number of the colour with this name, or the list's count where it has none.
 unsigned independent_colour_named(const struct colours *colours, struct name name);
 
-// Each reads its input whole and answers 0, or 1 to 8 blaming the input of that number.
+// Whether an equal rule stands among the first so many of a book.
+bool independent_stands(const struct book *book, unsigned rules, struct rule rule);
+
+// Each reads its input whole and answers 0, or 1 to 8, for a book also 18, blaming the input of that number.
 uint64_t independent_book_of(struct book *book, const uint8_t *bytes, size_t length, unsigned blamed);
 uint64_t independent_sheet_of(struct sheet *sheet, const uint8_t *bytes, size_t length, unsigned blamed);
+
+// A book that is to be tidied, lent as the first input: equal rules are taken, and 18 is not given.
+uint64_t independent_untidy_of(struct book *book, const uint8_t *bytes, size_t length);
 
 // Reads the number at a place of an input, of any value, and moves the place past it. Answers 0, or 1 or 2 blaming the
 // input of that number.

@@ -1,7 +1,6 @@
 // Tidying: a motif is kept that can be rewritten to colours and is reached from the start; then what is kept is
 // renumbered. Sets of motifs are masks.
 #include <stdbool.h>
-#include <string.h>
 
 #include "independent.h"
 #include "write.h"
@@ -48,20 +47,11 @@ static uint32_t reached(const struct book *book, uint32_t can)
     return reached;
 }
 
-// Whether a rule stands among the first so many.
-static bool stands(const struct book *book, unsigned rules, struct rule rule)
-{
-    for (unsigned i = 0; i < rules; i++)
-        if (memcmp(&book->rule[i], &rule, sizeof rule) == 0)
-            return true;
-    return false;
-}
-
 uint64_t independent_tidy(const uint8_t *book, size_t book_len, uint8_t *out, size_t out_len)
 {
     struct book old, new;
     uint8_t number[32] = {0};
-    uint64_t refusal = independent_book_of(&old, book, book_len, 1);
+    uint64_t refusal = independent_untidy_of(&old, book, book_len);
     if (refusal != 0)
         return refusal;
     uint32_t can = rewritten(&old), kept = can & reached(&old, can);
@@ -83,7 +73,7 @@ uint64_t independent_tidy(const uint8_t *book, size_t book_len, uint8_t *out, si
             rule.first = number[rule.first];
             rule.second = number[rule.second];
         }
-        if (!stands(&new, new.rules, rule))
+        if (!independent_stands(&new, new.rules, rule))
             new.rule[new.rules++] = rule;
     }
     return independent_written(&new, out, out_len);

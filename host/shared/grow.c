@@ -6,22 +6,26 @@
 
 void grow_family(struct family *family, unsigned colours, unsigned motifs, unsigned rules)
 {
+    unsigned different = motifs * (colours + 2 * motifs * motifs);
     grow_palette(&family->palette, colours);
     family->motifs = motifs;
     family->rules = 0;
-    while (family->rules < rules) {
-        if (family->rules > 0 && one_in(20)) {
-            struct rule again = family->rule[chance_below(family->rules)];
-            family->rule[family->rules++] = again;
-        } else if (one_in(3)) {
-            add_rule(family, chance_below(motifs), DV_KIND_COLOUR, chance_below(colours), 0);
-        } else {
-            add_rule(family, chance_below(motifs), chance_from(DV_KIND_ACROSS, DV_KIND_DOWN), chance_below(motifs),
-                     chance_below(motifs));
-        }
+    while (family->rules < (rules < different ? rules : different)) {
+        if (one_in(3))
+            add_new_rule(family, chance_below(motifs), DV_KIND_COLOUR, chance_below(colours), 0);
+        else
+            add_new_rule(family, chance_below(motifs), chance_from(DV_KIND_ACROSS, DV_KIND_DOWN), chance_below(motifs),
+                         chance_below(motifs));
     }
     // Most often a motif with rules of its own.
-    family->start = one_in(8) ? chance_below(motifs) : family->rule[chance_below(rules)].head;
+    family->start = one_in(8) ? chance_below(motifs) : family->rule[chance_below(family->rules)].head;
+}
+
+void repeat_rule(struct family *family)
+{
+    struct rule again = family->rule[chance_below(family->rules)];
+    if (family->rules < DV_MOST_RULES)
+        family->rule[family->rules++] = again;
 }
 
 void grow_some_family(struct family *family)

@@ -11,8 +11,11 @@ bool same_ink(const struct ink *one, const struct ink *other);
 // A colour list of so many names, many of them alike but for a letter or a blank inside.
 void grow_palette(struct palette *palette, unsigned count);
 
-// A family within these numbers.
+// A family within these numbers, no two of its rules equal; so it may have fewer rules.
 void grow_family(struct family *family, unsigned colours, unsigned motifs, unsigned rules);
+
+// One of its rules once more at the end, where there is room.
+void repeat_rule(struct family *family);
 
 // A family of a size that is most often small, now and then as large as a book can be.
 void grow_some_family(struct family *family);

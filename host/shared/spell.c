@@ -14,6 +14,16 @@ void add_rule(struct family *family, unsigned head, unsigned kind, unsigned firs
     family->rule[family->rules++] = (struct rule){head, kind, first, second};
 }
 
+void add_new_rule(struct family *family, unsigned head, unsigned kind, unsigned first, unsigned second)
+{
+    for (unsigned i = 0; i < family->rules; i++) {
+        struct rule rule = family->rule[i];
+        if (rule.head == head && rule.kind == kind && rule.first == first && rule.second == second)
+            return;
+    }
+    add_rule(family, head, kind, first, second);
+}
+
 static void spell(struct bytes *out, unsigned number)
 {
     for (; number > 127; number /= 128)

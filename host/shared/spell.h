@@ -48,6 +48,9 @@ struct run {
 void add_ink(struct palette *palette, const char *name);
 void add_rule(struct family *family, unsigned head, unsigned kind, unsigned first, unsigned second);
 
+// The same, but nothing where the family has that rule already.
+void add_new_rule(struct family *family, unsigned head, unsigned kind, unsigned first, unsigned second);
+
 void spell_book(const struct family *family, struct bytes *book);
 void spell_sheet(const struct grid *grid, struct bytes *sheet);
 

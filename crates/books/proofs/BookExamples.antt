@@ -3,14 +3,15 @@ use Prim.Native.Nat.{ℕ}
 use mathlib.Core.Path.{_≡_, refl}
 use mathlib.Core.List.{List, [], _∷_, _++_}
 use lib.ListN.{length}
-use Rattle.names.specs.Pick.{fault}
+use Rattle.names.specs.Pick.{andThen, orElse, fault}
 use Rattle.names.specs.Number.{lastGroup, longerAt, numberAt, numberIn, numberBelow, spellNumber}
 use Rattle.names.specs.Name.{Name, leastByte, nameOf, sameName, listed}
 use Rattle.names.specs.Colours.{findName, colourAt, coloursOf}
 use Rattle.books.specs.Contents.{Contents}
+use Rattle.books.specs.Equal.{sameRule, stands}
 use Rattle.books.specs.Lent.{contentsOf}
-use Rattle.books.specs.Rules.{colourNumberAt, joinAt, bodyAt, ruleAt, rulesAt}
-use Rattle.books.specs.Book.{figuresAt, ruledAt, figuredAt, bookOf}
+use Rattle.books.specs.Rules.{colourNumberAt, joinAt, bodyAt, ruleAt, repeats, rulesAt}
+use Rattle.books.specs.Book.{figuresAt, ruledAt, figuredAt, bookBy, bookOf, untidyOf}
 use Rattle.books.specs.SpellBook.{spellBook}
 use Rattle.books.specs.declared.rule.Body.the-variants.{Colour, Across, Down}
 
@@ -45,6 +46,10 @@ houseContents =
       rules = record { head = 0; body = Across 0 0 } ∷ record { head = 0; body = Down 1 2 } ∷ record { head = 1; body = Colour 0 } ∷ record { head = 2; body = Colour 1 } ∷ [];
     }
 
+-- its last rule stands twice
+pub twice : List ℕ
+twice = book (3 ∷ 0 ∷ 5 ∷ []) (joins ++ (colours ++ (2 ∷ 0 ∷ 1 ∷ [])))
+
 pub record Books : Type 0 where
   pub bytes-34 : length house ≡ 34
   pub fine : bookOf house .fault ≡ fault 0 0
@@ -61,11 +66,16 @@ pub record Books : Type 0 where
   pub kind-3 : bookOf (book (3 ∷ 0 ∷ 1 ∷ []) (0 ∷ 3 ∷ 0 ∷ 0 ∷ [])) .fault ≡ fault 7 21
   pub colour-2 : bookOf (book (3 ∷ 0 ∷ 1 ∷ []) (0 ∷ 0 ∷ 2 ∷ [])) .fault ≡ fault 6 22
   pub lower-3 : bookOf (book (3 ∷ 0 ∷ 1 ∷ []) (0 ∷ 2 ∷ 0 ∷ 3 ∷ [])) .fault ≡ fault 6 23
+  pub last-twice : bookOf twice .fault ≡ fault 18 34
+  pub last-twice-untidy : untidyOf twice .fault ≡ fault 0 0
+  pub first-again : bookOf (book (3 ∷ 0 ∷ 5 ∷ []) (joins ++ (colours ++ (0 ∷ 1 ∷ 0 ∷ 0 ∷ [])))) .fault ≡ fault 18 34
+  pub other-head : bookOf (book (3 ∷ 0 ∷ 5 ∷ []) (joins ++ (colours ++ (1 ∷ 0 ∷ 1 ∷ [])))) .fault ≡ fault 0 0
 
 pub books : Books
 unfolding
-    house houseContents book joins colours slateC slateU spellNumber bookOf figuredAt figuresAt ruledAt rulesAt ruleAt bodyAt joinAt colourNumberAt
+    house houseContents twice book joins colours slateC slateU spellNumber bookBy figuredAt figuresAt ruledAt rulesAt ruleAt bodyAt joinAt colourNumberAt
     numberIn numberBelow numberAt longerAt lastGroup coloursOf colourAt nameOf leastByte findName listed sameName
+    repeats andThen stands orElse sameRule
 books =
     record {
       bytes-34 = refl;
@@ -83,4 +93,8 @@ books =
       kind-3 = refl;
       colour-2 = refl;
       lower-3 = refl;
+      last-twice = refl;
+      last-twice-untidy = refl;
+      first-again = refl;
+      other-head = refl;
     }

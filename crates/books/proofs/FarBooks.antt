@@ -1,10 +1,12 @@
 -- A book is read or refused within 5,164 bytes, so that bytes farther on change nothing: each part is read where the one before it ends, and has its own bound.
 use Prim.Native.Nat.{ℕ, zero, suc, _+_, _*_, _<_, _≤_}
-use mathlib.Core.Path.{_≡_, refl}
+use mathlib.Core.Path.{_≡_, refl, ap}
+use mathlib.Core.Bool.{Bool}
 use mathlib.Core.List.{List, _++_}
 use native.Mathlib.Omega.{arith}
 use borrow.Author.Tests.{lt-ltb}
-use lib.ListN.{length, set, length-append}
+use lib.ListN.{length, take, set, length-append}
+use Rattle.names.specs.Pick.{pick, fault}
 use Rattle.names.specs.Onward.{ending}
 use Rattle.names.specs.Number.{numberIn, numberBelow}
 use Rattle.names.specs.Colours.{coloursOf}
@@ -13,8 +15,8 @@ use Rattle.names.specs.declared.colours.Colours.{Colours}
 use Rattle.names.proofs.ReadingNumbers.{number-in, number-below}
 use Rattle.names.proofs.ReadingColours.{colours-lie}
 use Rattle.names.proofs.FarBytes.{onward-same, faultless-same, number-in-far, number-below-far, colours-far}
-use Rattle.books.specs.Rules.{colourNumberAt, joinAt, bodyAt, ruleAt, refusedRules, afterRule, rulesFrom, rulesAt}
-use Rattle.books.specs.Book.{refusedBook, figuresAt, afterFigures, ruledAt, figuredAt, bookOf}
+use Rattle.books.specs.Rules.{colourNumberAt, joinAt, bodyAt, ruleAt, refusedRules, afterRule, repeats, rulesFrom, rulesAt}
+use Rattle.books.specs.Book.{refusedBook, figuresAt, afterFigures, ruledAt, figuredAt, bookBy}
 use Rattle.books.specs.Keeps.{mostMotifs, mostRules}
 use Rattle.books.specs.declared.rule.Rule.{Rule}
 use Rattle.books.specs.declared.bodies.BodyRead.the-variants.{Refused as RefusedBody}
@@ -43,7 +45,7 @@ module _ {ℓ} {A : Type ℓ} (refuse : Fault → A) where
   pub ending-same : (t u : List ℕ) (at : ℕ) (x y : A) → at < length t → ending refuse (t ++ u) at x ≡ ending refuse t at y
   ending-same t u at x y h = simp (lt-ltb at (length (t ++ u)) (omega (arith, length-append t u)), lt-ltb at (length t) h)
 
-module _ (t u : List ℕ) where
+module _ (strict : Bool) (t u : List ℕ) where
   -- ── Rules ──
 
   colour-number-far : (at colours : ℕ) → at + 2 < length t → colourNumberAt (t ++ u) at colours ≡ colourNumberAt t at colours
@@ -71,13 +73,15 @@ module _ (t u : List ℕ) where
       (λ head next e. rw (body-far next motifs colours (omega (arith, number-below t at motifs 6 head next e .near))))
 
   rules-from-far : (motifs colours k : ℕ) (rules : List Rule) (i at : ℕ) → at + 12 * k < length t
-      → rulesFrom (t ++ u) motifs colours rules i at k ≡ rulesFrom t motifs colours rules i at k
+      → rulesFrom strict (t ++ u) motifs colours rules i at k ≡ rulesFrom strict t motifs colours rules i at k
   rules-from-far motifs colours zero rules i at h = refl
   rules-from-far motifs colours (suc k) rules i at h =
       after-rule-same refusedRules (ruleAt (t ++ u) at motifs colours) (ruleAt t at motifs colours) _ _ (rule-far at motifs colours (omega arith))
-      (λ x next e. rules-from-far motifs colours k (set rules i x) (i + 1) next (omega (arith, rule-near t at motifs colours x next e)))
+      (λ x next e. ap (pick (repeats strict (take i rules) x) (refusedRules (fault 18 at)))
+      (rules-from-far motifs colours k (set rules i x) (i + 1) next (omega (arith, rule-near t at motifs colours x next e))))
 
-  rules-far : (at motifs colours count : ℕ) → at + 12 * count < length t → rulesAt (t ++ u) at motifs colours count ≡ rulesAt t at motifs colours count
+  rules-far : (at motifs colours count : ℕ) → at + 12 * count < length t
+      → rulesAt strict (t ++ u) at motifs colours count ≡ rulesAt strict t at motifs colours count
   unfolding rulesAt
   rules-far at motifs colours count h = rules-from-far motifs colours count _ 0 at h
 
@@ -94,14 +98,14 @@ module _ (t u : List ℕ) where
 
   -- the rules are the same, and bytes follow them in both
   ruled-far : (c : Colours) (g : Figures) (at : ℕ) → g .count ≤ mostRules → at ≤ length t → at + 12 * mostRules < length t
-      → ruledAt (t ++ u) c g (rulesAt t at (g .motifs) (c .count) (g .count)) ≡ ruledAt t c g (rulesAt t at (g .motifs) (c .count) (g .count))
+      → ruledAt (t ++ u) c g (rulesAt strict t at (g .motifs) (c .count) (g .count)) ≡ ruledAt t c g (rulesAt strict t at (g .motifs) (c .count) (g .count))
   unfolding ruledAt
   ruled-far c g at few inside h =
-      let r = rulesAt t at (g .motifs) (c .count) (g .count) in
+      let r = rulesAt strict t at (g .motifs) (c .count) (g .count) in
       faultless-same refusedBook (r .fault) _ _
-      (λ z. ending-same refusedBook t u (r .next) _ _ (omega (arith, rules-lie t at (g .motifs) (c .count) (g .count) few inside z .near)))
+      (λ z. ending-same refusedBook t u (r .next) _ _ (omega (arith, rules-lie strict t at (g .motifs) (c .count) (g .count) few inside z .near)))
 
-  figured-far : (c : Colours) (at : ℕ) → at + 9 + 12 * mostRules < length t → figuredAt (t ++ u) c at ≡ figuredAt t c at
+  figured-far : (c : Colours) (at : ℕ) → at + 9 + 12 * mostRules < length t → figuredAt strict (t ++ u) c at ≡ figuredAt strict t c at
   unfolding figuredAt
   figured-far c at h =
       after-figures-same refusedBook (figuresAt (t ++ u) at) (figuresAt t at) _ _ (figures-far at (omega arith))
@@ -110,8 +114,8 @@ module _ (t u : List ℕ) where
       rw (rules-far next (g .motifs) (c .count) (g .count) (omega (arith, l .near, l .rules-few)))
       (ruled-far c g next (l .rules-few) (l .inside) (omega (arith, l .near))))
 
-  pub book-far : farthestBook < length t → bookOf (t ++ u) ≡ bookOf t
-  unfolding bookOf
+  pub book-far : farthestBook < length t → bookBy strict (t ++ u) ≡ bookBy strict t
+  unfolding bookBy
   book-far h =
       rw (colours-far t u (omega arith))
       (faultless-same refusedBook (coloursOf t .fault) _ _ (λ z. figured-far (coloursOf t .colours) (coloursOf t .next) (omega (arith, colours-lie t z .near))))

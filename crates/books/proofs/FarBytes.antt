@@ -3,6 +3,7 @@
 use Prim.Native.Nat.{ℕ, _<_, _≤_}
 use mathlib.Core.Path.{_≡_, sym, ap, _∙_}
 use mathlib.Core.Logic.{⊎-elim}
+use mathlib.Core.Bool.{true}
 use mathlib.Core.List.{List, _++_}
 use native.Mathlib.Omega.{arith}
 use lib.ListN.{length, take, drop, take-append-drop}
@@ -33,7 +34,7 @@ front-of f limit far s n h =
 
 -- the contents of a book, and of a sheet, that is cut off far on
 contents-far : (t u : List ℕ) → farthestBook < length t → contentsOf (t ++ u) ≡ contentsOf t
-contents-far t u h = rw (book-far t u h, names-in-far t u (bookOf t .family .colours) (book-places t))
+contents-far t u h = rw (book-far true t u h, names-in-far t u (bookOf t .family .colours) (book-places t))
 
 grid-far : (t u : List ℕ) → farthest < length t → gridIn (t ++ u) (sheetOf (t ++ u) .sheet) ≡ gridIn t (sheetOf t .sheet)
 grid-far t u h = rw (sheet-far t u h, names-in-far t u (sheetOf t .sheet .colours) (sheet-places t))
@@ -48,7 +49,7 @@ pub record Enough (s : List ℕ) (n : ℕ) : Type 0 where
 pub enough : (s : List ℕ) (n : ℕ) → 8192 ≤ n → Enough s n
 enough s n h =
     record {
-      book-fault = ap (λ (r : BookRead). r .fault) (front-of bookOf farthestBook book-far s n (omega arith));
+      book-fault = ap (λ (r : BookRead). r .fault) (front-of bookOf farthestBook (book-far true) s n (omega arith));
       book-contents = front-of (λ (x : List ℕ). contentsOf x) farthestBook contents-far s n (omega arith);
       sheet-fault = ap (λ (r : SheetRead). r .fault) (front-of sheetOf farthest sheet-far s n (omega arith));
       sheet-grid = front-of (λ (x : List ℕ). gridIn x (sheetOf x .sheet)) farthest grid-far s n (omega arith);

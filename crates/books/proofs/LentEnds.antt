@@ -1,7 +1,7 @@
 -- A lent book or sheet ends in its fault or goes on with what it holds: what holds of each way holds of the call. Each way is read off the fault's number.
 use Prim.Native.Nat.{ℕ}
 use mathlib.Core.Path.{_≡_}
-use mathlib.Core.Bool.{false}
+use mathlib.Core.Bool.{Bool, true, false}
 use mathlib.Core.List.{List}
 use borrow.Author.Tests.{eq-eqb, ne-eqb, eqb-true, eqb-false}
 use lib.Dec.{eqb}
@@ -9,9 +9,9 @@ use Rattle.names.specs.Pick.{pick}
 use Rattle.names.specs.declared.number.Fault.{Fault}
 use Rattle.names.proofs.Picking.{pick-ind}
 use Rattle.books.specs.Answer.{answer, blaming}
-use Rattle.books.specs.Book.{bookOf}
+use Rattle.books.specs.Book.{bookBy, bookOf}
 use Rattle.books.specs.Contents.{Contents}
-use Rattle.books.specs.Lent.{contentsOf, pictureOf, Accepted, lentBook, lentSheet, lentBoth}
+use Rattle.books.specs.Lent.{contentsBy, contentsOf, pictureOf, Accepted, lentBookBy, lentBook, lentSheet, lentBoth}
 use Rattle.books.specs.Picture.{Picture}
 use Rattle.books.specs.Sheet.{sheetOf}
 use Rattle.books.specs.declared.answer.Answer.{Answer}
@@ -35,10 +35,10 @@ module _ {A : Type 0} (P : A → Type 0) (refuse : Answer → A) where
       (λ e. fine (eqb-true (f .number) 0 e))
       (λ e. blamed (λ (a : Answer). P (refuse a)) input f e (faulty (eqb-false (f .number) 0 e)))
 
-  pub book-ends : (input : ℕ) (book : List ℕ) (go : Contents → A)
-      → ((bookOf book .fault .number ≡ 0 → ⊥) → P (refuse (answer (bookOf book .fault .number) input (bookOf book .fault .place))))
-      → (bookOf book .fault .number ≡ 0 → P (go (contentsOf book))) → P (lentBook input book refuse go)
-  book-ends input book go = read-ends input (bookOf book .fault) (contentsOf book) go
+  pub book-ends : (strict : Bool) (input : ℕ) (book : List ℕ) (go : Contents → A)
+      → ((bookBy strict book .fault .number ≡ 0 → ⊥) → P (refuse (answer (bookBy strict book .fault .number) input (bookBy strict book .fault .place))))
+      → (bookBy strict book .fault .number ≡ 0 → P (go (contentsBy strict book))) → P (lentBookBy strict input book refuse go)
+  book-ends strict input book go = read-ends input (bookBy strict book .fault) (contentsBy strict book) go
 
   pub sheet-ends : (input : ℕ) (sheet : List ℕ) (go : Picture → A)
       → ((sheetOf sheet .fault .number ≡ 0 → ⊥) → P (refuse (answer (sheetOf sheet .fault .number) input (sheetOf sheet .fault .place))))
@@ -53,7 +53,7 @@ module _ {A : Type 0} (P : A → Type 0) (refuse : Answer → A) where
 
   pub both-end : (book sheet : List ℕ) (go : Contents → Picture → A) → BothEnd book sheet go → P (lentBoth book sheet refuse go)
   both-end book sheet go ways =
-      book-ends 1 book (λ b. lentSheet 2 sheet refuse (go b)) (ways .in-book)
+      book-ends true 1 book (λ b. lentSheet 2 sheet refuse (go b)) (ways .in-book)
       (λ z. sheet-ends 2 sheet (go (contentsOf book)) (ways .in-sheet z) (λ y. ways .in-neither (record { book-fine = z; sheet-fine = y })))
 
 -- ── The order of the answers ──

@@ -8,25 +8,17 @@ use lib.ListN.{length, getD, take, set, replicate, length-append, length-map, le
 use lib.Seq.{take-suc, take-all, take-at, set-at, length-take-le}
 use borrow.Author.Tests.{eq-eqb, ne-eqb}
 use Rattle.books.specs.Book.{bookOf}
+use Rattle.books.specs.Equal.{fourOf}
 use Rattle.books.specs.Keeps.{mostRules}
 use Rattle.books.specs.Lent.{contentsOf}
 use Rattle.books.specs.Picture.{joins}
 use Rattle.books.specs.declared.lent.BookFigures.{BookFigures}
 use Rattle.books.specs.declared.rule.Rule.{Rule}
-use Rattle.books.specs.declared.rule.Body.{Body}
 use Rattle.books.specs.declared.rule.Body.the-variants.{Colour, Across, Down}
 use Rattle.books.specs.Rules.{noRule}
-use Rattle.books.specs.RuleBytes.{bodied, fourOf, lentRules, BookInto, kindDir, ruleIn, rulesIn}
+use Rattle.books.specs.RuleBytes.{lentRules, BookInto, kindDir, ruleIn, rulesIn}
+use Rattle.books.proofs.EqualRules.{rule-back}
 use Rattle.books.proofs.ReadingBooks.{book-count, book-size}
-
-body-back : (a : ℕ) (x : Body) → ruleIn (bodied a x) ≡ record { head = a; body = x }
-unfolding ruleIn kindDir
-body-back a (Colour c) = refl
-body-back a (Across l r) = refl
-body-back a (Down u v) = refl
-
-pub rule-back : (r : Rule) → ruleIn (fourOf r) ≡ r
-rule-back r = body-back (r .head) (r .body)
 
 -- A row of kind 0 has a colour, and any other a join in the direction of its kind.
 module _ (x : List ℕ) where
@@ -104,8 +96,12 @@ unfolding lentRules
 lent-next = laid-next fourOf (replicate 4 0)
 
 -- more than all cannot be laid out
+pub laid-all : {A : Type 0} (form : Rule → A) (none : A) (rules : List Rule) (count : ℕ) → length rules ≤ mostRules → mostRules ≤ count
+    → map form (take mostRules rules) ++ replicate (mostRules - mostRules) none ≡ map form (take count rules) ++ replicate (mostRules - count) none
+laid-all form none rules count h g =
+    let nothing : mostRules - count ≡ 0 = omega arith in
+    rw (nothing, take-all mostRules rules h, take-all count rules (omega arith))
+
 pub lent-all : (rules : List Rule) (count : ℕ) → length rules ≤ mostRules → mostRules ≤ count → lentRules rules mostRules ≡ lentRules rules count
 unfolding lentRules
-lent-all rules count h g =
-    let none : mostRules - count ≡ 0 = omega arith in
-    rw (none, take-all mostRules rules h, take-all count rules (omega arith))
+lent-all = laid-all fourOf (replicate 4 0)

@@ -1,4 +1,8 @@
 pub mod Plainly
+pub mod EqualRules
+pub mod Firsts
+pub mod LeavingOut
+pub mod EqualNumbers
 pub mod LentRules
 pub mod SamePictures
 pub mod Gluing
@@ -15,10 +19,14 @@ pub mod StandingNumbers
 pub mod ReadingBodies
 pub mod ReadingRules
 pub mod OneByOne
+pub mod RulesGoOn
+pub mod RulesHeld
 pub mod RuleExactly
 pub mod ReadingFigures
 pub mod ReadingBooks
+pub mod BookOnward
 pub mod BookExactly
+pub mod TwoReaders
 pub mod SpellingRules
 pub mod SpellingBooks
 pub mod LongestBook

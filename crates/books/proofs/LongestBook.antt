@@ -1,19 +1,18 @@
 -- The longest book has 2,625 bytes of colours, 4 of figures, and 4 for each rule: 3,429 with 200 rules. Its spelling is made of bytes.
 use Prim.Native.Nat.{ℕ, zero, suc, _+_, _*_, _/_, _%_, _<_, _≤_}
-use mathlib.Core.Path.{_≡_, refl, sym, ap, _∙_}
+use mathlib.Core.Path.{_≡_, refl, ap}
 use mathlib.Core.List.{List, [], _∷_, _++_, List·Memᴰ, List·Memᴰ·head, List·Memᴰ·tail, List·Memᴰ·cases-cons, List·Memᴰ·not-nil}
 use mathlib.Core.Logic.{⊎-elim}
 use native.Mathlib.Omega.{arith}
-use lib.ListN.{length, getD, length-append}
+use lib.ListN.{length, length-append}
 use Rattle.names.specs.Number.{spellNumber}
-use Rattle.names.specs.Spelling.{spellColours, mostColours}
+use Rattle.names.specs.Spelling.{spellColours, mostColours, Distinct}
 use Rattle.names.specs.Bytes.{Bytes}
 use Rattle.names.proofs.SpellingNumbers.{spell-short, spell-two}
 use Rattle.books.specs.Contents.{Contents}
 use Rattle.books.specs.Keeps.{mostMotifs, mostRules, BodyFits, RuleFits, Keeps}
 use Rattle.books.specs.Lent.{contentsOf}
 use Rattle.books.specs.Book.{bookOf}
-use Rattle.books.specs.Rules.{noRule}
 use Rattle.books.specs.SpellBook.{spellBody, spellRule, spellRules, spellBook}
 use Rattle.books.specs.declared.rule.Rule.{Rule}
 use Rattle.books.specs.declared.rule.Body.{Body}
@@ -95,10 +94,20 @@ joins-length (suc k) n h =
       joins-length k (suc n) (omega arith),
     )
 
-joins-at : (k n i : ℕ) → i < k → getD (joins n k) i noRule ≡ join (n + i)
-joins-at zero n i h = absurd (omega arith)
-joins-at (suc k) n zero h = ap join (omega arith)
-joins-at (suc k) n (suc i) h = joins-at k (suc n) i (omega arith) ∙ ap join (omega arith)
+join-once : (m n : ℕ) → join m ≡ join n → m ≡ n
+join-once m n e =
+    let bodies : Across (m / mostMotifs) (m % mostMotifs) ≡ Across (n / mostMotifs) (n % mostMotifs) = ap (λ (r : Rule). r .body) e in
+    let left : m / mostMotifs ≡ n / mostMotifs = cc in
+    let right : m % mostMotifs ≡ n % mostMotifs = cc in
+    omega arith
+
+joins-later : (k m n : ℕ) → m < n → List·Memᴰ (join m) (joins n k) → ⊥
+joins-later zero m n h i = List·Memᴰ·not-nil i
+joins-later (suc k) m n h i = ⊎-elim (λ e. omega (arith, join-once m n e)) (joins-later k m (suc n) (omega arith)) (List·Memᴰ·cases-cons i)
+
+joins-distinct : (k n : ℕ) → Distinct (joins n k)
+joins-distinct zero n = tt
+joins-distinct (suc k) n = (joins-later k n (suc n) (omega arith), joins-distinct k (suc n))
 
 -- as many colours, motifs and joins as a book may have
 pub longest : Contents
@@ -115,6 +124,7 @@ longest-keeps =
       rules-some = omega arith;
       rules-few = omega arith;
       sound = record { start-fits = omega arith; rules-fit = joins-fit (length longestNames) mostRules 0 (omega arith) };
+      no-copies = joins-distinct mostRules 0;
     }
 
 pub longest-spelling : length (spellBook longest) ≡ longestLength
@@ -138,13 +148,3 @@ longest-spelling =
       ap length (spell-two (length (joins 0 mostRules)) (omega arith) (omega arith)),
       joins-length mostRules 0 (omega arith),
     )
-
--- no rule of it stands twice
-pub longest-rules : (i j : ℕ) → i < mostRules → j < mostRules → getD (longest .rules) i noRule ≡ getD (longest .rules) j noRule → i ≡ j
-unfolding longest
-longest-rules i j hi hj e =
-    let same : join i ≡ join j = sym (joins-at mostRules 0 i hi ∙ ap join (omega arith)) ∙ (e ∙ (joins-at mostRules 0 j hj ∙ ap join (omega arith))) in
-    let bodies : Across (i / mostMotifs) (i % mostMotifs) ≡ Across (j / mostMotifs) (j % mostMotifs) = ap (λ (r : Rule). r .body) same in
-    let left : i / mostMotifs ≡ j / mostMotifs = cc in
-    let right : i % mostMotifs ≡ j % mostMotifs = cc in
-    omega arith

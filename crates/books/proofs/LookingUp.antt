@@ -17,7 +17,8 @@ use Rattle.books.specs.Rules.{noRule}
 use Rattle.books.specs.Book.{bookOf}
 use Rattle.books.specs.Size.{greatest}
 use Rattle.books.specs.Sheet.{sheetOf}
-use Rattle.books.specs.Lookups.{ruleWith, ruleOf, sizeIn, sizeOf, kindOf, firstHeld, secondHeld, packedRule, packedFound, packedSize, ruleShown, sizeShown, version}
+use Rattle.books.specs.Lookups.{ruleWith, ruleOf, sizeIn, sizeOf, packedRule, packedFound, packedSize, ruleShown, sizeShown, version}
+use Rattle.books.specs.RuleNumbers.{kindOf, firstHeld, secondHeld}
 use Rattle.books.specs.declared.rule.Rule.{Rule}
 use Rattle.books.specs.declared.rule.Body.{Body}
 use Rattle.books.specs.declared.rule.Body.the-variants.{Colour, Across, Down}

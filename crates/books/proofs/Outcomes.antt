@@ -11,24 +11,24 @@ use borrow.Author.Tests.{eq-eqb, ne-eqb, leb-true, leb-false}
 use Rattle.names.specs.Pick.{pick}
 use Rattle.names.proofs.Picking.{pick-ind}
 use Rattle.books.specs.Answer.{answer, plain, blaming, packed, Packs, answerIn, countIn}
-use Rattle.books.specs.Book.{bookOf}
+use Rattle.books.specs.Book.{bookBy}
 use Rattle.books.specs.Contents.{Contents}
 use Rattle.books.specs.ContentsIn.{contentsIn}
 use Rattle.books.specs.Keeps.{Keeps}
-use Rattle.books.specs.Lent.{contentsOf}
-use Rattle.books.specs.NewBook.{IsBook}
-use Rattle.books.specs.Outcome.{Outcome, refused, spelled, written, lent, Leaves}
+use Rattle.books.specs.Lent.{contentsBy}
+use Rattle.books.specs.NewBook.{IsBookBy}
+use Rattle.books.specs.Outcome.{Outcome, refused, spelled, written, lentBy, Leaves}
 use Rattle.books.specs.SpellBook.{spellBook}
 use Rattle.books.specs.declared.answer.Answer.{Answer}
 use Rattle.books.specs.declared.book.BookRead.{BookRead}
 use Rattle.books.proofs.LentEnds.{blamed-is, book-ends}
 use Rattle.books.proofs.LongestBook.{spelling-length}
-use Rattle.books.proofs.Packing.{apart, plain-packs, book-placed}
-use Rattle.books.proofs.ReadingBooks.{book-lies}
+use Rattle.books.proofs.Packing.{apart, plain-packs, book-placed-by}
+use Rattle.books.proofs.ReadingBooks.{book-lies-by}
 
 -- the refusal of a book that is lent as this input
-abbrev pub blamed : ℕ → List ℕ → List ℕ → Outcome
-blamed input s out = refused (answer (bookOf s .fault .number) input (bookOf s .fault .place)) out
+abbrev pub blamedBy : Bool → ℕ → List ℕ → List ℕ → Outcome
+blamedBy strict input s out = refused (answer (bookBy strict s .fault .number) input (bookBy strict s .fault .place)) out
 
 -- ── Its ends ──
 
@@ -41,28 +41,28 @@ module _ (P : Outcome → Type 0) (out : List ℕ) where
       (λ e. fits (leb-true _ _ e))
       (λ e. short (leb-false _ _ e))
 
-  pub lent-ends : (input : ℕ) (s : List ℕ) (go : Contents → Outcome) → (IsBook s → P (go (contentsOf s)))
-      → ((bookOf s .fault .number ≡ 0 → ⊥) → P (blamed input s out))
-      → P (lent input s out go)
-  unfolding lent
-  lent-ends input s go went refuse = book-ends P (λ a. refused a out) input s go refuse (λ z. went (book-lies s z .fine))
+  pub lent-ends : (strict : Bool) (input : ℕ) (s : List ℕ) (go : Contents → Outcome) → (IsBookBy strict s → P (go (contentsBy strict s)))
+      → ((bookBy strict s .fault .number ≡ 0 → ⊥) → P (blamedBy strict input s out))
+      → P (lentBy strict input s out go)
+  unfolding lentBy
+  lent-ends strict input s go went refuse = book-ends P (λ a. refused a out) strict input s go refuse (λ z. went (book-lies-by strict s z .fine))
 
 -- ── A book that was read ──
 
-module _ (s : List ℕ) (b : BookRead) (read : b ≡ bookOf s) where
+module _ (strict : Bool) (s : List ℕ) (b : BookRead) (read : b ≡ bookBy strict s) where
   -- an accepted one goes on, ...
   pub read-accepted : (input : ℕ) (out : List ℕ) (go : Contents → Outcome) → b .fault .number ≡ 0
-      → lent input s out go ≡ go (contentsIn s (b .family))
-  unfolding lent
+      → lentBy strict input s out go ≡ go (contentsIn s (b .family))
+  unfolding lentBy
   read-accepted input out go z = rw read (simp (eq-eqb _ _ (rw read at z)))
 
   -- ... and a refused one is blamed
   pub blamed-leaves : (input : ℕ) (a : Answer) → a ≡ blaming input (b .fault) → (out : List ℕ) (go : Contents → Outcome) (r : ℕ) → (b .fault .number ≡ 0 → ⊥)
-      → r ≡ packed a 0 → Leaves (lent input s out go) r out
-  unfolding lent
+      → r ≡ packed a 0 → Leaves (lentBy strict input s out go) r out
+  unfolding lentBy
   blamed-leaves input a is out go r z e =
-      let o : Outcome = refused (blaming input (bookOf s .fault)) out in
-      subst⁻¹ (λ (p : Outcome). Leaves p r out) (ap (λ (t : Bool). pick t (go (contentsOf s)) o) (ne-eqb (bookOf s .fault .number) 0 (rw read at z)))
+      let o : Outcome = refused (blaming input (bookBy strict s .fault)) out in
+      subst⁻¹ (λ (p : Outcome). Leaves p r out) (ap (λ (t : Bool). pick t (go (contentsBy strict s)) o) (ne-eqb (bookBy strict s .fault .number) 0 (rw read at z)))
       (record { answers = simp (is, read) at e; leaves = refl })
 
 -- ── One number ──
@@ -76,13 +76,12 @@ spelled-packs c out keeps = plain-packs 0 _ (omega arith) (omega (arith, spellin
 pub refused-packs : (n : ℕ) (out : List ℕ) → n < 2 ^ 8 → Packed (refused (plain n) out)
 refused-packs n out few = plain-packs n 0 few (omega arith)
 
-pub blamed-packs : (input : ℕ) (s out : List ℕ) → input < 2 ^ 4 → (bookOf s .fault .number ≡ 0 → ⊥) → Packed (blamed input s out)
-blamed-packs input s out few some =
-    subst (λ (a : Answer). Packs a 0) (blamed-is input (bookOf s .fault) some) (book-placed s input few .packs)
+module _ (strict : Bool) (input : ℕ) (s out : List ℕ) where
+  pub blamed-packs : input < 2 ^ 4 → (bookBy strict s .fault .number ≡ 0 → ⊥) → Packed (blamedBy strict input s out)
+  blamed-packs few some = subst (λ (a : Answer). Packs a 0) (blamed-is input (bookBy strict s .fault) some) (book-placed-by strict s input few .packs)
 
-pub lent-packs : (input : ℕ) (s out : List ℕ) (go : Contents → Outcome) → input < 2 ^ 4 → (IsBook s → Packed (go (contentsOf s)))
-    → Packed (lent input s out go)
-lent-packs input s out go few packs = lent-ends Packed out input s go packs (blamed-packs input s out few)
+  pub lent-packs : (go : Contents → Outcome) → input < 2 ^ 4 → (IsBookBy strict s → Packed (go (contentsBy strict s))) → Packed (lentBy strict input s out go)
+  lent-packs go few packs = lent-ends Packed out strict input s go packs (blamed-packs few)
 
 -- what a host reads off a call's number, with the slice that it finds
 abbrev pub readOf : ℕ → List ℕ → Outcome

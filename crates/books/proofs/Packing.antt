@@ -2,20 +2,22 @@
 -- since its place is bounded.
 use Prim.Native.Nat.{ℕ, _/_, _%_, _^_, _≤_, _<_}
 use mathlib.Core.Path.{_≡_}
+use mathlib.Core.Bool.{Bool, true, false}
 use mathlib.Core.List.{List}
+use mathlib.Core.Logic.{⊎-elim}
 use native.Mathlib.Omega.{arith}
 use borrow.Author.Tests.{eqb-false}
 use lib.Dec.{eqb}
 use lib.ListN.{length}
 use Rattle.names.specs.declared.number.Fault.{Fault}
 use Rattle.names.proofs.Picking.{pick-ind}
-use Rattle.names.proofs.ReadingNumbers.{Blamed}
-use Rattle.books.specs.Answer.{answer, plain, blaming, packed, Packs}
-use Rattle.books.specs.Book.{bookOf}
+use Rattle.names.proofs.ReadingNumbers.{BlamedBy}
+use Rattle.books.specs.Answer.{NumberBy, answer, plain, blaming, packed, Packs}
+use Rattle.books.specs.Book.{bookBy, bookOf}
 use Rattle.books.specs.Sheet.{sheetOf}
 use Rattle.books.specs.Calls.{sheetAnswer, ticketOf}
 use Rattle.books.specs.declared.answer.Answer.{Answer}
-use Rattle.books.proofs.ReadingBooks.{farthestBook, book-refused}
+use Rattle.books.proofs.ReadingBooks.{farthestBook, book-refused-by}
 use Rattle.books.proofs.ReadingSheets.{sheet-refused, sheet-ticket}
 
 -- the parts of a packed answer
@@ -41,25 +43,34 @@ pub record Placed (s : List ℕ) (a : Answer) : Type 0 where
   pub packs : Packs a 0
   pub inside : a .place ≤ length s
 
-pub fault-placed : (s : List ℕ) (input limit : ℕ) (f : Fault) → input < 2 ^ 4 → limit < 2 ^ 20 → ((f .number ≡ 0 → ⊥) → Blamed s limit f) → Placed s (blaming input f)
-fault-placed s input limit f h g b =
+pub fault-placed : {Known : ℕ → Type 0} (s : List ℕ) (input limit : ℕ) (f : Fault) → ((n : ℕ) → Known n → n < 2 ^ 8) → input < 2 ^ 4 → limit < 2 ^ 20
+    → ((f .number ≡ 0 → ⊥) → BlamedBy Known s limit f) → Placed s (blaming input f)
+fault-placed s input limit f few h g b =
     pick-ind (Placed s) (eqb (f .number) 0) (plain 0) (answer (f .number) input (f .place))
     (λ _. record { packs = plain-packs 0 0 (omega arith) (omega arith); inside = omega arith })
     (λ t. let x = b (eqb-false (f .number) 0 t) in
     record {
-      packs = record { number-fits = omega (arith, x .known); blamed-fits = h; place-fits = omega (arith, x .near); count-fits = omega arith };
+      packs = record { number-fits = few (f .number) (x .known); blamed-fits = h; place-fits = omega (arith, x .near); count-fits = omega arith };
       inside = x .inside;
     })
 
+number-few : (strict : Bool) (n : ℕ) → NumberBy strict n → n < 2 ^ 8
+number-few true n h = ⊎-elim (λ l. omega arith) (λ l. omega arith) h
+number-few false n h = omega arith
+
+pub book-placed-by : (strict : Bool) (s : List ℕ) (input : ℕ) → input < 2 ^ 4 → Placed s (blaming input (bookBy strict s .fault))
+book-placed-by strict s input h =
+    fault-placed s input farthestBook (bookBy strict s .fault) (number-few strict) h (omega arith) (λ n. book-refused-by strict s n .blamed)
+
 pub book-placed : (s : List ℕ) (input : ℕ) → input < 2 ^ 4 → Placed s (blaming input (bookOf s .fault))
-book-placed s input h = fault-placed s input farthestBook (bookOf s .fault) h (omega arith) (λ n. book-refused s n .blamed)
+book-placed = book-placed-by true
 
 -- an answer packs with a count that fits
 pub packs-with : {a : Answer} {n : ℕ} (count : ℕ) → Packs a n → count < 2 ^ 32 → Packs a count
 packs-with count p h = record { number-fits = p .number-fits; blamed-fits = p .blamed-fits; place-fits = p .place-fits; count-fits = h }
 
 pub sheet-placed : (s : List ℕ) (input : ℕ) → input < 2 ^ 4 → Placed s (blaming input (sheetOf s .fault))
-sheet-placed s input h = fault-placed s input _ (sheetOf s .fault) h (omega arith) (λ n. sheet-refused s n .blamed)
+sheet-placed s input h = fault-placed s input _ (sheetOf s .fault) (λ n l. omega arith) h (omega arith) (λ n. sheet-refused s n .blamed)
 
 -- a sheet's ticket fits the count
 pub ticket-packs : (s : List ℕ) → Packs (sheetAnswer s) (ticketOf s)

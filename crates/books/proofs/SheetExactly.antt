@@ -60,6 +60,10 @@ filled-refused s c ticket size f some = rw (ne-eqb (f .number) 0 (λ q. omega ar
 
 -- ── What stands there is read ──
 
+-- a cell may be of any colour, whatever stands before it
+abbrev Any : List ℕ → Type 0
+Any cells = Unit {0}
+
 -- reading the sheet is reading what is left, with so many colours
 record On (s : List ℕ) (colours : ℕ) (left : SheetRead) : Type 0 where
   many : coloursOf s .colours .count ≡ colours
@@ -100,9 +104,9 @@ module _ (s : List ℕ) (colours : ℕ) where
       let o = rows-on rows from t in
       let size = sizeBy rows cols in
       let whole : sheetOf s ≡ cellsLeft s c (o .0) size colours noCells 0 first count = rw (o .1 .on, number-in-exactly s from 1 greatest _ .1 h, o .1 .many, area) in
-      let left = in-turn-on (CellStands s colours) (cellsLeft s c (o .0) size colours)
-      (λ ys i p k x next w. rw (number-below-exactly s p colours 6 _ .1 w)) (sheetOf s) noCells count first whole r few in
-      record { ticket = o .0; size = size; cells = left .0; on = left .1 }
+      let left = in-turn-on (CellStands s colours) Any (λ _ _. Unit {0}) (cellsLeft s c (o .0) size colours) count (λ xs ys x h _. tt)
+      (λ xs x _. tt) (λ xs ys p k x next _ _ w. rw (number-below-exactly s p colours 6 _ .1 w)) (sheetOf s) noCells first tt whole r tt few in
+      record { ticket = o .0; size = size; cells = left .places; on = left .on }
 
 fault-is : (s : List ℕ) (f : Fault) → SheetFault s f → sheetOf s ≡ refusedSheet f
 unfolding sheetOf sizeAt filledAt
@@ -137,16 +141,16 @@ module _ (s : List ℕ) (c : Colours) where
       let size = sizeBy rows cols in
       let count = rows * cols in
       let h = number-in-exactly s from 1 greatest _ .0 e in
-      in-turn-out (CellStands s n) (cellsLeft s c ticket size n) (Out s) count first
-      (λ xs ys at r all.
+      in-turn-out (CellStands s n) Any (λ _ _. Unit {0}) (cellsLeft s c ticket size n) count (λ xs ys x h _. tt) (Out s) first
+      (λ xs ys at r _ all.
       pick-ind (Out s) (ltb at (length s)) _ _
       (λ b. inr (more-bytes n count at xs (cells-so-far from rows cols first t h refl r) all (ltb-true _ _ b) refl)) (λ _. inl refl))
-      (λ xs ys i at k r more rest.
+      (λ xs ys at k r _ _ more rest.
       onward-ind (λ (x : CellsRead). Out s (filledAt s c ticket size x)) refusedCells (numberBelow s at n 6) _
       (λ f d. rw (filled-refused s c ticket size f (number-below-refused s at n 6 f d (omega arith) (omega arith) .some))
       (inr (no-cell n count at xs (cells-so-far from rows cols first t h refl r) more (number-below-exactly s at n 6 _ .0 d))))
-      (λ v next d. rest v next (number-below-exactly s at n 6 _ .0 d)))
-      noCells
+      (λ v next d. rest v next (number-below-exactly s at n 6 _ .0 d) tt))
+      noCells tt tt
 
   ticket-out : (at : ℕ) → ListRead s (c .count) at → Out s (ticketAt s c at)
   unfolding sizeAt

@@ -2,6 +2,7 @@
 -- one before it ends, and nothing follows the last.
 use Prim.Native.Nat.{ℕ, _+_, _-_, _≤_}
 use mathlib.Core.Path.{_≡_, refl, sym, ap, _∙_}
+use mathlib.Core.Bool.{Bool, true}
 use mathlib.Core.List.{List, [], _++_, append-assoc, append-nil}
 use native.Mathlib.Omega.{arith}
 use native.Mathlib.Nat.{add-assoc}
@@ -17,10 +18,10 @@ use Rattle.names.specs.Bytes.{Bytes}
 use Rattle.names.proofs.ReadingColours.{names-count}
 use Rattle.names.proofs.SpellingColours.{colours-read-back}
 use Rattle.books.specs.Contents.{Contents}
-use Rattle.books.specs.Lent.{contentsOf}
-use Rattle.books.specs.Keeps.{Keeps, mostMotifs, mostRules}
+use Rattle.books.specs.Lent.{contentsBy, contentsOf}
+use Rattle.books.specs.Keeps.{KeepsBy, Keeps, mostMotifs, mostRules}
 use Rattle.books.specs.Rules.{noRule}
-use Rattle.books.specs.Book.{figuresAt, familyOf, ruledAt, figuredAt, bookOf}
+use Rattle.books.specs.Book.{figuresAt, familyOf, ruledAt, figuredAt, bookBy, bookOf}
 use Rattle.books.specs.SpellBook.{spellRules, spellBook}
 use Rattle.books.specs.declared.rule.Rule.{Rule}
 use Rattle.books.specs.declared.book.Figures.{Figures}
@@ -43,7 +44,7 @@ figures-first : (b : Contents) → spellFigures b ++ spellRules (b .rules)
     ≡ spellNumber (b .motifs) ++ (spellNumber (b .start) ++ (spellNumber (length (b .rules)) ++ spellRules (b .rules)))
 figures-first b = simp append-assoc
 
-module _ (b : Contents) (keeps : Keeps b) (s : List ℕ) where
+module _ (strict : Bool) (b : Contents) (keeps : KeepsBy strict b) (s : List ℕ) where
   figures-read : (at : ℕ) (rest : List ℕ) → Stands s at (spellFigures b ++ rest) → figuresAt s at ≡ Whole (figuresOf b) (at + length (spellFigures b))
   unfolding figuresAt
   figures-read at rest e =
@@ -63,7 +64,7 @@ module _ (b : Contents) (keeps : Keeps b) (s : List ℕ) where
 
   -- a book whose colours were read, and after which its figures and rules stand, is read to its end
   coloured-read : (c : Colours) (from : ℕ) → c .count ≡ length (b .colours) → Stands s from (spellFigures b ++ spellRules (b .rules))
-      → figuredAt s c from ≡ record { fault = fault 0 0; family = familyOf c (figuresOf b) (lying b) }
+      → figuredAt strict s c from ≡ record { fault = fault 0 0; family = familyOf c (figuresOf b) (lying b) }
   unfolding figuredAt ruledAt
   coloured-read c from size e =
       let at = from + length (spellFigures b) in
@@ -73,14 +74,14 @@ module _ (b : Contents) (keeps : Keeps b) (s : List ℕ) where
       simp (
         figures-read from (spellRules (b .rules)) e,
         size,
-        rules-read s (b .motifs) (length (b .colours)) (keeps .motifs-few) (keeps .colours-ok .few) (b .rules) at [] (keeps .rules-few) (keeps .sound .rules-fit) q,
+        rules-read s (b .motifs) (length (b .colours)) (keeps .motifs-few) (keeps .colours-ok .few) strict (b .rules) at [] (keeps .no-copies) (keeps .rules-few) (keeps .sound .rules-fit) q,
         le-ltb _ _ ends,
       )
 
--- reading the spelling of contents that keep the rules accepts it and gives them back
-pub book-read-back : (b : Contents) → Keeps b → (bookOf (spellBook b) .fault ≡ fault 0 0) × (contentsOf (spellBook b) ≡ b)
-unfolding bookOf
-book-read-back b keeps =
+-- reading the spelling of contents that keep the rules accepts it and gives them back, each reader what it asks for
+pub book-read-back-by : (strict : Bool) (b : Contents) → KeepsBy strict b → (bookBy strict (spellBook b) .fault ≡ fault 0 0) × (contentsBy strict (spellBook b) ≡ b)
+unfolding bookBy
+book-read-back-by strict b keeps =
     let s = spellBook b in
     let names = b .colours in
     let rest = spellNumber (b .motifs) ++ (spellNumber (b .start) ++ (spellNumber (length (b .rules)) ++ spellRules (b .rules))) in
@@ -89,10 +90,13 @@ book-read-back b keeps =
     let whole : Stands s 0 (spellColours names ++ rest) = record { inside = omega arith; there = refl } in
     let place : coloursOf s .next ≡ 0 + length (spellColours names) = omega (arith, c .next) in
     let after : Stands s (coloursOf s .next) (spellFigures b ++ spellRules (b .rules)) = rw (place, figures-first b) (past-stands (spellColours names) rest whole) in
-    let read = coloured-read b keeps s (coloursOf s .colours) (coloursOf s .next) size after in
+    let read = coloured-read strict b keeps s (coloursOf s .colours) (coloursOf s .next) size after in
     let rules : take (length (b .rules)) (b .rules ++ replicate (mostRules - length (b .rules)) noRule) ≡ b .rules = take-append-seam (b .rules) (replicate (mostRules - length (b .rules)) noRule) in
-    let book : bookOf s ≡ record { fault = fault 0 0; family = familyOf (coloursOf s .colours) (figuresOf b) (lying b) } = simp (c .fine) read in
+    let book : bookBy strict s ≡ record { fault = fault 0 0; family = familyOf (coloursOf s .colours) (figuresOf b) (lying b) } = simp (c .fine) read in
     (rw book, rw (book, c .names, rules))
+
+pub book-read-back : (b : Contents) → Keeps b → (bookOf (spellBook b) .fault ≡ fault 0 0) × (contentsOf (spellBook b) ≡ b)
+book-read-back = book-read-back-by true
 
 -- two accepted inputs with the same contents are equal
 pub one-spelling : (s t : List ℕ) → Bytes s → Bytes t → bookOf s .fault .number ≡ 0 → bookOf t .fault .number ≡ 0

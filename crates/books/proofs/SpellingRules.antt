@@ -1,23 +1,25 @@
 -- Rules that fit the counts are read back from their spelling, whatever follows it: each number is read where the one before it ends.
 use Prim.Native.Nat.{ℕ, _+_, _-_, _<_, _≤_}
-use mathlib.Core.Path.{_≡_, refl, sym, _∙_}
+use mathlib.Core.Path.{_≡_, refl, sym, _∙_, ap, subst}
+use mathlib.Core.Bool.{Bool, false}
 use mathlib.Core.List.{List, [], _∷_, _++_, append-assoc, List·Memᴰ, List·Memᴰ·head, List·Memᴰ·tail}
 use native.Mathlib.Omega.{arith}
 use native.Mathlib.Nat.{add-assoc, add-zero}
 use borrow.Author.Tests.{ne-eqb}
-use lib.ListN.{length, set, replicate, length-append}
-use lib.Seq.{set-at}
+use lib.ListN.{length, take, set, replicate, length-append}
+use lib.Seq.{set-at, take-at}
 use Rattle.names.specs.Pick.{fault}
 use Rattle.names.specs.Number.{spellNumber}
 use Rattle.names.specs.Spelling.{mostColours}
-use Rattle.books.specs.Keeps.{BodyFits, RuleFits, mostMotifs, mostRules}
-use Rattle.books.specs.Rules.{colourNumberAt, joinBody, joinAt, bodyAt, ruleAt, noRule, noRules, rulesFrom, rulesAt}
+use Rattle.books.specs.Keeps.{BodyFits, RuleFits, NoCopies, mostMotifs, mostRules}
+use Rattle.books.specs.Rules.{colourNumberAt, joinBody, joinAt, bodyAt, ruleAt, noRule, noRules, repeats, rulesFrom, rulesAt}
 use Rattle.books.specs.SpellBook.{spellBody, spellRule, spellRules}
 use Rattle.books.specs.declared.rule.Rule.{Rule}
 use Rattle.books.specs.declared.rule.Body.{Body}
 use Rattle.books.specs.declared.rule.Body.the-variants.{Colour, Across, Down}
 use Rattle.books.specs.declared.bodies.BodyRead.the-variants.{Whole as WholeBody}
 use Rattle.books.specs.declared.rules.RuleRead.the-variants.{Whole as WholeRule}
+use Rattle.books.proofs.EqualRules.{copies-new}
 use Rattle.books.proofs.ReadingRules.{no-rules-split}
 use Rattle.books.proofs.StandingNumbers.{Stands, past-stands, below-read}
 
@@ -67,24 +69,27 @@ module _ (s : List ℕ) (motifs colours : ℕ) (few-motifs : motifs ≤ mostMoti
       (simp (length-append, add-assoc))
 
   -- so many rules, after those that stand already in their places
-  rules-read-from : (rs done rules : List Rule) (i spare at : ℕ) (rest : List ℕ)
+  rules-read-from : (strict : Bool) (rs done rules : List Rule) (i spare at : ℕ) (rest : List ℕ) → NoCopies strict (done ++ rs)
       → rules ≡ done ++ (replicate (length rs) noRule ++ replicate spare noRule) → length done ≡ i
       → ((r : Rule) → List·Memᴰ r rs → RuleFits motifs colours r) → Stands s at (spellRules rs ++ rest)
-      → rulesFrom s motifs colours rules i at (length rs)
+      → rulesFrom strict s motifs colours rules i at (length rs)
       ≡ record { fault = fault 0 0; rules = done ++ (rs ++ replicate spare noRule); next = at + length (spellRules rs) }
-  rules-read-from [] done rules i spare at rest p h f e = rw (p, add-zero)
-  rules-read-from (r ∷ rs) done rules i spare at rest p h f e =
+  rules-read-from strict [] done rules i spare at rest once p h f e = rw (p, add-zero)
+  rules-read-from strict (r ∷ rs) done rules i spare at rest once p h f e =
       let others = replicate (length rs) noRule ++ replicate spare noRule in
       let k : Stands s at (spellRule r ++ (spellRules rs ++ rest)) = rw (append-assoc (spellRule r) (spellRules rs) rest) at e in
       let longer : set rules i r ≡ (done ++ (r ∷ [])) ++ others = rw p (set-at done noRule others r i h ∙ sym (append-assoc done (r ∷ []) others)) in
-      let t = rules-read-from rs (done ++ (r ∷ [])) (set rules i r) (i + 1) spare (at + length (spellRule r)) rest longer (omega (arith, length-append done (r ∷ [])))
+      let others-once : NoCopies strict ((done ++ (r ∷ [])) ++ rs) = subst (NoCopies strict) (sym (append-assoc done (r ∷ []) rs)) once in
+      let new : repeats strict (take i rules) r ≡ false =
+      ap (λ (q : List Rule). repeats strict q r) (rw p (take-at done (noRule ∷ others) i h)) ∙ copies-new strict done r rs once in
+      let t = rules-read-from strict rs (done ++ (r ∷ [])) (set rules i r) (i + 1) spare (at + length (spellRule r)) rest others-once longer (omega (arith, length-append done (r ∷ [])))
       (λ x m. f x (List·Memᴰ·tail m)) (past-stands (spellRule r) (spellRules rs ++ rest) k) in
-      simp (rule-read at r (spellRules rs ++ rest) (f r (List·Memᴰ·head refl)) k) (t ∙ simp (append-assoc, length-append, add-assoc))
+      simp (rule-read at r (spellRules rs ++ rest) (f r (List·Memᴰ·head refl)) k, new) (t ∙ simp (append-assoc, length-append, add-assoc))
 
   -- rules that fit are read back into the first places, the others fixed, with the place after them
-  pub rules-read : (rs : List Rule) (at : ℕ) (rest : List ℕ) → length rs ≤ mostRules → ((r : Rule) → List·Memᴰ r rs → RuleFits motifs colours r)
+  pub rules-read : (strict : Bool) (rs : List Rule) (at : ℕ) (rest : List ℕ) → NoCopies strict rs → length rs ≤ mostRules → ((r : Rule) → List·Memᴰ r rs → RuleFits motifs colours r)
       → Stands s at (spellRules rs ++ rest)
-      → rulesAt s at motifs colours (length rs)
+      → rulesAt strict s at motifs colours (length rs)
       ≡ record { fault = fault 0 0; rules = rs ++ replicate (mostRules - length rs) noRule; next = at + length (spellRules rs) }
   unfolding rulesAt
-  rules-read rs at rest few f e = rules-read-from rs [] noRules 0 (mostRules - length rs) at rest (no-rules-split (length rs) few) refl f e
+  rules-read strict rs at rest once few f e = rules-read-from strict rs [] noRules 0 (mostRules - length rs) at rest once (no-rules-split (length rs) few) refl f e

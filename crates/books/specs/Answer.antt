@@ -1,9 +1,21 @@
 -- What a call answers, and the one number that a C host gets.
 use Prim.Native.Nat.{ℕ, _+_, _*_, _/_, _%_, _^_, _<_}
+use mathlib.Core.Path.{_≡_}
+use mathlib.Core.Bool.{Bool, true, false}
+use mathlib.Core.Logic.{_⊎_}
 use lib.Dec.{eqb}
-use Rattle.names.specs.Pick.{pick}
+use Rattle.names.specs.Pick.{pick, ReadersNumber}
 use Rattle.names.specs.declared.number.Fault.{Fault}
 use Rattle.books.specs.declared.answer.Answer.{Answer}
+
+-- a number that reading a book gives: 18, an equal rule stood earlier, is given by a strict reader alone
+abbrev pub NumberBy : Bool → ℕ → Type 0
+NumberBy true n = ReadersNumber n ⊎ (n ≡ 18)
+NumberBy false n = ReadersNumber n
+
+-- a number that reading a lent input gives, in every call but tidying
+abbrev pub InputsNumber : ℕ → Type 0
+InputsNumber = NumberBy true
 
 abbrev pub answer : ℕ → ℕ → ℕ → Answer
 answer n b p = record { number = n; blamed = b; place = p }

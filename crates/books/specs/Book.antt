@@ -1,5 +1,6 @@
 -- What reading a book finds: a colour list; the motif count, the start motif and the rule count; the rules; and nothing after them.
 use Prim.Native.Nat.{ℕ}
+use mathlib.Core.Bool.{Bool, true, false}
 use mathlib.Core.List.{List}
 use Rattle.names.specs.Pick.{fault}
 use Rattle.names.specs.Onward.{onward, ending}
@@ -47,11 +48,18 @@ ruledAt s c g r =
     ending refusedBook s next (record { fault = fault 0 0; family = familyOf c g rules }))
 
 -- figures, then rules
-unfoldable pub figuredAt : List ℕ → Colours → ℕ → BookRead
-figuredAt s c at =
+unfoldable pub figuredAt : Bool → List ℕ → Colours → ℕ → BookRead
+figuredAt strict s c at =
     afterFigures refusedBook (figuresAt s at) (λ g next.
-    ruledAt s c g (rulesAt s next (g .motifs) (c .count) (g .count)))
+    ruledAt s c g (rulesAt strict s next (g .motifs) (c .count) (g .count)))
 
 -- colours, then what stands after them
-unfoldable pub bookOf : List ℕ → BookRead
-bookOf s = afterColours refusedBook (coloursOf s) (λ c next. figuredAt s c next)
+unfoldable pub bookBy : Bool → List ℕ → BookRead
+bookBy strict s = afterColours refusedBook (coloursOf s) (λ c next. figuredAt strict s c next)
+
+-- no rule of a book repeats an earlier one; only tidying reads books that have such rules
+abbrev pub bookOf : List ℕ → BookRead
+bookOf = bookBy true
+
+abbrev pub untidyOf : List ℕ → BookRead
+untidyOf = bookBy false

@@ -1,8 +1,9 @@
 -- What the contents of a book must keep.
 use Prim.Native.Nat.{ℕ, _≤_, _<_}
-use mathlib.Core.List.{List·Memᴰ}
+use mathlib.Core.Bool.{Bool, true, false}
+use mathlib.Core.List.{List, List·Memᴰ}
 use lib.ListN.{length}
-use Rattle.names.specs.Spelling.{ColoursOk}
+use Rattle.names.specs.Spelling.{Distinct, ColoursOk}
 use Rattle.books.specs.Contents.{Contents}
 use Rattle.books.specs.declared.rule.Rule.{Rule}
 use Rattle.books.specs.declared.rule.Body.{Body}
@@ -30,11 +31,21 @@ pub record Sound (b : Contents) : Type 0 where
   pub start-fits : b .start < b .motifs
   pub rules-fit : (r : Rule) → List·Memᴰ r (b .rules) → RuleFits (b .motifs) (length (b .colours)) r
 
+-- no rule stands twice: tidying does not ask for it
+abbrev pub NoCopies : Bool → List Rule → Type 0
+NoCopies true rs = Distinct rs
+NoCopies false rs = Unit {0}
+
 -- ... and the counts stand in their ranges, each from 1 to its greatest
-pub record Keeps (b : Contents) : Type 0 where
+pub record KeepsBy (strict : Bool) (b : Contents) : Type 0 where
   pub colours-ok : ColoursOk (b .colours)
   pub motifs-some : 1 ≤ b .motifs
   pub motifs-few : b .motifs ≤ mostMotifs
   pub rules-some : 1 ≤ length (b .rules)
   pub rules-few : length (b .rules) ≤ mostRules
   pub sound : Sound b
+  pub no-copies : NoCopies strict (b .rules)
+
+-- what every call but tidying asks of a book
+abbrev pub Keeps : Contents → Type 0
+Keeps = KeepsBy true

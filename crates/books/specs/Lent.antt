@@ -1,11 +1,12 @@
 -- A book and a sheet as they are lent: what refuses them is blamed on the input that they are, and what they hold goes on.
 use Prim.Native.Nat.{ℕ}
 use mathlib.Core.Path.{_≡_}
+use mathlib.Core.Bool.{Bool, true}
 use mathlib.Core.List.{List}
 use lib.Dec.{eqb}
 use Rattle.names.specs.Pick.{pick}
 use Rattle.books.specs.Answer.{blaming}
-use Rattle.books.specs.Book.{bookOf}
+use Rattle.books.specs.Book.{bookBy, bookOf}
 use Rattle.books.specs.Contents.{Contents}
 use Rattle.books.specs.ContentsIn.{contentsIn, gridIn}
 use Rattle.books.specs.Grid.{picture}
@@ -14,8 +15,11 @@ use Rattle.books.specs.Sheet.{sheetOf}
 use Rattle.books.specs.declared.answer.Answer.{Answer}
 
 -- what a lent book says, and what a lent sheet shows
+abbrev pub contentsBy : Bool → List ℕ → Contents
+contentsBy strict book = contentsIn book (bookBy strict book .family)
+
 abbrev pub contentsOf : List ℕ → Contents
-contentsOf book = contentsIn book (bookOf book .family)
+contentsOf = contentsBy true
 
 abbrev pub pictureOf : List ℕ → Picture
 pictureOf sheet = picture (gridIn sheet (sheetOf sheet .sheet))
@@ -26,8 +30,12 @@ pub record Accepted (book sheet : List ℕ) : Type 0 where
   pub sheet-fine : sheetOf sheet .fault .number ≡ 0
 
 -- the answer of a refused book goes the one way, and the contents of an accepted one the other
+abbrev pub lentBookBy {ℓ} : {A : Type ℓ} → Bool → ℕ → List ℕ → (Answer → A) → (Contents → A) → A
+lentBookBy strict input book refuse go =
+    pick (eqb (bookBy strict book .fault .number) 0) (go (contentsBy strict book)) (refuse (blaming input (bookBy strict book .fault)))
+
 abbrev pub lentBook {ℓ} : {A : Type ℓ} → ℕ → List ℕ → (Answer → A) → (Contents → A) → A
-lentBook input book refuse go = pick (eqb (bookOf book .fault .number) 0) (go (contentsOf book)) (refuse (blaming input (bookOf book .fault)))
+lentBook = lentBookBy true
 
 -- the same of a sheet and its picture
 abbrev pub lentSheet {ℓ} : {A : Type ℓ} → ℕ → List ℕ → (Answer → A) → (Picture → A) → A

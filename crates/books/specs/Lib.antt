@@ -5,7 +5,9 @@ pub mod Derives
 pub mod Plain
 pub mod Search
 pub mod Decide
+pub mod Equal
 pub mod Keeps
+pub mod RuleNumbers
 pub mod Moved
 pub mod Grid
 pub mod ContentsIn

@@ -1,6 +1,7 @@
 -- What a call that writes a book answers and leaves.
 use Prim.Native.Nat.{ℕ}
 use mathlib.Core.Path.{_≡_}
+use mathlib.Core.Bool.{Bool, true}
 use mathlib.Core.List.{List}
 use lib.Dec.{leb}
 use lib.ListN.{length}
@@ -8,7 +9,7 @@ use Rattle.names.specs.Pick.{pick}
 use Rattle.names.specs.Put.{put}
 use Rattle.books.specs.Answer.{plain, packed}
 use Rattle.books.specs.Contents.{Contents}
-use Rattle.books.specs.Lent.{lentBook}
+use Rattle.books.specs.Lent.{lentBookBy}
 use Rattle.books.specs.SpellBook.{spellBook}
 use Rattle.books.specs.declared.answer.Answer.{Answer}
 
@@ -31,8 +32,11 @@ unfoldable pub written : Contents → List ℕ → Outcome
 written c out = pick (leb (length (spellBook c)) (length out)) (spelled c out) (refused (plain 13) out)
 
 -- a lent book: where it is refused nothing is written, and else its contents go on
-unfoldable pub lent : ℕ → List ℕ → List ℕ → (Contents → Outcome) → Outcome
-lent input s out go = lentBook input s (λ a. refused a out) go
+unfoldable pub lentBy : Bool → ℕ → List ℕ → List ℕ → (Contents → Outcome) → Outcome
+lentBy strict input s out go = lentBookBy strict input s (λ a. refused a out) go
+
+abbrev pub lent : ℕ → List ℕ → List ℕ → (Contents → Outcome) → Outcome
+lent = lentBy true
 
 -- a call's number, and the slice as it leaves it, are those of an outcome
 pub record Leaves (o : Outcome) (r : ℕ) (out : List ℕ) : Type 0 where

@@ -1,7 +1,8 @@
 -- What refuses a book, in words of the bytes: how far reading got, and what stands there.
 use Prim.Native.Nat.{ℕ, _<_, _≤_}
 use mathlib.Core.Path.{_≡_}
-use mathlib.Core.List.{List}
+use mathlib.Core.Bool.{Bool, true, false}
+use mathlib.Core.List.{List, List·Memᴰ}
 use lib.ListN.{length}
 use Rattle.names.specs.Pick.{fault}
 use Rattle.names.specs.Reads.{ReadsIn, ReadsBelow}
@@ -9,7 +10,7 @@ use Rattle.names.specs.ReadsList.{ListRead, ListFault}
 use Rattle.names.specs.declared.number.Fault.{Fault}
 use Rattle.names.specs.declared.number.Read.the-variants.{Value, Refused}
 use Rattle.books.specs.InTurn.{InTurn}
-use Rattle.books.specs.Keeps.{mostMotifs, mostRules}
+use Rattle.books.specs.Keeps.{mostMotifs, mostRules, NoCopies}
 use Rattle.books.specs.declared.rule.Rule.{Rule}
 use Rattle.books.specs.declared.rule.Body.{Body}
 use Rattle.books.specs.declared.rule.Body.the-variants.{Colour, Across, Down}
@@ -61,18 +62,30 @@ pub data MotifsRead (s : List ℕ) (colours motifs at : ℕ) : Type 0 where
 pub data StartRead (s : List ℕ) (colours motifs at : ℕ) : Type 0 where
   start-read : (from start : ℕ) → MotifsRead s colours motifs from → ReadsBelow s from motifs 6 (Value start at) → StartRead s colours motifs at
 
--- ... the count of rules and these rules too, and the next is due, or the end
-pub data RulesSoFar (s : List ℕ) (colours motifs count : ℕ) (rules : List Rule) (at : ℕ) : Type 0 where
+-- ... the count of rules and these rules too, and the next is due, or the end; a strict reader gets past no copy
+pub data RulesSoFar (strict : Bool) (s : List ℕ) (colours motifs count : ℕ) (rules : List Rule) (at : ℕ) : Type 0 where
   rules-so-far : (from first : ℕ) → StartRead s colours motifs from → ReadsIn s from 1 mostRules (Value count first)
-      → InTurn (RuleStands s motifs colours) first rules at → RulesSoFar s colours motifs count rules at
+      → InTurn (RuleStands s motifs colours) first rules at → NoCopies strict rules → RulesSoFar strict s colours motifs count rules at
 
--- what refuses a book: its colours, a count outside its range (3), a start motif not below its count (6), a rule, or bytes after its last rule (8)
-pub data BookFault (s : List ℕ) (f : Fault) : Type 0 where
-  no-list : ListFault s f → BookFault s f
-  no-motifs : (colours at : ℕ) → ListRead s colours at → ReadsIn s at 1 mostMotifs (Refused f) → BookFault s f
-  no-start : (colours motifs at : ℕ) → MotifsRead s colours motifs at → ReadsBelow s at motifs 6 (Refused f) → BookFault s f
-  no-count : (colours motifs at : ℕ) → StartRead s colours motifs at → ReadsIn s at 1 mostRules (Refused f) → BookFault s f
-  no-rule : (colours motifs count at : ℕ) (before : List Rule) → RulesSoFar s colours motifs count before at → length before < count
-      → RuleFault s motifs colours at f → BookFault s f
-  more-bytes : (colours motifs count at : ℕ) (rules : List Rule) → RulesSoFar s colours motifs count rules at → length rules ≡ count
-      → at < length s → f ≡ fault 8 at → BookFault s f
+-- an equal rule stood earlier, which only a strict reader minds
+abbrev pub Stood : Bool → List Rule → Rule → Type 0
+Stood true before x = List·Memᴰ x before
+Stood false before x = ⊥
+
+-- what refuses a book: its colours, a count outside its range (3), a start motif not below its count (6), a rule, one that stood earlier (18), or
+-- bytes after its last rule (8)
+pub data BookFaultBy (strict : Bool) (s : List ℕ) (f : Fault) : Type 0 where
+  no-list : ListFault s f → BookFaultBy strict s f
+  no-motifs : (colours at : ℕ) → ListRead s colours at → ReadsIn s at 1 mostMotifs (Refused f) → BookFaultBy strict s f
+  no-start : (colours motifs at : ℕ) → MotifsRead s colours motifs at → ReadsBelow s at motifs 6 (Refused f) → BookFaultBy strict s f
+  no-count : (colours motifs at : ℕ) → StartRead s colours motifs at → ReadsIn s at 1 mostRules (Refused f) → BookFaultBy strict s f
+  no-rule : (colours motifs count at : ℕ) (before : List Rule) → RulesSoFar strict s colours motifs count before at → length before < count
+      → RuleFault s motifs colours at f → BookFaultBy strict s f
+  equal-rule : (colours motifs count at next : ℕ) (before : List Rule) (x : Rule) → RulesSoFar strict s colours motifs count before at
+      → length before < count → RuleStands s motifs colours at x next → Stood strict before x → f ≡ fault 18 at → BookFaultBy strict s f
+  more-bytes : (colours motifs count at : ℕ) (rules : List Rule) → RulesSoFar strict s colours motifs count rules at → length rules ≡ count
+      → at < length s → f ≡ fault 8 at → BookFaultBy strict s f
+
+-- in every call but tidying
+abbrev pub BookFault : List ℕ → Fault → Type 0
+BookFault = BookFaultBy true

@@ -1,28 +1,20 @@
 -- Rules in rows of four bytes: head and kind, then a colour, or two motifs, as a book spells them.
 use Prim.Native.Nat.{ℕ, _-_}
 use mathlib.Core.Path.{_≡_}
-use mathlib.Core.List.{List, [], _∷_, _++_, map}
+use mathlib.Core.List.{List, _++_, map}
 use lib.Dec.{eqb}
 use lib.ListN.{getD, take, replicate}
 use Rattle.names.specs.Pick.{pick}
 use Rattle.books.specs.Book.{bookOf}
+use Rattle.books.specs.Equal.{fourOf}
 use Rattle.books.specs.Keeps.{mostRules}
 use Rattle.books.specs.Picture.{joins}
 use Rattle.books.specs.declared.book.BookRead.{BookRead}
 use Rattle.books.specs.declared.lent.BookFigures.{BookFigures}
 use Rattle.books.specs.declared.rule.Rule.{Rule}
-use Rattle.books.specs.declared.rule.Body.{Body}
-use Rattle.books.specs.declared.rule.Body.the-variants.{Colour, Across, Down}
+use Rattle.books.specs.declared.rule.Body.the-variants.{Colour}
 use Rattle.books.specs.declared.rule.Dir.{Dir}
 use Rattle.books.specs.declared.rule.Dir.the-variants.{Across as across, Down as down}
-
-abbrev pub bodied : ℕ → Body → List ℕ
-bodied head (Colour c) = head ∷ 0 ∷ c ∷ 0 ∷ []
-bodied head (Across l r) = head ∷ 1 ∷ l ∷ r ∷ []
-bodied head (Down u v) = head ∷ 2 ∷ u ∷ v ∷ []
-
-abbrev pub fourOf : Rule → List ℕ
-fourOf r = bodied (r .head) (r .body)
 
 -- the rows of the first rules, and rows of zeros behind them: as many in all as a family has room for
 unfoldable pub lentRules : List Rule → ℕ → List (List ℕ)

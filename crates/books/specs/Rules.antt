@@ -1,13 +1,16 @@
 -- What reading the rules of a book finds, where motifs and colours are counted already.
 use Prim.Native.Nat.{ℕ, zero, suc, _+_}
+use mathlib.Core.Bool.{Bool}
 use mathlib.Core.List.{List}
-use lib.ListN.{set, replicate}
+use lib.ListN.{take, set, replicate}
 use lib.Dec.{eqb}
-use Rattle.names.specs.Pick.{pick, fault}
+use Rattle.names.specs.Pick.{pick, andThen, fault}
 use Rattle.names.specs.Onward.{onward, faultless}
 use Rattle.names.specs.Number.{numberBelow}
 use Rattle.names.specs.declared.number.Fault.{Fault}
+use Rattle.books.specs.Equal.{stands}
 use Rattle.books.specs.Keeps.{mostRules}
+use Rattle.books.specs.RuleNumbers.{among}
 use Rattle.books.specs.declared.rule.Rule.{Rule}
 use Rattle.books.specs.declared.rule.Body.{Body}
 use Rattle.books.specs.declared.rule.Body.the-variants.{Colour, Across, Down}
@@ -62,15 +65,23 @@ noRules = replicate mostRules noRule
 abbrev pub refusedRules : Fault → RulesRead
 refusedRules f = record { fault = f; rules = noRules; next = 0 }
 
--- so many rules more from a place on, the first of them the i-th
-abbrev pub rulesFrom : List ℕ → ℕ → ℕ → List Rule → ℕ → ℕ → ℕ → RulesRead
-rulesFrom s motifs colours rules i at zero = record { fault = fault 0 0; rules = rules; next = at }
-rulesFrom s motifs colours rules i at (suc k) =
-    afterRule refusedRules (ruleAt s at motifs colours) (λ rule next.
-    rulesFrom s motifs colours (set rules i rule) (i + 1) next k)
+-- whether a rule repeats one before it, which only a strict reader asks; the same by their numbers
+unfoldable pub repeats : Bool → List Rule → Rule → Bool
+repeats strict before rule = andThen strict (λ _. stands before rule)
 
-unfoldable pub rulesAt : List ℕ → ℕ → ℕ → ℕ → ℕ → RulesRead
-rulesAt s at motifs colours count = rulesFrom s motifs colours noRules 0 at count
+unfoldable pub numberRepeats : Bool → List ℕ → ℕ → Bool
+numberRepeats strict before number = andThen strict (λ _. among before number)
+
+-- so many rules more from a place on, the first of them the i-th: a rule that was read in full repeats none before it
+abbrev pub rulesFrom : Bool → List ℕ → ℕ → ℕ → List Rule → ℕ → ℕ → ℕ → RulesRead
+rulesFrom strict s motifs colours rules i at zero = record { fault = fault 0 0; rules = rules; next = at }
+rulesFrom strict s motifs colours rules i at (suc k) =
+    afterRule refusedRules (ruleAt s at motifs colours) (λ rule next.
+    pick (repeats strict (take i rules) rule) (refusedRules (fault 18 at))
+    (rulesFrom strict s motifs colours (set rules i rule) (i + 1) next k))
+
+unfoldable pub rulesAt : Bool → List ℕ → ℕ → ℕ → ℕ → ℕ → RulesRead
+rulesAt strict s at motifs colours count = rulesFrom strict s motifs colours noRules 0 at count
 
 abbrev pub afterRules {ℓ} : {A : Type ℓ} → (Fault → A) → RulesRead → (List Rule → ℕ → A) → A
 afterRules refuse r go = faultless refuse (r .fault) (go (r .rules) (r .next))

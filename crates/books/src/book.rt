@@ -14,7 +14,7 @@ use names::number::Read;
 ghost use mathlib.Core.Path.{_≡_};
 ghost use Prim.Native.Nat.{_≤_};
 ghost use Rattle.names.specs.Spelling.{mostColours};
-ghost use Rattle.books.specs.Book.{refusedBook, figuresAt, ruledAt, figuredAt, bookOf};
+ghost use Rattle.books.specs.Book.{refusedBook, figuresAt, ruledAt, figuredAt, bookBy, bookOf, untidyOf};
 
 // The numbers between the colours and the rules.
 struct Figures {
@@ -99,23 +99,23 @@ fn with_rules(s: &[u8], c: Colours, g: Figures, r: RulesRead) -> BookRead
 }
 
 // What follows the colours of a book.
-fn with_colours(s: &[u8], c: Colours, at: usize) -> BookRead
+fn with_colours(strict: bool, s: &[u8], c: Colours, at: usize) -> BookRead
     requires { ⌜ c .count ≤ mostColours ⌝ }
-    ensures { λ b. ⌜ b ≡ figuredAt (now (s .entry)) c at ⌝ }
+    ensures { λ b. ⌜ b ≡ figuredAt strict (now (s .entry)) c at ⌝ }
 {
     let r = read_figures(s, at);
     match r {
         FiguresRead::Refused(f) => refused_book(f),
         FiguresRead::Whole(g, from) => {
-            let rules = rules::read_rules(s, from, g.motifs, c.count, g.count);
+            let rules = rules::read_rules(strict, s, from, g.motifs, c.count, g.count);
             with_rules(s, c, g, rules)
         }
     }
 }
 
-// The family that a book holds, or the first fault.
-pub fn read_book(s: &[u8]) -> BookRead
-    ensures { λ r. ⌜ r ≡ bookOf (now (s .entry)) ⌝ }
+// The family that a book holds, or the first fault: to a strict reader an equal rule that stood earlier is one.
+fn read_by(strict: bool, s: &[u8]) -> BookRead
+    ensures { λ r. ⌜ r ≡ bookBy strict (now (s .entry)) ⌝ }
 {
     let r = colours::read_colours(s);
     let f = r.fault;
@@ -124,5 +124,19 @@ pub fn read_book(s: &[u8]) -> BookRead
     }
     let c = r.colours;
     let at = r.next;
-    with_colours(s, c, at)
+    with_colours(strict, s, c, at)
+}
+
+// The family that a book holds, or the first fault.
+pub fn read_book(s: &[u8]) -> BookRead
+    ensures { λ r. ⌜ r ≡ bookOf (now (s .entry)) ⌝ }
+{
+    read_by(true, s)
+}
+
+// The same of a book that is yet to be tidied: equal rules may stand in it.
+pub fn read_untidy(s: &[u8]) -> BookRead
+    ensures { λ r. ⌜ r ≡ untidyOf (now (s .entry)) ⌝ }
+{
+    read_by(false, s)
 }

@@ -8,7 +8,8 @@ use crate::rule::Rule;
 use names::colours::Colours;
 use names::number::Fault;
 ghost use mathlib.Core.Path.{_≡_};
-ghost use Rattle.books.specs.RuleBytes.{fourOf, lentRules, BookInto, kindDir};
+ghost use Rattle.books.specs.RuleBytes.{lentRules, BookInto, kindDir};
+ghost use Rattle.books.specs.Equal.{fourOf};
 
 // What is told of a book whose rules went into lent rows: its colours are places in it, and so many rules stand. A refused book has no colours, the
 // start 0 and no rules.

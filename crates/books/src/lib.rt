@@ -5,6 +5,7 @@ pub mod book;
 pub mod calls;
 mod cells;
 pub mod draft;
+pub mod equal;
 pub mod family;
 pub mod lent;
 pub mod lookups;

@@ -1,11 +1,10 @@
 // What a host looks up in a book or a sheet, without reading the bytes itself: a rule, and how many rows and columns there are.
 use crate::book::read_book;
-use crate::rule::Body;
+use crate::equal::rule_number;
 use crate::rule::Rule;
 use crate::sheet::sheet_figures;
 use crate::size::Size;
 ghost use mathlib.Core.Path.{_≡_};
-ghost use Prim.Native.Nat.{_+_, _*_, _^_};
 ghost use Rattle.books.specs.Lookups.{ruleOf, sizeOf, packedRule, ruleShown, sizeShown, version};
 
 // A rule of a book, or that there is none with the number asked for.
@@ -35,27 +34,11 @@ pub fn sheet_size(sheet: &[u8]) -> Size
     g.size
 }
 
-// A byte for each part of a rule, and 1 above them, so that no rule is 0.
-fn pack_parts(head: u8, kind: u8, first: u8, second: u8) -> u64
-    ensures { λ r. ⌜ r ≡ head + 2 ^ 8 * kind + 2 ^ 16 * first + 2 ^ 24 * second + 2 ^ 32 ⌝ }
-{
-    head as u64
-        + 256 * (kind as u64)
-        + 65536 * (first as u64)
-        + 16777216 * (second as u64)
-        + 4294967296
-}
-
-// A rule in one number: rules are equal exactly when their numbers are.
+// A rule in one number, with 1 above its parts, so that no rule is 0.
 pub fn pack_rule(rule: Rule) -> u64
     ensures { λ r. ⌜ r ≡ packedRule rule ⌝ }
 {
-    let body = rule.body;
-    match body {
-        Body::Colour(colour) => pack_parts(rule.head, 0, colour, 0),
-        Body::Across(left, right) => pack_parts(rule.head, 1, left, right),
-        Body::Down(upper, lower) => pack_parts(rule.head, 2, upper, lower),
-    }
+    rule_number(rule) as u64 + 4294967296
 }
 
 // The rule with a number, for the C host: its parts in one number, or 0.
@@ -84,5 +67,5 @@ pub extern "C" fn dv_sheet_size(sheet: &[u8]) -> u64
 pub extern "C" fn dv_version() -> u64
     ensures { λ r. ⌜ r ≡ version ⌝ }
 {
-    9
+    10
 }

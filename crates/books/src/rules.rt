@@ -1,6 +1,7 @@
 // The rules of a book, read left to right.
 use crate::bodies;
 use crate::bodies::BodyRead;
+use crate::equal;
 use crate::rule::Body;
 use crate::rule::MOST_RULES;
 use crate::rule::Rule;
@@ -11,7 +12,7 @@ use names::number::Read;
 ghost use mathlib.Core.Path.{_≡_};
 ghost use Prim.Native.Nat.{_≤_};
 ghost use Rattle.names.specs.Spelling.{mostColours};
-ghost use Rattle.books.specs.Rules.{ruleAt, noRule, noRules, refusedRules, rulesAt};
+ghost use Rattle.books.specs.Rules.{ruleAt, noRule, noRules, refusedRules, numberRepeats, rulesAt};
 ghost use Rattle.books.specs.Keeps.{mostMotifs, mostRules};
 
 // A rule and the place after it, or the fault.
@@ -81,8 +82,19 @@ fn read_rule(s: &[u8], at: usize, motifs: usize, colours: usize) -> RuleRead
     }
 }
 
-// So many rules from a place on.
+// Whether a rule repeats one of those before it, by their numbers. Where copies are taken nothing is asked.
+fn repeats(strict: bool, before: &[u32], number: u32) -> bool
+    ensures { λ r. ⌜ r ≡ numberRepeats strict (now (before .entry)) number ⌝ }
+{
+    if strict {
+        return equal::stands(before, number);
+    }
+    false
+}
+
+// So many rules from a place on. A strict reader refuses a rule that repeats an earlier one, once it is read in full.
 pub(crate) fn read_rules(
+    strict: bool,
     s: &[u8],
     from: usize,
     motifs: usize,
@@ -90,15 +102,21 @@ pub(crate) fn read_rules(
     count: usize,
 ) -> RulesRead
     requires { ⌜ (motifs ≤ mostMotifs) × (colours ≤ mostColours) × (count ≤ mostRules) ⌝ }
-    ensures { λ r. ⌜ r ≡ rulesAt (now (s .entry)) from motifs colours count ⌝ }
+    ensures { λ r. ⌜ r ≡ rulesAt strict (now (s .entry)) from motifs colours count ⌝ }
 {
     let mut rules = no_rules();
+    let mut numbers = [0u32; MOST_RULES];
     let mut at = from;
     for i in 0..count {
         let r = read_rule(s, at, motifs, colours);
         match r {
             RuleRead::Refused(f) => return refused_rules(f),
             RuleRead::Whole(rule, next) => {
+                let number = equal::rule_number(rule);
+                if repeats(strict, &numbers[0..i], number) {
+                    return refused_rules(fault(18, at));
+                }
+                numbers[i] = number;
                 rules[i] = rule;
                 at = next;
             }

@@ -3,12 +3,13 @@
 use Prim.Native.Nat.{ℕ, suc, _+_, _≤_, _<_}
 use mathlib.Core.Path.{_≡_, refl, sym, _∙_, ap}
 use mathlib.Core.Bool.{Bool}
-use mathlib.Core.List.{List, [], _∷_, _++_, map, List·Memᴰ}
+use mathlib.Core.List.{List, [], _∷_, _++_, map, List·Memᴰ, List·Memᴰ·head, List·Memᴰ·tail}
 use native.Mathlib.Omega.{arith}
 use lib.Dec.{eqb}
 use lib.ListN.{length, getD, take, drop, set, length-append, length-map}
 use lib.Seq.{sets, sets-eq, length-sets, take-at}
 use Rattle.names.specs.Pick.{pick}
+use Rattle.names.proofs.Picking.{pick-ind}
 use Rattle.books.specs.Keeps.{mostRules}
 use Rattle.books.specs.Rules.{noRule}
 use Rattle.books.specs.declared.family.Family.{Family}
@@ -16,14 +17,11 @@ use Rattle.books.specs.declared.rule.Rule.{Rule}
 use Rattle.books.proofs.StandingRules.{there-length, there-next, there-none, there-stands, one-written}
 use Rattle.families.specs.Combine.{copies}
 use Rattle.families.specs.inner.Counts.{headed}
-use Rattle.families.specs.inner.Gathered.{rulesStanding, followed, raisedBy, changed, Rows}
+use Rattle.families.specs.inner.Gathered.{rulesStanding, none, leftBy, followed, changed, Rows, Stands}
 use Rattle.families.specs.inner.Lent.{rulesOf, CountsKept}
-use Rattle.families.specs.inner.Combined.{addedBy}
-use Rattle.families.specs.declared.asked.Pairing.{Pairing}
-use Rattle.families.specs.declared.asked.Pairing.the-variants.{EitherOf, Joined}
 use Rattle.families.specs.declared.gathering.Rules.{Rules}
-use Rattle.families.proofs.Copying.{copies-next, copies-raised}
-use Rattle.families.proofs.Counting.{copies-length, headed-few}
+use Rattle.families.proofs.Copying.{copies-next}
+use Rattle.families.proofs.Counting.{headed-few}
 
 -- the rule on a place of the row
 abbrev pub ruleOn : Rules → ℕ → Rule
@@ -73,11 +71,15 @@ module _ (k : Rules) (rows : Rows k) where
         ≡ pick t (record { head = n; body = ruleOn k i .body } ∷ copies n s (drop (i + 1) (rulesStanding k))) (copies n s (drop (i + 1) (rulesStanding k)))
     copied-next n = ap (copies n s) (left-next i h) ∙ copies-next n s _ _ test
 
--- Rules that stand in a list, in its row of places.
-pub record Stands (l : Rules) (xs : List Rule) : Type 0 where
-  pub rows : Rows l
-  pub are : rulesStanding l ≡ xs
+  -- whether the next rule is found decides whether it is left out
+  pub missed-next : (found : Rule → Bool) (i : ℕ) → i < k .count → {t : Bool} → found (ruleOn k i) ≡ t → leftBy found (drop i (rulesStanding k))
+      ≡ pick t (leftBy found (drop (i + 1) (rulesStanding k))) (ruleOn k i ∷ leftBy found (drop (i + 1) (rulesStanding k)))
+  unfolding leftBy
+  missed-next found i h test =
+      ap (leftBy found) (left-next i h)
+      ∙ ap (λ (t : Bool). pick t (leftBy found (drop (i + 1) (rulesStanding k))) (ruleOn k i ∷ leftBy found (drop (i + 1) (rulesStanding k)))) test
 
+-- Rules that stand in a row of places.
 module _ (l : Rules) (xs : List Rule) (st : Stands l xs) where
   pub stands-count : l .count ≡ length xs
   stands-count = sym (standing-length l (st .rows)) ∙ ap length (st .are)
@@ -116,22 +118,31 @@ module _ (l : Rules) (rows : Rows l) (t : Rule → Rule) where
   pub changed-count : length (rulesStanding (changed t l)) ≡ l .count
   changed-count = standing-length (changed t l) changed-rows
 
--- Raised rules have the raised head as often as they had the head.
-pub headed-raised : (k : Rules) → Rows k → (by s : ℕ) (numbers : List ℕ) → headed (by + s) (rulesStanding (changed (raisedBy by numbers) k)) ≡ headed s (rulesStanding k)
-unfolding raisedBy
-headed-raised k rows by s numbers =
-    ap (headed (by + s)) (changed-stands k (rulesStanding k) (record { rows = rows; are = refl }) (raisedBy by numbers) .are)
-    ∙ sym (copies-length 0 (by + s) (map (raisedBy by numbers) (rulesStanding k)))
-    ∙ ap length (copies-raised 0 by s (λ c. getD numbers c 0) (rulesStanding k))
-    ∙ length-map (copies 0 s (rulesStanding k)) _
-    ∙ copies-length 0 s (rulesStanding k)
+-- Rules by themselves, in the row of others.
+pub none-stands : (l : Rules) → Rows l → Stands (none l) []
+none-stands l rows = record { rows = record { few = omega arith; places-all = rows .places-all }; are = refl }
+
+pub alone-stands : (l : Rules) → Rows l → (xs : List Rule) → length xs ≤ mostRules → Stands (followed (none l) xs) xs
+alone-stands l rows xs few = followed-stands (none l) [] (none-stands l rows) xs (omega arith)
+
+-- Of rules those that are not found are no more, and two tests that agree on them leave the same.
+pub left-few : (found : Rule → Bool) (rs : List Rule) → length (leftBy found rs) ≤ length rs
+unfolding leftBy
+left-few found [] = omega arith
+left-few found (r ∷ rs) =
+    pick-ind (λ (l : List Rule). length l ≤ suc (length rs)) (found r) (leftBy found rs) (r ∷ leftBy found rs)
+    (λ e. omega (arith, left-few found rs))
+    (λ e. omega (arith, left-few found rs))
+
+pub left-same : (found other : Rule → Bool) (rs : List Rule) → ((r : Rule) → List·Memᴰ r rs → found r ≡ other r) → leftBy found rs ≡ leftBy other rs
+unfolding leftBy
+left-same found other [] same = refl
+left-same found other (r ∷ rs) same =
+    let rest = left-same found other rs (λ q m. same q (List·Memᴰ·tail m)) in
+    λ i. pick (same r (List·Memᴰ·head refl) i) (rest i) (r ∷ rest i)
 
 -- No more rules are copied from a start than the family has.
 pub copied-few : (f : Family) → CountsKept f → headed (f .start) (rulesStanding (rulesOf f)) ≤ mostRules
 copied-few f sized =
     let few = headed-few (f .start) (rulesStanding (rulesOf f)) in
     omega (arith, sized .rows .few, standing-length (rulesOf f) (sized .rows))
-
-pub added-few : (p : Pairing) (f g : Family) → CountsKept f → CountsKept g → addedBy p f g ≤ mostRules + mostRules
-added-few EitherOf f g sf sg = omega (arith, copied-few f sf, copied-few g sg)
-added-few (Joined way) f g sf sg = omega arith

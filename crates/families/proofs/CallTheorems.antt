@@ -1,6 +1,7 @@
 -- What each of the eight calls makes, from the bytes of the lent books to the bytes written: where it answers 0, so many bytes of the slice are a book that holds
 -- exactly what the combination of the lent books should hold. Its contents are the combination's, and its spelling is read back.
 use Prim.Native.Nat.{ℕ, _≤_}
+use mathlib.Core.Bool.{true}
 use mathlib.Core.Path.{_≡_, sym, _∙_, ap, subst⁻¹}
 use mathlib.Core.List.{List}
 use mathlib.Core.Logic.{_↔_, _⊎_}
@@ -54,8 +55,8 @@ two-new : (op : Contents → Contents → Contents) (X : (Picture → Type 0) �
 two-new op X keeps holds first second out left r bf bs leaves =
     let New : Outcome → Type 0 = λ o. o .answer .number ≡ 0 → NewBook out (o .out) (o .count) (X (Held first) (Held second)) in
     subst⁻¹ New (two-read op keeps first second out left r bf bs leaves)
-    (lent-ends New out 1 first (λ f. onSecond (op f) second out)
-    (λ a. lent-ends New out 2 second (λ g. made (op (contentsOf first) g) out)
+    (lent-ends New out true 1 first (λ f. onSecond (op f) second out)
+    (λ a. lent-ends New out true 2 second (λ g. made (op (contentsOf first) g) out)
     (λ b z.
     let k = accepted-spelled first bf a .keeps in
     let l = accepted-spelled second bs b .keeps in
@@ -69,7 +70,7 @@ one-spelled : (op : Contents → Contents) → KeptOne op → (book out left : L
 one-spelled op keeps book out left r bytes leaves =
     let Spells : Outcome → Type 0 = λ o. o .answer .number ≡ 0 → Keeps (contentsOf book) × Spelled (op (contentsOf book)) out (o .out) (o .count) in
     subst⁻¹ Spells (one-read op keeps book out left r bytes leaves)
-    (lent-ends Spells out 1 book (λ f. made (op f) out)
+    (lent-ends Spells out true 1 book (λ f. made (op f) out)
     (λ a z. let k = accepted-spelled book bytes a .keeps in (k, made-spelled _ out (keeps _ k) z))
     (λ some z. absurd (some z)))
 

@@ -1,6 +1,7 @@
 -- Demand 1 for each of the eight calls, from any bytes: an outcome is a fault of the first book, or of the second where the first has none, or one of 0, 12 and 13,
 -- and the host reads off that very outcome.
 use Prim.Native.Nat.{ℕ}
+use mathlib.Core.Bool.{true}
 use mathlib.Core.Path.{refl, subst⁻¹}
 use mathlib.Core.List.{List}
 use mathlib.Core.Logic.{_⊎_, inl, inr, ⊎-elim}
@@ -41,14 +42,14 @@ module _ (Faulty : Answer → Type 0) (out : List ℕ) where
   made-told : (c : Contents) → Tells (made c out)
   made-told c =
       made-ends Tells out c
-      (λ _ _. record { one-of = inl (omega arith); faulty = λ some _. absurd (omega arith); faultless = λ _. (refl, refl); refusal = λ z. absurd (z refl) })
-      (λ _ _. record { one-of = inr (inr refl); faulty = λ _ few. absurd (omega arith); faultless = λ _. (refl, refl); refusal = λ _. (refl, refl) })
-      (λ _. record { one-of = inr (inl refl); faulty = λ _ few. absurd (omega arith); faultless = λ _. (refl, refl); refusal = λ _. (refl, refl) })
+      (λ _ _. record { one-of = inl (inl (omega arith)); faulty = λ some _. absurd (omega arith); faultless = λ _. (refl, refl); refusal = λ z. absurd (z refl) })
+      (λ _ _. record { one-of = inr (inr refl); faulty = λ _ few. absurd (⊎-elim (λ h. omega arith) (λ h. omega arith) few); faultless = λ _. (refl, refl); refusal = λ _. (refl, refl) })
+      (λ _. record { one-of = inr (inl refl); faulty = λ _ few. absurd (⊎-elim (λ h. omega arith) (λ h. omega arith) few); faultless = λ _. (refl, refl); refusal = λ _. (refl, refl) })
 
   lent-told : (input : ℕ) (s : List ℕ) → ((a : Answer) → Blames input s a → Faulty a) → (go : Contents → Outcome) → (IsBook s → Tells (go (contentsOf s)))
       → Tells (lent input s out go)
   lent-told input s blames go told =
-      lent-ends Tells out input s go told
+      lent-ends Tells out true input s go told
       (λ some.
       let b = book-refused s some .blamed in
       record {

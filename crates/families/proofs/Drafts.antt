@@ -20,7 +20,7 @@ use Rattle.books.specs.declared.rule.Rule.{Rule}
 use Rattle.books.specs.declared.rule.Body.{Body}
 use Rattle.families.specs.Combine.{copies, repeated, rebodied}
 use Rattle.families.specs.inner.Counts.{headed}
-use Rattle.families.specs.inner.Gathered.{rulesStanding, followed, changed, Rows}
+use Rattle.families.specs.inner.Gathered.{rulesStanding, followed, changed, Rows, Stands}
 use Rattle.families.specs.inner.Lent.{rulesOf, CountsKept}
 use Rattle.families.specs.Limits.{countsWithin?, withinLimits?}
 use Rattle.families.specs.inner.Combined.{repeatedRules}
@@ -28,7 +28,7 @@ use Rattle.families.specs.inner.Made.{draftedAs, tooMuch, Makes}
 use Rattle.families.specs.declared.gathering.Rules.{Rules}
 use Rattle.families.proofs.Counting.{copies-length, repeated-length, rebodied-length}
 use Rattle.families.proofs.Testing.{within-limits, within-counts}
-use Rattle.families.proofs.AddingRules.{Stands, standing-length, followed-stands, changed-stands}
+use Rattle.families.proofs.AddingRules.{standing-length, followed-stands, changed-stands}
 
 -- Contents that are within the limits are drafted, and others are told.
 pub drafted-makes : (s t : List ℕ) (f : Family) (more : Colours) (l : Rules) (c : Contents) → CountsKept f → more .count ≤ mostColours → Rows l

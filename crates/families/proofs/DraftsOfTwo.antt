@@ -1,19 +1,20 @@
 -- The rules gathered from two lent books are those of the combination: the second book's rules stand raised after the first's, their colours under their
 -- numbers in the merged list, and the new ones follow.
 use Prim.Native.Nat.{ℕ, _+_, _≤_, _<_}
-use mathlib.Core.Path.{_≡_, refl, sym, _∙_, ap}
+use mathlib.Core.Path.{_≡_, refl, sym, _∙_, ap, ap₂, subst, subst⁻¹}
 use mathlib.Core.Bool.{Bool, true}
-use mathlib.Core.List.{List, [], _∷_, _++_, map, append-assoc, List·Memᴰ, List·Memᴰ·head, List·Memᴰ·tail}
+use mathlib.Core.List.{List, [], _∷_, _++_, map, append-assoc, List·Memᴰ, List·Memᴰ·head, List·Memᴰ·tail, List·Memᴰ·not-nil}
 use native.Mathlib.Omega.{arith}
-use lib.ListN.{length, getD, length-append, length-map}
+use lib.ListN.{length, getD, length-append}
 use Rattle.names.specs.Name.{listed}
 use Rattle.names.specs.Spelling.{mostColours}
 use Rattle.names.specs.Colours.{namesIn}
 use Rattle.names.proofs.ReadingColours.{names-count, name-at}
 use Rattle.books.specs.Contents.{Contents}
 use Rattle.books.specs.ContentsIn.{contentsIn}
+use Rattle.books.specs.Equal.{withoutCopies}
 use Rattle.books.specs.Keeps.{BodyFits, mostRules}
-use Rattle.books.specs.Picture.{joins}
+use Rattle.books.specs.RuleNumbers.{AllFit}
 use Rattle.books.specs.declared.family.Family.{Family}
 use Rattle.books.specs.declared.rule.Rule.{Rule}
 use Rattle.books.specs.declared.rule.Body.{Body}
@@ -23,20 +24,21 @@ use Rattle.families.specs.inner.Merges.{Merges}
 use Rattle.books.specs.Moved.{moved}
 use Rattle.families.specs.Combine.{renumbered, raised, copies, bothBooks, joined, either-of}
 use Rattle.families.specs.inner.Asked.{paired}
-use Rattle.families.specs.inner.Gathered.{rulesStanding, followed, raisedBy}
+use Rattle.families.specs.inner.Gathered.{rulesStanding, missing, followed, raisedBy, Rows, Stands}
 use Rattle.families.specs.inner.Lent.{rulesOf, Lent}
 use Rattle.families.specs.Limits.{countsWithin?, withinLimits?}
-use Rattle.families.specs.inner.Combined.{raisedRules, bothRules, addedBy, pairRules}
+use Rattle.families.specs.inner.Combined.{raisedRules, firstAdds, secondAdds, AddsFit, GatherFits, gathered}
 use Rattle.families.specs.inner.Made.{draftedAs, Makes, MakesPair}
 use Rattle.families.specs.declared.asked.Pairing.{Pairing}
 use Rattle.families.specs.declared.asked.Pairing.the-variants.{EitherOf, Joined}
 use Rattle.families.specs.declared.merge.Merged.{Merged}
 use Rattle.families.specs.declared.gathering.Rules.{Rules}
-use Rattle.families.proofs.Copying.{copies-raised}
-use Rattle.families.proofs.Counting.{copies-length, both-length}
+use Rattle.families.proofs.Fitting.{fit-more, fit-copies, fit-second}
+use Rattle.families.proofs.NoCopies.{either-of-rules}
+use Rattle.families.proofs.Counting.{both-length}
 use Rattle.families.proofs.Testing.{within-counts}
 use Rattle.families.proofs.Drafts.{drafted-makes, own-stand, own-count}
-use Rattle.families.proofs.AddingRules.{Stands, followed-stands, changed-stands, changed-count, headed-raised}
+use Rattle.families.proofs.AddingRules.{standing-length, stands-count, followed-stands, changed-stands, changed-rows, changed-count}
 
 map-agrees : (h k : Rule → Rule) (rs : List Rule) → ((r : Rule) → List·Memᴰ r rs → h r ≡ k r) → map h rs ≡ map k rs
 map-agrees h k [] e = refl
@@ -72,6 +74,9 @@ module _ (s t : List ℕ) (f g : Family) (m : Merged) (lf : Lent s f) (lg : Lent
       ∙ map-agrees _ _ (second .rules)
       (λ r h i. record { head = f .motifs + r .head; body = body-same (r .body) (lg .keeps .sound .rules-fit r h .body-fits) i })
 
+  pub risen-rows : Rows (raisedRules f g (m .numbers))
+  risen-rows = changed-rows (rulesOf g) (lg .fitted .sized .rows) (raisedBy (f .motifs) (m .numbers))
+
   -- how many there are
   first-count : length (first .rules) ≡ f .count
   first-count = own-count s f (lf .fitted .sized)
@@ -81,9 +86,6 @@ module _ (s t : List ℕ) (f g : Family) (m : Merged) (lf : Lent s f) (lg : Lent
 
   risen-count : length risen ≡ g .count
   risen-count = changed-count (rulesOf g) (lg .fitted .sized .rows) (raisedBy (f .motifs) (m .numbers))
-
-  both-stand : f .count + g .count ≤ mostRules → Stands (bothRules f g (m .numbers)) (first .rules ++ risen)
-  both-stand room = followed-stands (rulesOf f) (first .rules) (own-stand s f (lf .fitted .sized)) risen (omega (arith, first-count, risen-count))
 
   merged-count : length (merged (first .colours) (second .colours)) ≡ f .colours .count + m .more .count
   merged-count =
@@ -104,11 +106,6 @@ module _ (s t : List ℕ) (f g : Family) (m : Merged) (lf : Lent s f) (lg : Lent
       both-length first second new ∙ omega (arith, first-count, second-count) in
       within-counts (bothBooks first second new) _ _ _ merged-count refl rules
 
-  pub pair-test : (p : Pairing) → withinLimits? (paired p first second) ≡ tested (addedBy p f g)
-  unfolding either-of joined
-  pair-test EitherOf = both-test _ ∙ ap tested (simp (length-append, length-map, copies-raised, copies-length))
-  pair-test (Joined way) = both-test _
-
   -- the rules of both with new ones after them, drafted
   both-makes : (l : Rules) (new rules : List Rule) → Stands l rules → rules ≡ bothBooks first second new .rules
       → withinLimits? (bothBooks first second new) ≡ true
@@ -116,22 +113,89 @@ module _ (s t : List ℕ) (f g : Family) (m : Merged) (lf : Lent s f) (lg : Lent
   both-makes l new rules st e =
       drafted-makes s t f (m .more) l (bothBooks first second new) (lf .fitted .sized) more-few (st .rows) (mm .names) (st .are ∙ e)
 
-  pub pair-makes : (p : Pairing) → f .count + g .count + addedBy p f g ≤ mostRules → withinLimits? (paired p first second) ≡ true
-      → MakesPair p s f t g (draftedAs f (m .more) (f .motifs + g .motifs + 1) (f .motifs + g .motifs) (pairRules p f g (m .numbers)))
-  unfolding either-of joined pairRules
-  pair-makes EitherOf room =
-      let new : ℕ = f .motifs + g .motifs in
-      let both : List Rule = first .rules ++ risen in
+  -- the new start, and the second start raised
+  abbrev new : ℕ
+  new = f .motifs + g .motifs
+
+  abbrev other : ℕ
+  other = f .motifs + g .start
+
+  new-few : new < 256
+  new-few = omega (arith, lf .fitted .sized .motifs-few, lg .fitted .sized .motifs-few)
+
+  paired-is : (p : Pairing)
+      → paired p first second ≡ bothBooks first second (firstAdds p f new ++ secondAdds p (f .start) (firstAdds p f new) risen other new)
+  unfolding either-of withoutCopies joined firstAdds secondAdds
+  paired-is EitherOf =
       let own : List Rule = copies new (f .start) (first .rules) in
-      let other : List Rule = copies new (f .motifs + g .start) risen in
-      let both-count : length both ≡ f .count + g .count = omega (arith, length-append (first .rules) risen, first-count, risen-count) in
-      let own-count = copies-length new (f .start) (first .rules) in
-      let other-count = copies-length new (f .motifs + g .start) risen ∙ headed-raised (rulesOf g) (lg .fitted .sized .rows) (f .motifs) (g .start) (m .numbers) in
-      let longer = followed-stands (bothRules f g (m .numbers)) both (both-stand (omega arith)) own (omega arith) in
-      let last : length (both ++ own) + length other ≤ mostRules = omega (arith, length-append both own) in
-      both-makes _ _ _ (followed-stands (followed (bothRules f g (m .numbers)) own) (both ++ own) longer other last) (simp (risen-are, append-assoc))
-  pair-makes (Joined way) room =
-      let both : List Rule = first .rules ++ risen in
-      let new : Rule = record { head = f .motifs + g .motifs; body = joins way (f .start) (f .motifs + g .start) } in
-      let last : length both + 1 ≤ mostRules = omega (arith, length-append (first .rules) risen, first-count, risen-count) in
-      both-makes _ _ _ (followed-stands (bothRules f g (m .numbers)) both (both-stand (omega arith)) (new ∷ []) last) (simp (risen-are, append-assoc))
+      let rules = either-of-rules first second (lf .keeps) (lg .keeps)
+      ∙ ap (λ (l : List Rule). bothBooks first second (own ++ missing own (copies new other l)) .rules) (sym risen-are) in
+      λ i. record { colours = merged (first .colours) (second .colours); motifs = new + 1; start = new; rules = rules i }
+  paired-is (Joined way) = refl
+
+  first-fit : (p : Pairing) → AllFit (firstAdds p f new)
+  unfolding firstAdds
+  first-fit EitherOf =
+      fit-copies _ _ new (f .start) (first .rules) new-few
+      (fit-more _ _ _ _ (first .rules) (omega (arith, lf .keeps .motifs-few)) (omega (arith, lf .keeps .colours-ok .few)) (lf .keeps .sound .rules-fit))
+  first-fit (Joined way) = λ r m. absurd (List·Memᴰ·not-nil m)
+
+  risen-fit : AllFit risen
+  risen-fit =
+      subst AllFit (sym risen-are)
+      (fit-more _ _ _ _ (raised first second) (omega (arith, lf .fitted .sized .motifs-few, lg .fitted .sized .motifs-few))
+      (omega (arith, merged-count, more-few, lf .fitted .sized .colours-few)) (fit-second first second (lf .keeps .sound) (lg .keeps .sound)))
+
+  -- what is added from each book
+  abbrev firstNew : Pairing → List Rule
+  firstNew p = firstAdds p f new
+
+  abbrev secondNew : Pairing → List Rule
+  secondNew p = secondAdds p (f .start) (firstNew p) risen other new
+
+  module _ (p : Pairing) (copied : Rules) (from-first : Stands copied (firstNew p)) where
+    -- the parts of these rules fit a byte
+    pub adds-fit : AddsFit (f .start) copied (raisedRules f g (m .numbers)) other new
+    adds-fit =
+        record {
+          start-fits = omega (arith, lf .fitted .sized .start-fits, lf .fitted .sized .motifs-few);
+          other-fits = omega (arith, lg .fitted .sized .start-fits, new-few);
+          new-fits = new-few;
+          copied-rows = from-first .rows;
+          raised-rows = risen-rows;
+          copied-fit = subst AllFit (sym (from-first .are)) (first-fit p);
+          raised-fit = risen-fit;
+        }
+
+    module _ (added : Rules) (from-second : Stands added (secondAdds p (f .start) (rulesStanding copied) risen other new)) where
+      added-stands : Stands added (secondNew p)
+      added-stands =
+          record {
+            rows = from-second .rows;
+            are = from-second .are ∙ ap (λ (l : List Rule). secondAdds p (f .start) l risen other new) (from-first .are);
+          }
+
+      pub pair-test : withinLimits? (paired p first second) ≡ tested (copied .count + added .count)
+      pair-test =
+          ap withinLimits? (paired-is p) ∙ both-test (firstNew p ++ secondNew p)
+          ∙ ap tested (length-append (firstNew p) (secondNew p) ∙ omega (arith, stands-count copied _ from-first, stands-count added _ added-stands))
+
+      pub gather-fits : f .count + g .count + (copied .count + added .count) ≤ mostRules → GatherFits (rulesOf f) (raisedRules f g (m .numbers)) copied added
+      gather-fits room = record { raised-rows = risen-rows; copied-rows = from-first .rows; added-rows = from-second .rows; room = room }
+
+      pub pair-makes : f .count + g .count + (copied .count + added .count) ≤ mostRules → withinLimits? (paired p first second) ≡ true
+          → MakesPair p s f t g (draftedAs f (m .more) (new + 1) new (gathered (rulesOf f) (raisedRules f g (m .numbers)) copied added))
+      pair-makes room small =
+          let l : Rules = rulesOf f in
+          let one = followed-stands l (first .rules) (own-stand s f (lf .fitted .sized)) risen (omega (arith, first-count, risen-count)) in
+          let copied-count = standing-length copied (from-first .rows) in
+          let added-count = standing-length added (from-second .rows) in
+          let both-count = length-append (first .rules) risen in
+          let two = followed-stands (followed l risen) (first .rules ++ risen) one (rulesStanding copied) (omega (arith, first-count, risen-count)) in
+          let longer-count = length-append (first .rules ++ risen) (rulesStanding copied) in
+          let three = followed-stands _ ((first .rules ++ risen) ++ rulesStanding copied) two (rulesStanding added) (omega (arith, first-count, risen-count)) in
+          let rules : ((first .rules ++ risen) ++ rulesStanding copied) ++ rulesStanding added ≡ bothBooks first second (firstNew p ++ secondNew p) .rules =
+          ap₂ (λ (x y : List Rule). ((first .rules ++ risen) ++ x) ++ y) (from-first .are) (added-stands .are)
+          ∙ ap (λ (x : List Rule). ((first .rules ++ x) ++ firstNew p) ++ secondNew p) risen-are ∙ simp append-assoc in
+          subst⁻¹ (λ (c : Contents). Makes s t c (draftedAs f (m .more) (new + 1) new (gathered l (raisedRules f g (m .numbers)) copied added))) (paired-is p)
+          (both-makes _ (firstNew p ++ secondNew p) _ three rules (sym (ap withinLimits? (paired-is p)) ∙ small))

@@ -8,6 +8,7 @@ use Rattle.books.specs.Picture.{Picture}
 use Rattle.books.specs.Derives.{Member}
 use Rattle.books.specs.Keeps.{Sound}
 use Rattle.books.specs.declared.rule.Rule.{Rule}
+use Rattle.books.proofs.LeavingOut.{without-copies-same}
 use Rattle.books.specs.declared.rule.Body.{Body}
 use Rattle.families.specs.Combine.{raised, copies, bothBooks, either-of}
 use Rattle.families.proofs.Copying.{copies-forth, copies-back}
@@ -46,11 +47,18 @@ module _ (f g : Contents) (sf : Sound f) (sg : Sound g) where
       let u = second-rule f g _ sf sg heads _ x (omega arith) (omega (arith, sg .start-fits)) m in
       Memᴰ·append-right (f .rules) (Memᴰ·append-right (raised f g) (Memᴰ·append-right own (copies-forth _ _ x (raised f g) u)))
 
-  pub either-of-derives : (p : Picture) → Member (either-of f g) p ↔ (Member f p ⊎ Member g p)
-  unfolding either-of
-  either-of-derives p =
+  both-derives : (p : Picture) → Member both p ↔ (Member f p ⊎ Member g p)
+  both-derives p =
       let first-in = first-derives f _ _ _ sf (after-first f g _ sf sg heads) p in
       let second-in = second-derives f g _ sf sg heads p in (
         λ x. ⊎-elim (λ u. inl (first-in .0 u)) (λ u. inr (second-in .0 u)) (rehead-cases _ _ _ _ start-rule x),
         ⊎-elim (λ u. rehead _ _ _ has-first (first-in .1 u)) (λ u. rehead _ _ _ has-second (second-in .1 u)),
       )
+
+  -- leaving out later copies changes no sheet
+  pub either-of-derives : (p : Picture) → Member (either-of f g) p ↔ (Member f p ⊎ Member g p)
+  unfolding either-of
+  either-of-derives p =
+      let same = without-copies-same both p in
+      let derives = both-derives p in
+      (λ x. derives .0 (same .0 x), λ x. same .1 (derives .1 x))

@@ -16,6 +16,7 @@ use Rattle.books.specs.declared.rule.Rule.{Rule}
 use Rattle.books.specs.declared.rule.Body.{Body}
 use Rattle.books.specs.declared.rule.Body.the-variants.{Colour, Across, Down}
 use Rattle.books.proofs.GreaterCounts.{rule-more}
+use Rattle.books.proofs.LeavingOut.{without-copies-sound}
 use Rattle.families.specs.Merged.{merged}
 use Rattle.books.specs.Moved.{moved, movedRule}
 use Rattle.families.specs.Combine.{renumbered, raised, copies, bothBooks, either-of, joined, repeated, rebodied}
@@ -35,7 +36,7 @@ fit-append m n xs ys h k r u = ⊎-elim (h r) (k r) (List·Memᴰ·append-cases 
 pub fit-more : (m n m′ n′ : ℕ) (xs : List Rule) → m ≤ m′ → n ≤ n′ → RulesFit m n xs → RulesFit m′ n′ xs
 fit-more m n m′ n′ xs h k f r u = rule-more m n m′ n′ r h k (f r u)
 
-fit-copies : (m n a s : ℕ) (xs : List Rule) → a < m → RulesFit m n xs → RulesFit m n (copies a s xs)
+pub fit-copies : (m n a s : ℕ) (xs : List Rule) → a < m → RulesFit m n xs → RulesFit m n (copies a s xs)
 fit-copies m n a s xs h f r u =
     let (e, v) = copies-back a s (r .head) (r .body) xs u in
     record { head-fits = omega arith; body-fits = f _ v .body-fits }
@@ -56,10 +57,10 @@ module _ (f g : Contents) (sf : Sound f) (sg : Sound g) where
   body-raised (Down u v) h = omega arith
 
   -- the two rule lists under the new counts
-  fit-first : RulesFit (f .motifs + g .motifs + 1) (length (merged (f .colours) (g .colours))) (f .rules)
+  pub fit-first : RulesFit (f .motifs + g .motifs + 1) (length (merged (f .colours) (g .colours))) (f .rules)
   fit-first = fit-more (f .motifs) (length (f .colours)) _ _ (f .rules) (omega arith) (merged-length (f .colours) (g .colours)) (sf .rules-fit)
 
-  fit-second : RulesFit (f .motifs + g .motifs + 1) (length (merged (f .colours) (g .colours))) (raised f g)
+  pub fit-second : RulesFit (f .motifs + g .motifs + 1) (length (merged (f .colours) (g .colours))) (raised f g)
   fit-second q u =
       let (r, m, e) = Memᴰ·of-map (movedRule (λ n. f .motifs + n) (renumbered f g)) (g .rules) u in
       let w = sg .rules-fit r m in
@@ -76,10 +77,11 @@ module _ (f g : Contents) (sf : Sound f) (sg : Sound g) where
   pub either-of-sound : Sound (either-of f g)
   unfolding either-of
   either-of-sound =
-      both-sound _
+      without-copies-sound _
+      (both-sound _
       (fit-append _ _ (copies (f .motifs + g .motifs) (f .start) (f .rules)) _
       (fit-copies _ _ _ _ (f .rules) (omega arith) fit-first)
-      (fit-copies _ _ _ _ (raised f g) (omega arith) fit-second))
+      (fit-copies _ _ _ _ (raised f g) (omega arith) fit-second)))
 
 pub repeated-sound : (d : Dir) (f : Contents) → Sound f → Sound (repeated d f)
 unfolding repeated

@@ -30,7 +30,7 @@ rebodied-twice t e b =
     rebodied-as t t (λ x. x) e b
     ∙ ap (λ (rs : List Rule). record { colours = b .colours; motifs = b .motifs; start = b .start; rules = rs }) (map-id (b .rules))
 
-changed-body-twice : (k : Change) (x : Body) → changedBody k (changedBody k x) ≡ x
+pub changed-body-twice : (k : Change) (x : Body) → changedBody k (changedBody k x) ≡ x
 changed-body-twice Mirrored (Colour c) = refl
 changed-body-twice Mirrored (Across l r) = refl
 changed-body-twice Mirrored (Down u v) = refl

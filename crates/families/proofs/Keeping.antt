@@ -1,16 +1,18 @@
--- A combination of books that keep the rules of a book keeps them, where it is within the limits: it is sound, its colours are theirs, and it has at least
--- the rules of the first. Images keep them without a limit, since they change no count. So what is shown of every combination that keeps the rules holds of each call.
+-- A combination of books that keep the rules of a book keeps them, where it is within the limits: it is sound, its colours are theirs, it has at least
+-- the rules of the first, and none stands twice. Images keep them without a limit, since they change no count. So what is shown of every combination that keeps the rules holds of each call.
 use Prim.Native.Nat.{_≤_}
-use mathlib.Core.List.{List}
+use mathlib.Core.List.{[]}
 use native.Mathlib.Omega.{arith}
 use lib.ListN.{length, length-append}
-use Rattle.names.specs.Spelling.{ColoursOk}
+use Rattle.names.specs.Spelling.{Distinct, ColoursOk}
 use Rattle.books.specs.Contents.{Contents}
 use Rattle.books.specs.declared.rule.Dir.the-variants.{Across as across, Down as down}
 use Rattle.books.specs.declared.rule.Dir.{Dir}
 use Rattle.books.specs.Keeps.{Sound, Keeps}
-use Rattle.books.specs.declared.rule.Rule.{Rule}
-use Rattle.families.specs.Combine.{bothBooks, either-of, joined, repeated, rebodied}
+use Rattle.books.specs.Equal.{withoutCopies}
+use Rattle.books.proofs.Firsts.{firsts-distinct}
+use Rattle.books.proofs.LeavingOut.{firsts-some}
+use Rattle.families.specs.Combine.{either-of, joined, repeated, rebodied}
 use Rattle.families.specs.inner.Asked.{changedBody}
 use Rattle.families.specs.declared.asked.Change.{Change}
 use Rattle.families.specs.declared.asked.Change.the-variants.{Mirrored, Flipped, Transposed}
@@ -18,40 +20,38 @@ use Rattle.families.specs.Limits.{WithinLimits}
 use Rattle.families.specs.EachCall.{EachCall}
 use Rattle.families.proofs.Merging.{merged-ok}
 use Rattle.families.proofs.Counting.{rebodied-length}
+use Rattle.families.proofs.NoCopies.{joined-distinct, repeated-distinct, changed-distinct}
 use Rattle.families.proofs.Fitting.{joined-sound, either-of-sound, repeated-sound, changed-sound}
 
--- What is sound and within the limits keeps the rules, where it begins with the rules of a book that keeps them.
-keeps-of : (f h : Contents) → Keeps f → ColoursOk (h .colours) → length (f .rules) ≤ length (h .rules) → WithinLimits h → Sound h → Keeps h
-keeps-of f h kf colours long small sound =
+-- What is sound, has some rules and none twice, and is within the limits, keeps the rules.
+keeps-of : (h : Contents) → ColoursOk (h .colours) → 1 ≤ length (h .rules) → WithinLimits h → Sound h → Distinct (h .rules) → Keeps h
+keeps-of h colours some small sound once =
     record {
       colours-ok = colours;
       motifs-some = omega (arith, sound .start-fits);
       motifs-few = small .motifs-few;
-      rules-some = omega (arith, kf .rules-some);
+      rules-some = some;
       rules-few = small .rules-few;
       sound = sound;
+      no-copies = once;
     }
-
-both-keeps : (f g : Contents) (new : List Rule) → Keeps f → Keeps g → Sound (bothBooks f g new) → WithinLimits (bothBooks f g new) → Keeps (bothBooks f g new)
-both-keeps f g new kf kg sound small =
-    keeps-of f (bothBooks f g new) kf
-    (merged-ok (f .colours) (g .colours) (kf .colours-ok) (kg .colours-ok) (small .colours-few))
-    (simp length-append (omega arith))
-    small
-    sound
 
 pub joined-keeps : (d : Dir) (f g : Contents) → Keeps f → Keeps g → WithinLimits (joined d f g) → Keeps (joined d f g)
 unfolding joined
-joined-keeps d f g kf kg = both-keeps f g _ kf kg (joined-sound f g (kf .sound) (kg .sound) d)
+joined-keeps d f g kf kg small =
+    keeps-of (joined d f g) (merged-ok (f .colours) (g .colours) (kf .colours-ok) (kg .colours-ok) (small .colours-few))
+    (simp length-append (omega (arith, kf .rules-some))) small (joined-sound f g (kf .sound) (kg .sound) d) (joined-distinct d f g kf kg)
 
 pub either-of-keeps : (f g : Contents) → Keeps f → Keeps g → WithinLimits (either-of f g) → Keeps (either-of f g)
-unfolding either-of
-either-of-keeps f g kf kg = both-keeps f g _ kf kg (either-of-sound f g (kf .sound) (kg .sound))
+unfolding either-of withoutCopies
+either-of-keeps f g kf kg small =
+    keeps-of (either-of f g) (merged-ok (f .colours) (g .colours) (kf .colours-ok) (kg .colours-ok) (small .colours-few))
+    (firsts-some _ (simp length-append (omega (arith, kf .rules-some)))) small (either-of-sound f g (kf .sound) (kg .sound)) (firsts-distinct [] _)
 
 pub repeated-keeps : (d : Dir) (f : Contents) → Keeps f → WithinLimits (repeated d f) → Keeps (repeated d f)
 unfolding repeated
 repeated-keeps d f kf small =
-    keeps-of f (repeated d f) kf (kf .colours-ok) (simp length-append (omega arith)) small (repeated-sound d f (kf .sound))
+    keeps-of (repeated d f) (kf .colours-ok) (simp length-append (omega (arith, kf .rules-some))) small (repeated-sound d f (kf .sound)) (repeated-distinct d f kf)
 
 pub changed-keeps : (k : Change) (f : Contents) → Keeps f → Keeps (rebodied (changedBody k) f)
 changed-keeps k f kf =
@@ -62,6 +62,7 @@ changed-keeps k f kf =
       rules-some = rw (rebodied-length (changedBody k) f) (kf .rules-some);
       rules-few = rw (rebodied-length (changedBody k) f) (kf .rules-few);
       sound = changed-sound k f (kf .sound);
+      no-copies = changed-distinct k f kf;
     }
 
 -- What keeps the rules is within the limits, so that nothing is refused that could be written.

@@ -4,6 +4,7 @@ pub mod EitherOf
 pub mod Joins
 pub mod Runs
 pub mod Images
+pub mod NoCopies
 pub mod Fitting
 pub mod Keeping
 pub mod Merging

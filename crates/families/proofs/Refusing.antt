@@ -1,6 +1,7 @@
 -- Which number the combination of accepted books gets: 12 where it exceeds the limits, else 13 where the slice is shorter than its spelling, else 0. The tests are
 -- made in that order.
 use Prim.Native.Nat.{ℕ}
+use mathlib.Core.Bool.{true}
 use mathlib.Core.Path.{_≡_, refl, _∙_, ap, subst⁻¹}
 use mathlib.Core.List.{List}
 use native.Mathlib.Omega.{arith}
@@ -52,7 +53,7 @@ made-verdict c out =
 
 -- An accepted book goes on.
 accepted-goes : (input : ℕ) (s out : List ℕ) (go : Contents → Outcome) → IsBook s → lent input s out go ≡ go (contentsOf s)
-accepted-goes input s out go a = read-accepted s (bookOf s) refl input out go (ap (λ (f : Fault). f .number) a)
+accepted-goes input s out go a = read-accepted true s (bookOf s) refl input out go (ap (λ (f : Fault). f .number) a)
 
 -- Two accepted books, and one.
 abbrev pub VerdictTwo : (Contents → Contents → Contents) → Type 0

@@ -4,11 +4,10 @@ use mathlib.Core.Path.{_≡_}
 use mathlib.Core.List.{List}
 use mathlib.Core.Logic.{_↔_, _⊎_}
 use lib.ListN.{length}
-use Rattle.names.specs.Pick.{ReadersNumber}
 use Rattle.books.specs.Contents.{Contents}
 use Rattle.books.specs.Book.{bookOf}
 use Rattle.books.specs.SpellBook.{spellBook}
-use Rattle.books.specs.Answer.{answer}
+use Rattle.books.specs.Answer.{InputsNumber, answer}
 use Rattle.books.specs.declared.answer.Answer.{Answer}
 use Rattle.families.specs.Limits.{WithinLimits}
 
@@ -17,11 +16,11 @@ pub record Blames (input : ℕ) (s : List ℕ) (a : Answer) : Type 0 where
   pub fault-is : a ≡ answer (bookOf s .fault .number) input (bookOf s .fault .place)
   pub inside : a .place ≤ length s
 
--- Demand 1, whatever was lent: 1 to 8 tell a fault of a lent book, and no other number blames one; a refusal writes nothing
+-- Demand 1, whatever was lent: 1 to 8 and 18 tell a fault of a lent book, and no other number blames one; a refusal writes nothing
 pub record Answered (Faulty : Answer → Type 0) (out left : List ℕ) (a : Answer) (count : ℕ) : Type 0 where
-  pub one-of : ReadersNumber (a .number) ⊎ ((a .number ≡ 12) ⊎ (a .number ≡ 13))
-  pub faulty : 1 ≤ a .number → ReadersNumber (a .number) → Faulty a
-  pub faultless : (a .number ≡ 0) ⊎ (ReadersNumber (a .number) → ⊥) → (a .blamed ≡ 0) × (a .place ≡ 0)
+  pub one-of : InputsNumber (a .number) ⊎ ((a .number ≡ 12) ⊎ (a .number ≡ 13))
+  pub faulty : 1 ≤ a .number → InputsNumber (a .number) → Faulty a
+  pub faultless : (a .number ≡ 0) ⊎ (InputsNumber (a .number) → ⊥) → (a .blamed ≡ 0) × (a .place ≡ 0)
   pub refusal : (a .number ≡ 0 → ⊥) → (count ≡ 0) × (left ≡ out)
 
 -- Demand 3, of accepted books: 12 exactly where the combination c exceeds the limits, 13 exactly where it does not and the slice is shorter than

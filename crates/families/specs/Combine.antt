@@ -5,6 +5,7 @@ use lib.Dec.{eqb}
 use Rattle.names.specs.Pick.{pick}
 use Rattle.names.specs.Name.{listed}
 use Rattle.books.specs.Contents.{Contents, name}
+use Rattle.books.specs.Equal.{withoutCopies}
 use Rattle.books.specs.Moved.{movedRule}
 use Rattle.books.specs.Picture.{joins}
 use Rattle.books.specs.declared.rule.Dir.the-variants.{Across as across, Down as down}
@@ -37,10 +38,12 @@ bothBooks f g new =
       rules = f .rules ++ (raised f g ++ new);
     }
 
+-- a later rule equal to an earlier one is left out
 unfoldable pub either-of : Contents → Contents → Contents
 either-of f g =
-    bothBooks f g
-    (copies (f .motifs + g .motifs) (f .start) (f .rules) ++ copies (f .motifs + g .motifs) (f .motifs + g .start) (raised f g))
+    withoutCopies
+    (bothBooks f g
+    (copies (f .motifs + g .motifs) (f .start) (f .rules) ++ copies (f .motifs + g .motifs) (f .motifs + g .start) (raised f g)))
 
 -- beside is joined across, above is joined down
 unfoldable pub joined : Dir → Contents → Contents → Contents

@@ -6,14 +6,13 @@ use books::family::Family;
 use books::rule::Body;
 use books::rule::Dir;
 use books::rule::Rule;
-use names::colours::MOST_COLOURS;
 ghost use mathlib.Core.Path.{_≡_};
 ghost use Prim.Native.Nat.{_<_};
 ghost use Rattle.books.specs.Picture.{joins};
 ghost use Rattle.families.specs.inner.Counts.{headed};
-ghost use Rattle.families.specs.inner.Gathered.{rulesStanding};
+ghost use Rattle.families.specs.inner.Gathered.{rulesStanding, none, Stands};
 ghost use Rattle.families.specs.inner.Lent.{rulesOf, CountsKept};
-ghost use Rattle.families.specs.inner.Combined.{addedBy, PairFits, pairRules, RepeatFits, repeatedRules};
+ghost use Rattle.families.specs.inner.Combined.{firstAdds, secondAdds, AddsFit, GatherFits, gathered, RepeatFits, repeatedRules};
 
 // A family's rules by themselves.
 pub(crate) fn rules_of(f: Family) -> Rules
@@ -34,17 +33,6 @@ pub(crate) fn start_rules(f: Family) -> usize
     gathering::count_headed(rules_of(f), f.start)
 }
 
-// How many rules a pairing adds to those of both families.
-pub(crate) fn added_by(pairing: Pairing, f: Family, g: Family) -> usize
-    requires { ⌜ CountsKept f × CountsKept g ⌝ }
-    ensures { λ r. ⌜ r ≡ addedBy pairing f g ⌝ }
-{
-    match pairing {
-        Pairing::EitherOf => start_rules(f) + start_rules(g),
-        Pairing::Joined(_) => 1,
-    }
-}
-
 // The rule that joins two motifs.
 fn join_rule(way: Dir, head: usize, first: usize, second: usize) -> Rule
     requires { ⌜ (head < 256) × (first < 256) × (second < 256) ⌝ }
@@ -62,29 +50,57 @@ fn join_rule(way: Dir, head: usize, first: usize, second: usize) -> Rule
     }
 }
 
-// Both families' rules, and under the new start copies of those of both starts, or the rule that joins both starts.
-pub(crate) fn pair_rules(
-    pairing: Pairing,
-    f: Family,
-    g: Family,
-    numbers: [u8; MOST_COLOURS],
-) -> Rules
-    requires { ⌜ PairFits pairing f g ⌝ }
-    ensures { λ r. ⌜ r ≡ pairRules pairing f g numbers ⌝ }
+// A row of places with no rules yet.
+fn none_in(l: Rules) -> Rules
+    ensures { λ r. ⌜ r ≡ none l ⌝ }
+{
+    let rules = l.rules;
+    Rules { count: 0, rules }
+}
+
+// What a pairing adds from the first family: copies of its start's rules under the new start, or nothing.
+pub(crate) fn first_adds(pairing: Pairing, f: Family, new: usize) -> Rules
+    requires { ⌜ CountsKept f × (new < 256) ⌝ }
+    ensures { λ r. ⌜ Stands r (firstAdds pairing f new) ⌝ }
 {
     let own = rules_of(f);
-    let by = f.motifs;
-    let raised = gathering::raise_rules(rules_of(g), by, numbers);
-    let both = gathering::add_rules(own, raised);
-    let start = f.motifs + g.motifs;
-    let other = by + g.start;
+    let empty = none_in(own);
+    match pairing {
+        Pairing::EitherOf => gathering::add_copies(empty, own, f.start, new),
+        Pairing::Joined(_) => empty,
+    }
+}
+
+// ... and from the second, whose rules are raised: copies of its start's rules that are not among those of the first, or the rule that joins both starts.
+pub(crate) fn second_adds(
+    pairing: Pairing,
+    start: usize,
+    copied: Rules,
+    raised: Rules,
+    other: usize,
+    new: usize,
+) -> Rules
+    requires { ⌜ AddsFit start copied raised other new ⌝ }
+    ensures { λ r. ⌜ Stands r (secondAdds pairing start (rulesStanding copied) (rulesStanding raised) other new) ⌝ }
+{
+    let empty = none_in(raised);
     match pairing {
         Pairing::EitherOf => {
-            let longer = gathering::add_copies(both, own, f.start, start);
-            gathering::add_copies(longer, raised, other, start)
+            let copies = gathering::add_copies(empty, raised, other, new);
+            gathering::leave_out(copied, copies)
         }
-        Pairing::Joined(way) => gathering::add_rule(both, join_rule(way, start, f.start, other)),
+        Pairing::Joined(way) => gathering::add_rule(empty, join_rule(way, new, start, other)),
     }
+}
+
+// Both families' rules, and what the pairing adds from each.
+pub(crate) fn gather(own: Rules, raised: Rules, copied: Rules, added: Rules) -> Rules
+    requires { ⌜ GatherFits own raised copied added ⌝ }
+    ensures { λ r. ⌜ r ≡ gathered own raised copied added ⌝ }
+{
+    let both = gathering::add_rules(own, raised);
+    let longer = gathering::add_rules(both, copied);
+    gathering::add_rules(longer, added)
 }
 
 // Run or stack: copies of the start's rules under a new start, and the rule that joins the old start with the new one.

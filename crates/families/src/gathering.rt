@@ -1,4 +1,5 @@
 // Gathering the rules of a new book from those of one or two others.
+use books::equal;
 use books::rule::Body;
 use books::rule::MOST_RULES;
 use books::rule::Rule;
@@ -6,12 +7,15 @@ use names::colours::MOST_COLOURS;
 ghost use mathlib.Core.Path.{_≡_};
 ghost use mathlib.Core.List.{[], _∷_, List·Memᴰ};
 ghost use Prim.Native.Nat.{_+_, _≤_, _<_};
+ghost use mathlib.Core.Bool.{true, false};
+ghost use Rattle.names.specs.Pick.{pick};
 ghost use Rattle.names.specs.Spelling.{mostColours};
 ghost use Rattle.books.specs.declared.rule.Rule.{Rule};
 ghost use Rattle.books.specs.Keeps.{mostMotifs, mostRules, RuleFits};
+ghost use Rattle.books.specs.RuleNumbers.{AllFit, among};
 ghost use Rattle.families.specs.Combine.{copies};
 ghost use Rattle.families.specs.inner.Counts.{headed};
-ghost use Rattle.families.specs.inner.Gathered.{rulesStanding, followed, raisedBy, changed, Rows};
+ghost use Rattle.families.specs.inner.Gathered.{rulesStanding, none, missing, followed, raisedBy, changed, Rows};
 
 // The first `count` rules stand.
 pub(crate) struct Rules {
@@ -86,6 +90,38 @@ pub(crate) fn add_copies(l: Rules, k: Rules, head: usize, new: usize) -> Rules
         }
     }
     Rules { count: at, rules }
+}
+
+// Whether a rule's number stands not among those of other rules.
+fn is_missing(numbers: &[u32], number: u32) -> bool
+    ensures { λ r. ⌜ r ≡ pick (among (now (numbers .entry)) number) false true ⌝ }
+{
+    if equal::stands(numbers, number) {
+        return false;
+    }
+    true
+}
+
+// The rules of another list that do not stand among these.
+pub(crate) fn leave_out(l: Rules, k: Rules) -> Rules
+    requires { ⌜ Rows l × Rows k × AllFit (rulesStanding l) × AllFit (rulesStanding k) ⌝ }
+    ensures { λ r. ⌜ r ≡ followed (none k) (missing (rulesStanding l) (rulesStanding k)) ⌝ }
+{
+    let own = l.count;
+    let others = l.rules;
+    let numbers = equal::numbers_of(others, own);
+    let mut rules = k.rules;
+    let mut left = 0;
+    let count = k.count;
+    for i in 0..count {
+        let rule = k.rules[i];
+        let number = equal::rule_number(rule);
+        if is_missing(&numbers[0..own], number) {
+            rules[left] = rule;
+            left += 1;
+        }
+    }
+    Rules { count: left, rules }
 }
 
 // A rule of a second book as it stands after a first: its motifs raised, its colour under its number in the merged list.

@@ -4,6 +4,7 @@ use crate::asked::Pairing;
 use crate::asked::Single;
 use crate::changing;
 use crate::combining;
+use crate::gathering;
 use crate::gathering::Rules;
 use crate::merge;
 use books::draft::Draft;
@@ -70,7 +71,7 @@ fn drafting(f: Family, more: Colours, motifs: usize, start: usize, l: Rules) -> 
     }
 }
 
-// A pairing has one motif more than both books, and the rules that it adds to theirs.
+// A pairing has one motif more than both books, and the rules that it adds to theirs: what remains of them is counted.
 pub(crate) fn make_pair(pairing: Pairing, first: &[u8], f: Family, second: &[u8], g: Family) -> Made
     requires { ⌜ Lent (now first) f × Lent (now second) g ⌝ }
     ensures { λ r. ⌜ MakesPair pairing (now (first .entry)) f (now (second .entry)) g r ⌝ }
@@ -78,14 +79,18 @@ pub(crate) fn make_pair(pairing: Pairing, first: &[u8], f: Family, second: &[u8]
     let m = merge::merge(first, f.colours, second, g.colours);
     let more = m.more;
     let start = f.motifs + g.motifs;
-    let added = combining::added_by(pairing, f, g);
+    let own = combining::rules_of(f);
+    let by = f.motifs;
+    let numbers = m.numbers;
+    let raised = gathering::raise_rules(combining::rules_of(g), by, numbers);
+    let copied = combining::first_adds(pairing, f, start);
+    let added = combining::second_adds(pairing, f.start, copied, raised, by + g.start, start);
     if counts_within(
         f.colours.count + more.count,
         start + 1,
-        f.count + g.count + added,
+        f.count + g.count + (copied.count + added.count),
     ) {
-        let numbers = m.numbers;
-        let rules = combining::pair_rules(pairing, f, g, numbers);
+        let rules = combining::gather(own, raised, copied, added);
         drafting(f, more, start + 1, start, rules)
     } else {
         exceeding(f)

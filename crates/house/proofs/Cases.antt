@@ -12,8 +12,9 @@ use Rattle.names.specs.Put.{put}
 use Rattle.names.specs.declared.number.Read.the-variants.{Value, Refused}
 use Rattle.books.specs.Lent.{contentsOf}
 use Rattle.books.specs.Answer.{plain}
-use Rattle.books.specs.Rules.{colourNumberAt, joinAt, bodyAt, ruleAt, rulesAt}
-use Rattle.books.specs.Book.{figuresAt, ruledAt, figuredAt, bookOf}
+use Rattle.books.specs.Equal.{sameRule, stands, firsts, withoutCopies}
+use Rattle.books.specs.Rules.{colourNumberAt, joinAt, bodyAt, ruleAt, repeats, rulesAt}
+use Rattle.books.specs.Book.{figuresAt, ruledAt, figuredAt, bookBy}
 use Rattle.books.specs.Size.{sizeAt}
 use Rattle.books.specs.Cells.{cellsAt}
 use Rattle.books.specs.Sheet.{filledAt, sheetOf}
@@ -29,7 +30,7 @@ use Rattle.pieces.specs.Derivation.{judged, roomed, derivation}
 use Rattle.families.specs.Merged.{without, merged}
 use Rattle.families.specs.Combine.{copies, joined, repeated, either-of, beside, run, transposed}
 use Rattle.families.specs.Limits.{countsWithin?, withinLimits?}
-use Rattle.books.specs.Outcome.{written, lent}
+use Rattle.books.specs.Outcome.{written, lentBy}
 use Rattle.families.specs.Outcome.{made}
 use Rattle.house.specs.Bytes.{houseBook, houseContents, sheetA, sheetAReordered, sheetASlate, oneCell, oneColumn, oneRow, transposedBook, besideBook, runBook, eitherOfBook}
 use Rattle.house.specs.Asked.{asked, changed, withItself, wrote}
@@ -68,11 +69,11 @@ pub record Cases : Type 0 where
 
 pub cases : Cases
 unfolding numberAt longerAt lastGroup numberIn numberBelow spellNumber leastByte nameOf sameName listed findName colourAt coloursOf put
-    colourNumberAt joinAt bodyAt ruleAt rulesAt figuresAt ruledAt figuredAt bookOf sizeAt cellsAt filledAt sheetOf
-    andThen orElse called? anyCut fitsBody anyRule givesIn derives?
+    colourNumberAt joinAt bodyAt ruleAt rulesAt figuresAt ruledAt figuredAt bookBy sizeAt cellsAt filledAt sheetOf
+    repeats stands sameRule firsts withoutCopies andThen orElse called? anyCut fitsBody anyRule givesIn derives?
     each pieces bits entry table least works cutOf covers fits takes taken lowest chosen choose treeWithin treeOf
     judged roomed derivation
-    without merged copies joined repeated either-of countsWithin? withinLimits? written made lent
+    without merged copies joined repeated either-of countsWithin? withinLimits? written made lentBy
 cases =
     record {
       contents = refl;

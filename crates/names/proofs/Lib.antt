@@ -6,6 +6,7 @@ pub mod Picking
 pub mod Onwards
 pub mod SameNames
 pub mod Listing
+pub mod NothingTwice
 pub mod ByteByByte
 pub mod Putting
 pub mod ReadingNumbers

@@ -15,15 +15,19 @@ use Rattle.names.specs.declared.number.Read.the-variants.{Value, Refused
 use Rattle.names.proofs.Picking.{pick-ind}
 use Rattle.names.proofs.Onwards.{onward-ind}
 
--- a refusal: an answer number from 1 to 8, with a place within the input and not past a limit
-pub record Blamed (s : List ℕ) (limit : ℕ) (f : Fault) : Type 0 where
+-- a refusal: an answer number from 1 on that the reader gives, with a place within the input and not past a limit
+pub record BlamedBy (Known : ℕ → Type 0) (s : List ℕ) (limit : ℕ) (f : Fault) : Type 0 where
   pub some : 1 ≤ f .number
-  pub known : ReadersNumber (f .number)
+  pub known : Known (f .number)
   pub inside : f .place ≤ length s
   pub near : f .place ≤ limit
 
+-- ... 1 to 8
+abbrev pub Blamed : List ℕ → ℕ → Fault → Type 0
+Blamed = BlamedBy ReadersNumber
+
 -- a later limit serves too
-pub blamed-later : {s : List ℕ} {m n : ℕ} {f : Fault} → m ≤ n → Blamed s m f → Blamed s n f
+pub blamed-later : {Known : ℕ → Type 0} {s : List ℕ} {m n : ℕ} {f : Fault} → m ≤ n → BlamedBy Known s m f → BlamedBy Known s n f
 blamed-later h b = record { some = b .some; known = b .known; inside = b .inside; near = omega (arith, b .near) }
 
 -- the ways in which reading a number ends

@@ -18,10 +18,10 @@ pub record NameOk (n : Name) : Type 0 where
   pub few : length n ≤ longestName
   pub shown : (i : ℕ) → i < length n → Shown (length n) i (getD n i 0)
 
--- no name stands twice
-abbrev pub Distinct : List Name → Type 0
+-- nothing stands twice
+abbrev pub Distinct : {A : Type 0} → List A → Type 0
 Distinct [] = Unit {0}
-Distinct (n ∷ ns) = (List·Memᴰ n ns → ⊥) × Distinct ns
+Distinct (x ∷ xs) = (List·Memᴰ x xs → ⊥) × Distinct xs
 
 -- at least one name, each of which keeps the rules
 pub record ColoursOk (ns : List Name) : Type 0 where

@@ -1,12 +1,12 @@
 -- Demand 1, of the call: from any bytes and any slices, what the answer can be, which input it blames and where, and what each lent slice then holds. Stated on the number
 -- that the C host gets, taken apart as the header does. Each way in which a derivation ends says it, and the number is the answer packed.
 use Prim.Native.Nat.{ℕ, _/_, _%_, _^_, _≤_}
-use mathlib.Core.Path.{_≡_, refl}
+use mathlib.Core.Path.{_≡_, refl, subst}
 use mathlib.Core.List.{List, _++_}
-use mathlib.Core.Logic.{_⊎_, inl, inr}
+use mathlib.Core.Logic.{_⊎_, inl, inr, ⊎-elim}
 use native.Mathlib.Omega.{arith}
 use lib.ListN.{length, drop}
-use Rattle.names.specs.Pick.{ReadersNumber}
+use Rattle.books.specs.Answer.{InputsNumber}
 use Rattle.books.specs.Book.{bookOf}
 use Rattle.books.specs.Sheet.{sheetOf}
 use Rattle.books.proofs.Packing.{apart}
@@ -33,12 +33,17 @@ pub record InSheet (book sheet : List ℕ) (number blamed place : ℕ) : Type 0 
   pub second : blamed ≡ 2
   pub inside : place ≤ length sheet
 
+-- From 9 on 18 alone tells a fault of an input.
+pub not-input : (n : ℕ) → InputsNumber n → 9 ≤ n → (n ≡ 18 → ⊥) → ⊥
+not-input n (inl few) h other = omega arith
+not-input n (inr e) h other = other e
+
 -- A call that was lent a book, a sheet and two slices answers so, and leaves the slices so.
 pub record Answered (book sheet work tree : List ℕ) (number blamed place : ℕ) (work-left tree-left : List ℕ) : Type 0 where
-  pub listed : number ≤ 11
-  pub faults : 1 ≤ number → ReadersNumber number → InBook book number blamed place ⊎ InSheet book sheet number blamed place
-  pub others : (number ≡ 0) ⊎ (9 ≤ number) → (blamed ≡ 0) × (place ≡ 0)
-  pub unwritten : 1 ≤ number → number ≤ 10 → (work-left ≡ work) × (tree-left ≡ tree)
+  pub listed : (number ≤ 11) ⊎ (number ≡ 18)
+  pub faults : 1 ≤ number → InputsNumber number → InBook book number blamed place ⊎ InSheet book sheet number blamed place
+  pub others : (number ≡ 0) ⊎ (InputsNumber number → ⊥) → (blamed ≡ 0) × (place ≡ 0)
+  pub unwritten : 1 ≤ number → (number ≡ 11 → ⊥) → (work-left ≡ work) × (tree-left ≡ tree)
   pub eleven : number ≡ 11 → (work-left ≡ table (contentsOf book) (pictureOf sheet) ++ drop (entriesNeeded (pictureOf sheet)) work) × (tree-left ≡ tree)
 
 module _ (book sheet work tree : List ℕ) where
@@ -51,17 +56,17 @@ module _ (book sheet work tree : List ℕ) where
       (record {
         in-book = λ n. let f = book-refused book n .blamed in
             record {
-              listed = omega (arith, f .known);
+              listed = ⊎-elim (λ h. inl (omega arith)) (λ e. inr e) (f .known);
               faults = λ h g. inl (record { number-is = refl; place-is = refl; first = refl; inside = f .inside });
               others = λ z. absurd (unlisted _ (f .some) (f .known) z);
               unwritten = λ h g. (refl, refl);
-              eleven = λ e. absurd (omega (arith, f .known, e));
+              eleven = λ e. absurd (not-input 11 (subst InputsNumber e (f .known)) (omega arith) (λ u. omega arith));
             };
         in-sheet = λ z n. let f = sheet-refused sheet n .blamed in
             record {
-              listed = omega (arith, f .known);
+              listed = inl (omega (arith, f .known));
               faults = λ h g. inr (record { book-fine = z; number-is = refl; place-is = refl; second = refl; inside = f .inside });
-              others = λ o. absurd (unlisted _ (f .some) (f .known) o);
+              others = λ o. absurd (unlisted _ (f .some) (inl (f .known)) o);
               unwritten = λ h g. (refl, refl);
               eleven = λ e. absurd (omega (arith, f .known, e));
             };
@@ -69,15 +74,15 @@ module _ (book sheet work tree : List ℕ) where
         short-tree = λ fine enough short. still 10 (omega arith) (omega arith);
         declined = λ fine room none.
             record {
-              listed = omega arith;
-              faults = λ h g. absurd (omega arith);
+              listed = inl (omega arith);
+              faults = λ h g. absurd (not-input 11 g (omega arith) (λ u. omega arith));
               others = λ o. (refl, refl);
-              unwritten = λ h g. absurd (omega arith);
+              unwritten = λ h g. absurd (g refl);
               eleven = λ e. (refl, refl);
             };
         derived = λ fine room x nodes given.
             record {
-              listed = omega arith;
+              listed = inl (omega arith);
               faults = λ h g. absurd (omega arith);
               others = λ o. (refl, refl);
               unwritten = λ h g. absurd (omega arith);
@@ -85,15 +90,15 @@ module _ (book sheet work tree : List ℕ) where
             };
       })
     where
-      unlisted : (n : ℕ) → 1 ≤ n → ReadersNumber n → (n ≡ 0) ⊎ (9 ≤ n) → ⊥
+      unlisted : (n : ℕ) → 1 ≤ n → InputsNumber n → (n ≡ 0) ⊎ (InputsNumber n → ⊥) → ⊥
       unlisted n h g (inl e) = omega arith
-      unlisted n h g (inr e) = omega arith
+      unlisted n h g (inr other) = other g
 
       still : (n : ℕ) → 9 ≤ n → n ≤ 10 → Answered book sheet work tree n 0 0 work tree
       still n h g =
           record {
-            listed = omega arith;
-            faults = λ u w. absurd (omega arith);
+            listed = inl (omega arith);
+            faults = λ u w. absurd (not-input n w h (λ u. omega arith));
             others = λ o. (refl, refl);
             unwritten = λ u w. (refl, refl);
             eleven = λ e. absurd (omega arith);

@@ -1,22 +1,22 @@
 -- Demand 2, on what is answered: which number is given exactly when, of `derive` and of `dv_derive` as the host reads it. Of the ways in which a derivation ends each has its
 -- number, and no two can be at once.
 use Prim.Native.Nat.{ℕ, _%_, _^_, _≤_, _<_}
-use mathlib.Core.Path.{_≡_, refl, sym, ap, _∙_}
+use mathlib.Core.Path.{_≡_, refl, sym, ap, _∙_, subst}
 use mathlib.Core.List.{List}
-use mathlib.Core.Logic.{_↔_}
+use mathlib.Core.Logic.{_↔_, inl}
 use native.Mathlib.Omega.{arith}
 use lib.ListN.{length}
-use Rattle.names.specs.Pick.{ReadersNumber}
 use Rattle.names.proofs.Tests.{together, neither}
 use Rattle.books.specs.Contents.{Contents}
 use Rattle.books.specs.Picture.{Picture}
 use Rattle.books.specs.Derives.{Member}
-use Rattle.books.specs.Answer.{packed}
+use Rattle.books.specs.Answer.{InputsNumber, packed}
 use Rattle.books.specs.declared.answer.Answer.{Answer}
 use Rattle.books.proofs.Packing.{apart}
 use Rattle.books.proofs.ReadingBooks.{book-refused}
 use Rattle.books.proofs.ReadingSheets.{sheet-refused}
 use Rattle.pieces.specs.Derivation.{Derivation, entriesNeeded, numbersNeeded, derivation, Leaves, LeavesPacked, Roomy}
+use Rattle.pieces.proofs.Demand1.{not-input}
 use Rattle.pieces.proofs.DerivationAnswers.{derivation-packs}
 use Rattle.books.specs.Lent.{contentsOf, pictureOf, Accepted}
 use Rattle.pieces.proofs.Endings.{derivation-ends}
@@ -29,7 +29,7 @@ module _ (book sheet entries numbers : List ℕ) where
   p = pictureOf sheet
 
   pub record Numbers (n : ℕ) : Type 0 where
-    pub faulty : ((1 ≤ n) × ReadersNumber n) ↔ (Accepted book sheet → ⊥)
+    pub faulty : ((1 ≤ n) × InputsNumber n) ↔ (Accepted book sheet → ⊥)
     pub nine : (n ≡ 9) ↔ (Accepted book sheet × (length entries < entriesNeeded p))
     pub ten : (n ≡ 10) ↔ (Accepted book sheet × (entriesNeeded p ≤ length entries) × (length numbers < numbersNeeded p))
     pub eleven : (n ≡ 11) ↔ (Accepted book sheet × Roomy p entries numbers × (Member b p → ⊥))
@@ -38,13 +38,13 @@ module _ (book sheet entries numbers : List ℕ) where
   abbrev Numbered : Derivation → Type 0
   Numbered d = Numbers (d .answer .number)
 
-  in-input : (n : ℕ) → 1 ≤ n → ReadersNumber n → (Accepted book sheet → ⊥) → Numbers n
+  in-input : (n : ℕ) → 1 ≤ n → InputsNumber n → (Accepted book sheet → ⊥) → Numbers n
   in-input n h g bad =
       record {
         faulty = together (h, g) bad;
-        nine = neither (λ e. omega arith) (λ x. bad (x .0));
-        ten = neither (λ e. omega arith) (λ x. bad (x .0));
-        eleven = neither (λ e. omega arith) (λ x. bad (x .0));
+        nine = neither (λ e. not-input 9 (subst InputsNumber e g) (omega arith) (λ u. omega arith)) (λ x. bad (x .0));
+        ten = neither (λ e. not-input 10 (subst InputsNumber e g) (omega arith) (λ u. omega arith)) (λ x. bad (x .0));
+        eleven = neither (λ e. not-input 11 (subst InputsNumber e g) (omega arith) (λ u. omega arith)) (λ x. bad (x .0));
         zero = neither (λ e. omega arith) (λ x. bad (x .0));
       }
 
@@ -53,10 +53,10 @@ module _ (book sheet entries numbers : List ℕ) where
       derivation-ends book sheet entries numbers Numbered
       (record {
         in-book = λ n. let f = book-refused book n .blamed in in-input _ (f .some) (f .known) (λ fine. n (fine .book-fine));
-        in-sheet = λ z n. let f = sheet-refused sheet n .blamed in in-input _ (f .some) (f .known) (λ fine. n (fine .sheet-fine));
+        in-sheet = λ z n. let f = sheet-refused sheet n .blamed in in-input _ (f .some) (inl (f .known)) (λ fine. n (fine .sheet-fine));
         short-work = λ fine short.
             record {
-              faulty = neither (λ e. omega (arith, e .1)) (λ bad. bad fine);
+              faulty = neither (λ e. not-input _ (e .1) (omega arith) (λ u. omega arith)) (λ bad. bad fine);
               nine = together refl (fine, short);
               ten = neither (λ e. omega arith) (λ x. omega (arith, x .1));
               eleven = neither (λ e. omega arith) (λ x. omega (arith, x .1 .work-long));
@@ -64,7 +64,7 @@ module _ (book sheet entries numbers : List ℕ) where
             };
         short-tree = λ fine enough short.
             record {
-              faulty = neither (λ e. omega (arith, e .1)) (λ bad. bad fine);
+              faulty = neither (λ e. not-input _ (e .1) (omega arith) (λ u. omega arith)) (λ bad. bad fine);
               nine = neither (λ e. omega arith) (λ x. omega (arith, x .1));
               ten = together refl (fine, enough, short);
               eleven = neither (λ e. omega arith) (λ x. omega (arith, x .1 .tree-long));
@@ -72,7 +72,7 @@ module _ (book sheet entries numbers : List ℕ) where
             };
         declined = λ fine room none.
             record {
-              faulty = neither (λ e. omega (arith, e .1)) (λ bad. bad fine);
+              faulty = neither (λ e. not-input _ (e .1) (omega arith) (λ u. omega arith)) (λ bad. bad fine);
               nine = neither (λ e. omega arith) (λ x. omega (arith, x .1, room .work-long));
               ten = neither (λ e. omega arith) (λ x. omega (arith, x .2, room .tree-long));
               eleven = together refl (fine, room, none);
@@ -90,7 +90,7 @@ module _ (book sheet entries numbers : List ℕ) where
 
   -- ── The theorems ──
 
-  -- 1 to 8 exactly where an input is refused, 9 exactly where both are accepted and the work slice is too short, 10 where only the tree slice is, 11 exactly where both are
+  -- 1 to 8 or 18 exactly where an input is refused, 9 exactly where both are accepted and the work slice is too short, 10 where only the tree slice is, 11 exactly where both are
   -- long enough and the family has not the sheet, and 0 exactly where it has it
   pub derive-numbers : {r : Answer} {w t : List ℕ} → Leaves (derivation book sheet entries numbers) r w t → Numbers (r .number)
   derive-numbers left = rw (left .answers) numbered

@@ -2,13 +2,13 @@
 -- with 0 the reason is the first that holds of the lent book and sheet. Stated on the parts of the answer, and for the C host on the number taken apart as the
 -- header does.
 use Prim.Native.Nat.{ℕ, _/_, _%_, _^_, _≤_, _<_}
-use mathlib.Core.Path.{_≡_, refl, ap, _∙_}
+use mathlib.Core.Path.{_≡_, refl, ap, _∙_, subst}
 use mathlib.Core.List.{List, _++_}
 use mathlib.Core.Logic.{_↔_, _⊎_, inl, inr}
 use native.Mathlib.Omega.{arith}
 use lib.ListN.{length, drop}
-use Rattle.names.specs.Pick.{ReadersNumber}
 use Rattle.names.proofs.Tests.{together, neither}
+use Rattle.books.specs.Answer.{InputsNumber}
 use Rattle.books.specs.Contents.{Contents}
 use Rattle.books.specs.Picture.{Picture}
 use Rattle.books.specs.Derives.{Member}
@@ -17,7 +17,7 @@ use Rattle.books.proofs.ReadingBooks.{book-refused}
 use Rattle.books.proofs.ReadingSheets.{sheet-refused}
 use Rattle.pieces.specs.Derivation.{entriesNeeded}
 use Rattle.pieces.specs.Table.{table}
-use Rattle.pieces.proofs.Demand1.{InBook, InSheet}
+use Rattle.pieces.proofs.Demand1.{InBook, InSheet, not-input}
 use Rattle.books.specs.Lent.{contentsOf, pictureOf, Accepted}
 use Rattle.reasons.specs.declared.calls.WhyNot.{WhyNot}
 use Rattle.reasons.specs.declared.reason.Reason.{Reason}
@@ -29,9 +29,10 @@ use Rattle.reasons.proofs.Apart.{values-read, reason-read, Packable, wh
 use Rattle.reasons.proofs.Endings.{why-not-ends}
 
 -- a number on which nothing is written
-unread : (n : ℕ) → 1 ≤ n → n ≤ 9 → (n ≡ 0) ⊎ (n ≡ 15) → ⊥
+unread : (n : ℕ) → 1 ≤ n → InputsNumber n ⊎ (n ≡ 9) → (n ≡ 0) ⊎ (n ≡ 15) → ⊥
 unread n h g (inl e) = omega arith
-unread n h g (inr e) = omega arith
+unread n h (inl g) (inr e) = not-input 15 (subst InputsNumber e g) (omega arith) (λ u. omega arith)
+unread n h (inr g) (inr e) = omega arith
 
 module _ (book sheet work : List ℕ) where
   abbrev b : Contents
@@ -50,41 +51,41 @@ module _ (book sheet work : List ℕ) where
 
   -- A call that was lent a book, a sheet and a work slice answers so, with this reason, and leaves the slice so.
   pub record Answered (number blamed place : ℕ) (reason : Reason) (left : List ℕ) : Type 0 where
-    pub listed : (number ≤ 9) ⊎ (number ≡ 15)
-    pub faulty : ((1 ≤ number) × ReadersNumber number) ↔ (Accepted book sheet → ⊥)
+    pub listed : InputsNumber number ⊎ ((number ≡ 9) ⊎ (number ≡ 15))
+    pub faulty : ((1 ≤ number) × InputsNumber number) ↔ (Accepted book sheet → ⊥)
     pub nine : (number ≡ 9) ↔ (Accepted book sheet × (length work < entriesNeeded p))
     pub fifteen : (number ≡ 15) ↔ (Ready × Member b p)
     pub zero : (number ≡ 0) ↔ (Ready × (Member b p → ⊥))
-    pub faults : 1 ≤ number → ReadersNumber number → InBook book number blamed place ⊎ InSheet book sheet number blamed place
-    pub others : (number ≡ 0) ⊎ (9 ≤ number) → (blamed ≡ 0) × (place ≡ 0)
+    pub faults : 1 ≤ number → InputsNumber number → InBook book number blamed place ⊎ InSheet book sheet number blamed place
+    pub others : (number ≡ 0) ⊎ (InputsNumber number → ⊥) → (blamed ≡ 0) × (place ≡ 0)
     pub first : number ≡ 0 → First b p reason
     pub no-reason : (number ≡ 0 → ⊥) → reason ≡ NoReason
-    pub unwritten : 1 ≤ number → number ≤ 9 → left ≡ work
+    pub unwritten : 1 ≤ number → InputsNumber number ⊎ (number ≡ 9) → left ≡ work
     pub written : (number ≡ 0) ⊎ (number ≡ 15) → left ≡ tabled
 
   abbrev Obeys : Outcome → Type 0
   Obeys o = Answered (o .answer .number) (o .answer .blamed) (o .answer .place) (o .reason) (o .entries)
 
-  faulty-input : (n blamed place : ℕ) → 1 ≤ n → ReadersNumber n → (Accepted book sheet → ⊥) → InBook book n blamed place ⊎ InSheet book sheet n blamed place
+  faulty-input : (n blamed place : ℕ) → 1 ≤ n → InputsNumber n → (Accepted book sheet → ⊥) → InBook book n blamed place ⊎ InSheet book sheet n blamed place
       → Answered n blamed place NoReason work
   faulty-input n blamed place h g bad where-it-is =
       record {
-        listed = inl (omega arith);
+        listed = inl g;
         faulty = together (h, g) bad;
-        nine = neither (λ e. omega arith) (λ x. bad (x .0));
-        fifteen = neither (λ e. omega arith) (λ x. bad (x .0 .0));
+        nine = neither (λ e. not-input 9 (subst InputsNumber e g) (omega arith) (λ u. omega arith)) (λ x. bad (x .0));
+        fifteen = neither (λ e. not-input 15 (subst InputsNumber e g) (omega arith) (λ u. omega arith)) (λ x. bad (x .0 .0));
         zero = neither (λ e. omega arith) (λ x. bad (x .0 .0));
         faults = λ _ _. where-it-is;
         others = λ o. absurd (unlisted o);
         first = λ z. absurd (omega arith);
         no-reason = λ _. refl;
         unwritten = λ _ _. refl;
-        written = λ o. absurd (unread n h (omega arith) o);
+        written = λ o. absurd (unread n h (inl g) o);
       }
     where
-      unlisted : (n ≡ 0) ⊎ (9 ≤ n) → ⊥
+      unlisted : (n ≡ 0) ⊎ (InputsNumber n → ⊥) → ⊥
       unlisted (inl e) = omega arith
-      unlisted (inr e) = omega arith
+      unlisted (inr other) = other g
 
   pub obeys : Obeys (whyNot book sheet work)
   obeys =
@@ -94,39 +95,39 @@ module _ (book sheet work : List ℕ) where
             faulty-input _ _ _ (f .some) (f .known) (λ fine. n (fine .book-fine))
             (inl (record { number-is = refl; place-is = refl; first = refl; inside = f .inside }));
         in-sheet = λ z n. let f = sheet-refused sheet n .blamed in
-            faulty-input _ _ _ (f .some) (f .known) (λ fine. n (fine .sheet-fine))
+            faulty-input _ _ _ (f .some) (inl (f .known)) (λ fine. n (fine .sheet-fine))
             (inr (record { book-fine = z; number-is = refl; place-is = refl; second = refl; inside = f .inside }));
         short-work = λ fine short.
             record {
-              listed = inl (omega arith);
-              faulty = neither (λ e. omega (arith, e .1)) (λ bad. bad fine);
+              listed = inr (inl refl);
+              faulty = neither (λ e. not-input 9 (e .1) (omega arith) (λ u. omega arith)) (λ bad. bad fine);
               nine = together refl (fine, short);
               fifteen = neither (λ e. omega arith) (λ x. omega (arith, x .0 .1));
               zero = neither (λ e. omega arith) (λ x. omega (arith, x .0 .1));
-              faults = λ h g. absurd (omega arith);
+              faults = λ h g. absurd (not-input 9 g (omega arith) (λ u. omega arith));
               others = λ o. (refl, refl);
               first = λ e. absurd (omega arith);
               no-reason = λ _. refl;
               unwritten = λ _ _. refl;
-              written = λ o. absurd (unread 9 (omega arith) (omega arith) o);
+              written = λ o. absurd (unread 9 (omega arith) (inr refl) o);
             };
         in-family = λ fine room x.
             record {
-              listed = inr refl;
-              faulty = neither (λ e. omega (arith, e .1)) (λ bad. bad fine);
+              listed = inr (inr refl);
+              faulty = neither (λ e. not-input 15 (e .1) (omega arith) (λ u. omega arith)) (λ bad. bad fine);
               nine = neither (λ e. omega arith) (λ y. omega (arith, y .1));
               fifteen = together refl ((fine, room), x);
               zero = neither (λ e. omega arith) (λ y. y .1 x);
-              faults = λ h g. absurd (omega arith);
+              faults = λ h g. absurd (not-input 15 g (omega arith) (λ u. omega arith));
               others = λ o. (refl, refl);
               first = λ e. absurd (omega arith);
               no-reason = λ _. refl;
-              unwritten = λ h g. absurd (omega arith);
+              unwritten = λ h g. absurd (unread 15 h g (inr refl));
               written = λ _. refl;
             };
         explained = λ fine room other first.
             record {
-              listed = inl (omega arith);
+              listed = inl (inl (omega arith));
               faulty = neither (λ e. omega (arith, e .0)) (λ bad. bad fine);
               nine = neither (λ e. omega arith) (λ y. omega (arith, y .1));
               fifteen = neither (λ e. omega arith) (λ y. other (y .1));
@@ -142,7 +143,7 @@ module _ (book sheet work : List ℕ) where
 
   -- ── The theorems ──
 
-  -- 1 to 8 exactly where an input is refused, 9 exactly where both are accepted and the work slice is too short, 15 exactly where the family has the sheet, and
+  -- 1 to 8 or 18 exactly where an input is refused, 9 exactly where both are accepted and the work slice is too short, 15 exactly where the family has the sheet, and
   -- 0 exactly where it has not: then with the first reason that holds
   pub why-not-answered : (r : WhyNot) (left : List ℕ) → Answers (whyNot book sheet work) r left
       → Answered (r .answer .number) (r .answer .blamed) (r .answer .place) (r .reason) left

@@ -8,6 +8,7 @@ use lib.Dec.{eqb}
 use lib.ListN.{length, length-append}
 use Rattle.names.specs.Counted.{each}
 use Rattle.names.specs.Pick.{pick}
+use Rattle.books.specs.Book.{bookOf}
 use Rattle.books.specs.Calls.{ticketOf}
 use Rattle.runs.specs.Figures.{answerOf, showing, answering, accepted, got, cellsOf, tickets, figuresOf, inARow}
 use Rattle.runs.specs.Lists.{those, howMany, addedUp, anyIn, leastOf, greatestOf}
@@ -16,7 +17,7 @@ use Rattle.runs.proofs.AnswersOfSheets.{answer-listed}
 use Rattle.runs.proofs.CountingLists.{once, those-append, how-many-append, how-many-one, added-append, added-one, least-more, greatest-more, any-more}
 use Rattle.runs.proofs.FiguresInARow.{row, ticketRow, Low, row-answered, row-coloured, row-ticketed}
 
-module _ (book : List ℕ) (sheets : List (List ℕ)) (sheet : List ℕ) where
+module _ (book : List ℕ) (fine : bookOf book .fault .number ≡ 0) (sheets : List (List ℕ)) (sheet : List ℕ) where
   abbrev more : List (List ℕ)
   more = sheets ++ (sheet ∷ [])
 
@@ -43,7 +44,7 @@ module _ (book : List ℕ) (sheets : List (List ℕ)) (sheet : List ℕ) where
     answered-row : answered so-far (answerOf book sheet) ≡ row (length more) (got book more) (cellsOf book sheets) (ticketRow (tickets book sheets) rest)
     unfolding inARow figuresOf each
     answered-row =
-        row-answered (length sheets) (got book sheets) (cellsOf book sheets) (ticketRow (tickets book sheets) rest) (answerOf book sheet) (answer-listed book sheet)
+        row-answered (length sheets) (got book sheets) (cellsOf book sheets) (ticketRow (tickets book sheets) rest) (answerOf book sheet) (answer-listed book sheet fine)
         ∙ (λ i. row (sym (length-append sheets (sheet ∷ [])) i) (λ a. got-more a i) (cellsOf book sheets) (ticketRow (tickets book sheets) rest))
 
     pub declined-row : (answerOf book sheet ≡ 0 → ⊥) → answered so-far (answerOf book sheet) ≡ with-it

@@ -18,7 +18,6 @@ use Rattle.books.specs.Derives.{Member}
 use Rattle.books.specs.Lent.{contentsOf, pictureOf, Accepted}
 use Rattle.books.specs.Sheet.{sheetOf}
 use Rattle.books.proofs.Area.{within-area}
-use Rattle.books.proofs.ReadingBooks.{book-refused}
 use Rattle.books.proofs.ReadingSheets.{sheet-refused, sheet-lies}
 use Rattle.pieces.specs.Derivation.{Derivation, entriesNeeded, numbersNeeded}
 use Rattle.pieces.proofs.Endings.{derivation-ends}
@@ -72,11 +71,11 @@ module _ (book sheet : List ℕ) where
         derived = λ fine room x nodes given. ways .derived fine x;
       })
 
-  pub answer-listed : Listed (answerOf book sheet)
-  answer-listed =
+  pub answer-listed : bookOf book .fault .number ≡ 0 → Listed (answerOf book sheet)
+  answer-listed fine =
       answer-ends Listed
       (record {
-        in-book = λ n. inl (book-refused book n .blamed .known);
+        in-book = λ n. absurd (n fine);
         in-sheet = λ z n. inl (sheet-refused sheet n .blamed .known);
         declined = λ fine none. inr refl;
         derived = λ fine x. inl (omega arith);

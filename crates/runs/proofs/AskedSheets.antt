@@ -94,7 +94,7 @@ module _ (book sheet work : List ℕ) (fine : bookOf book .fault .number ≡ 0) 
         let few = rw (← asks .size) at (g .area-few) in
         let all = ap length (asks .cells-are) ∙ numbers-all book (bookOf book .family .colours) sheet (sheetOf sheet .sheet) (g .area-few) (g .cells-all) in
         record {
-          counted = rw number-is (count-low (answerOf book sheet) (answer-listed book sheet));
+          counted = rw number-is (count-low (answerOf book sheet) (answer-listed book sheet fine));
           spare = spare;
           area-few = few;
           cells-all = omega arith;
@@ -111,8 +111,8 @@ module _ (book sheet work : List ℕ) (fine : bookOf book .fault .number ≡ 0) 
         go : Dec (r .answer .number ≡ 0) → withAsked (inARow (figuresOf book so-far) ++ rest) r cells ≡ inARow (figuresOf book (so-far ++ (sheet ∷ []))) ++ rest
         go (yes z) =
             rw (eq-eqb (r .answer .number) 0 z, asks .ticket, number-is)
-            (accepted-row book so-far sheet rest (sym number-is ∙ z) (take area cells) (taken-low z) (shows z))
-        go (no n) = rw (ne-eqb (r .answer .number) 0 n, number-is) (declined-row book so-far sheet rest (λ z. n (number-is ∙ z)))
+            (accepted-row book fine so-far sheet rest (sym number-is ∙ z) (take area cells) (taken-low z) (shows z))
+        go (no n) = rw (ne-eqb (r .answer .number) 0 n, number-is) (declined-row book fine so-far sheet rest (λ z. n (number-is ∙ z)))
 
     pub asked-adds : (f : List ℕ) → Adds book sheet work left f (withAsked f r cells)
     asked-adds f =

@@ -1,7 +1,7 @@
 -- Demand 1, of the calls: from any bytes and any slices, which number is answered and exactly when, which input is blamed and where, and what is
 -- left. Stated on the parts of the answer, and for the C host on the number taken apart as the header does.
 use Prim.Native.Nat.{ℕ, _/_, _%_, _^_, _≤_, _<_}
-use mathlib.Core.Path.{_≡_, refl, sym, ap, _∙_}
+use mathlib.Core.Path.{_≡_, refl, sym, ap, _∙_, subst}
 use mathlib.Core.List.{List, _++_}
 use mathlib.Core.Logic.{_↔_, _⊎_, inl, inr, ⊎-elim}
 use native.Mathlib.Omega.{arith}
@@ -10,12 +10,13 @@ use lib.Dec.{eqb}
 use lib.ListN.{length, drop, replicate}
 use Rattle.names.specs.Pick.{pick}
 use Rattle.names.proofs.Tests.{lt-or-le, together, neither}
-use Rattle.books.specs.Answer.{plain, packed, Packs}
+use Rattle.books.specs.Answer.{InputsNumber, plain, packed, Packs}
 use Rattle.books.specs.Book.{bookOf}
 use Rattle.books.specs.declared.answer.Answer.{Answer}
 use Rattle.books.proofs.LentEnds.{blamed-is}
 use Rattle.books.proofs.Packing.{apart, plain-packs, book-placed, fault-placed}
 use Rattle.books.proofs.ReadingBooks.{book-refused}
+use Rattle.pieces.proofs.Demand1.{not-input}
 use Rattle.runs.specs.Run.{mostBytes, framing, sheetsOf}
 use Rattle.runs.specs.Figures.{workRoom, figuresOf, noFigures, figuresLong, inARow}
 use Rattle.runs.specs.Outcome.{Outcome, refused, reported, report, Answers, told, runReport, Leaves}
@@ -33,7 +34,7 @@ Framed run = framing run .number ≡ 0
 
 -- A call that was lent a book, a run and a work slice answers so, with these figures, and leaves the slice so.
 pub record Answered (book run work : List ℕ) (number blamed place : ℕ) (figures : Figures) (left : List ℕ) : Type 0 where
-  pub listed : number ≤ 9
+  pub listed : InputsNumber number ⊎ (number ≡ 9)
   pub zero : (number ≡ 0) ↔ (Fine book × Framed run × (workRoom ≤ length work))
   pub nine : (number ≡ 9) ↔ (Fine book × Framed run × (length work < workRoom))
   -- a fault of the book is blamed on it at its place, which is a byte of the book or its end
@@ -63,9 +64,9 @@ module _ (book run work : List ℕ) where
         in-book = λ bad. let f = book-refused book bad .blamed in
             rw (ne-eqb (bookOf book .fault .number) 0 bad)
             (record {
-              listed = omega (arith, f .known);
+              listed = inl (f .known);
               zero = neither bad (λ x. bad (x .0));
-              nine = neither (λ e. omega (arith, f .known)) (λ x. bad (x .0));
+              nine = neither (λ e. not-input 9 (subst InputsNumber e (f .known)) (omega arith) (λ u. omega arith)) (λ x. bad (x .0));
               in-book = λ _. (refl, refl, refl, f .inside);
               in-run = λ z. absurd (bad z);
               others = λ z. absurd (bad z);
@@ -75,7 +76,7 @@ module _ (book run work : List ℕ) where
         in-run = λ fine bad. let f = framing-blamed run bad in
             rw (ne-eqb (framing run .number) 0 bad)
             (record {
-              listed = omega (arith, f .known);
+              listed = inl (inl (f .known));
               zero = neither bad (λ x. bad (x .1));
               nine = neither (λ e. omega (arith, f .known)) (λ x. bad (x .1));
               in-book = λ b. absurd (b fine);
@@ -86,7 +87,7 @@ module _ (book run work : List ℕ) where
             });
         short-work = λ fine framed h.
             record {
-              listed = omega arith;
+              listed = inr refl;
               zero = neither (λ z. omega arith) (λ x. omega (arith, x .2));
               nine = together refl (fine, framed, h);
               in-book = λ b. absurd (b fine);
@@ -97,7 +98,7 @@ module _ (book run work : List ℕ) where
             };
         nothing = λ g.
             record {
-              listed = omega arith;
+              listed = inl (inl (omega arith));
               zero = together refl (g .book-fine, g .run-fine, g .work-long);
               nine = neither (λ z. omega arith) (λ x. omega (arith, x .2, g .work-long));
               in-book = λ b. absurd (b (g .book-fine));
@@ -114,7 +115,7 @@ module _ (book run work : List ℕ) where
       (record {
         in-book = λ n. let e = ne-eqb (bookOf book .fault .number) 0 n in rw e (rw e at (book-placed book 1 (omega arith) .packs));
         in-run = λ _ n. let e = ne-eqb (framing run .number) 0 n in
-            rw e (rw e at (fault-placed run 2 mostBytes (framing run) (omega arith) (omega arith) (λ m. framing-blamed run m) .packs));
+            rw e (rw e at (fault-placed run 2 mostBytes (framing run) (λ n l. omega arith) (omega arith) (omega arith) (λ m. framing-blamed run m) .packs));
         short-work = λ _ _ _. plain-packs 9 0 (omega arith) (omega arith);
         nothing = λ _. plain-packs 0 0 (omega arith) (omega arith);
       })
@@ -128,7 +129,7 @@ module _ (book run work : List ℕ) where
   module _ (slice : List ℕ) where
     -- 13 before anything is read, and nothing is written; else the figures stand at the front of the slice, whatever is answered
     pub record Called (r : ℕ) (work-left left : List ℕ) : Type 0 where
-      pub listed : (r % 2 ^ 8 ≤ 9) ⊎ (r % 2 ^ 8 ≡ 13)
+      pub listed : (InputsNumber (r % 2 ^ 8) ⊎ (r % 2 ^ 8 ≡ 9)) ⊎ (r % 2 ^ 8 ≡ 13)
       pub thirteen : (r % 2 ^ 8 ≡ 13) ↔ (length slice < figuresLong)
       pub short : length slice < figuresLong
           → (r % 2 ^ 8 ≡ 13) × (r / 2 ^ 8 % 2 ^ 4 ≡ 0) × (r / 2 ^ 12 % 2 ^ 20 ≡ 0) × (work-left ≡ work) × (left ≡ slice)
@@ -152,10 +153,10 @@ module _ (book run work : List ℕ) where
     unfolding told
     called-long h r work-left left m =
         let p = apart (o .answer) 0 report-packs in
-        let low : r % 2 ^ 8 ≤ 9 = rw (m .answers, p .number-is) (obeys .listed) in
+        let low : InputsNumber (r % 2 ^ 8) ⊎ (r % 2 ^ 8 ≡ 9) = rw (m .answers, p .number-is) (obeys .listed) in
         record {
           listed = inl low;
-          thirteen = neither (λ e. omega (arith, low, e)) (λ g. omega arith);
+          thirteen = neither (λ e. ⊎-elim (λ g. not-input 13 (subst InputsNumber e g) (omega arith) (λ u. omega arith)) (λ n. omega arith) low) (λ g. omega arith);
           short = λ g. absurd (omega arith);
           long = λ _. (o .figures, rw (m .answers, m .leaves-work) (rw (p .number-is, p .blamed-is, p .place-is) obeys), m .leaves-figures);
           no-count = rw (m .answers) (p .count-is);

@@ -27,7 +27,7 @@ use Rattle.runs.proofs.AnswersOfSheets.{tree-fits, of-listed, nothing-a
 use Rattle.runs.proofs.AskedSheets.{asked-number}
 use Rattle.runs.proofs.CountingLists.{once, how-many-none, how-many-cons, Bounds, least-bounds, greatest-bounds}
 use Rattle.runs.proofs.WalkingRuns.{framed-whole, sheet-framed}
--- The answer of a sheet is 0 to 8, or 11 (`answer-listed`), and 0 exactly where book and sheet are read and the family has the sheet (`accepted-exactly`).
+-- The answer of a sheet under an accepted book is 0 to 8, or 11 (`answer-listed`), and 0 exactly where book and sheet are read and the family has the sheet (`accepted-exactly`).
 pub use Rattle.runs.proofs.AnswersOfSheets.{Listed, answer-listed, accepted-exactly}
 
 -- ── The answer of a sheet ──
@@ -65,17 +65,18 @@ once-in-all : (n : ℕ) → Listed n → Once n
 unfolding addedUp
 once-in-all = of-listed Once refl refl refl refl refl refl refl refl refl refl
 
--- the answer counts of any list of sheets add up to the number of sheets
-pub answers-add-up : (book : List ℕ) (sheets : List (List ℕ)) → inAll (got book sheets) ≡ length sheets
+-- under an accepted book the answer counts of any list of sheets add up to the number of sheets
+pub answers-add-up : (book : List ℕ) → bookOf book .fault .number ≡ 0 → (sheets : List (List ℕ)) → inAll (got book sheets) ≡ length sheets
 unfolding got addedUp
-answers-add-up book [] = ap inAll (λ i a. how-many-none (answering book a) i)
-answers-add-up book (s ∷ sheets) =
+answers-add-up book fine [] = ap inAll (λ i a. how-many-none (answering book a) i)
+answers-add-up book fine (s ∷ sheets) =
     let counts = ap inAll (λ i a. how-many-cons (answering book a) s sheets i) in
-    omega (arith, counts, once-in-all (answerOf book s) (answer-listed book s), answers-add-up book sheets)
+    omega (arith, counts, once-in-all (answerOf book s) (answer-listed book s fine), answers-add-up book fine sheets)
 
-pub counts-add-up : (book : List ℕ) (sheets : List (List ℕ)) → addedUp itself (figuresOf book sheets .answers) ≡ figuresOf book sheets .sheets
+pub counts-add-up : (book : List ℕ) → bookOf book .fault .number ≡ 0 → (sheets : List (List ℕ))
+    → addedUp itself (figuresOf book sheets .answers) ≡ figuresOf book sheets .sheets
 unfolding figuresOf
-counts-add-up book sheets = answers-add-up book sheets
+counts-add-up book fine sheets = answers-add-up book fine sheets
 
 -- ── Tickets ──
 

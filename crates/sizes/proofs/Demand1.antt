@@ -1,19 +1,20 @@
 -- Demand 1, of the call: from any bytes and any slice, which number it answers and exactly when, which input it blames and where, and what a refusal leaves. Stated on
 -- the parts of the answer, and for the C host on the number taken apart as the header does.
 use Prim.Native.Nat.{ℕ, _/_, _%_, _^_, _≤_, _<_}
-use mathlib.Core.Path.{_≡_, refl}
+use mathlib.Core.Path.{_≡_, refl, subst}
 use mathlib.Core.List.{List}
 use mathlib.Core.Logic.{_↔_, _⊎_, inl, inr, ⊎-elim}
 use native.Mathlib.Decide.{ℕ-discrete}
 use native.Mathlib.Omega.{arith}
 use borrow.Author.Tests.{ne-eqb}
 use lib.ListN.{length}
-use Rattle.names.specs.Pick.{ReadersNumber}
 use Rattle.names.proofs.Tests.{lt-or-le}
+use Rattle.books.specs.Answer.{InputsNumber}
 use Rattle.books.specs.Book.{bookOf}
 use Rattle.books.specs.Size.{greatest}
 use Rattle.books.proofs.Packing.{apart}
 use Rattle.books.proofs.ReadingBooks.{book-refused}
+use Rattle.pieces.proofs.Demand1.{not-input}
 use Rattle.sizes.specs.declared.calls.CardAnswer.{CardAnswer}
 use Rattle.sizes.specs.Outcome.{Outcome, sizeCard, Answers, Leaves}
 use Rattle.sizes.proofs.Answering.{book-first, no-room, with-room, card-packs}
@@ -23,9 +24,9 @@ Fine book = bookOf book .fault .number ≡ 0
 
 -- A call that was lent a book and a card slice answers so, with so many sizes, and leaves the slice so.
 pub record Answered (book slice : List ℕ) (number blamed place count : ℕ) (left : List ℕ) : Type 0 where
-  pub listed : ReadersNumber number ⊎ (number ≡ 13)
+  pub listed : InputsNumber number ⊎ (number ≡ 13)
   pub zero : (number ≡ 0) ↔ (Fine book × (greatest ≤ length slice))
-  pub faulty : ((1 ≤ number) × ReadersNumber number) ↔ (Fine book → ⊥)
+  pub faulty : ((1 ≤ number) × InputsNumber number) ↔ (Fine book → ⊥)
   pub thirteen : (number ≡ 13) ↔ (Fine book × (length slice < greatest))
   -- a fault of the book is blamed on it at its place, which is a byte of the book or its end
   pub in-book : (Fine book → ⊥) → (number ≡ bookOf book .fault .number) × (blamed ≡ 1) × (place ≡ bookOf book .fault .place) × (place ≤ length book)
@@ -43,7 +44,7 @@ module _ (book slice : List ℕ) where
         listed = inl (f .known);
         zero = (λ z. absurd (bad z), λ x. absurd (bad (x .0)));
         faulty = (λ _. bad, λ _. (f .some, f .known));
-        thirteen = (λ e. absurd (omega (arith, f .known)), λ x. absurd (bad (x .0)));
+        thirteen = (λ e. absurd (not-input 13 (subst InputsNumber e (f .known)) (omega arith) (λ u. omega arith)), λ x. absurd (bad (x .0)));
         in-book = λ _. (refl, refl, refl, f .inside);
         others = λ z. absurd (bad z);
         unwritten = λ _. (refl, refl);
@@ -55,7 +56,7 @@ module _ (book slice : List ℕ) where
         rw (no-room book slice fine h) (record {
           listed = inr refl;
           zero = (λ z. absurd (omega arith), λ x. absurd (omega (arith, x .1)));
-          faulty = (λ x. absurd (omega (arith, x .1)), λ bad. absurd (bad fine));
+          faulty = (λ x. absurd (not-input 13 (x .1) (omega arith) (λ u. omega arith)), λ bad. absurd (bad fine));
           thirteen = (λ _. (fine, h), λ _. refl);
           in-book = λ bad. absurd (bad fine);
           others = λ _. (refl, refl);
@@ -65,7 +66,7 @@ module _ (book slice : List ℕ) where
     writes : greatest ≤ length slice → Obeys (sizeCard book slice)
     writes h =
         rw (with-room book slice fine h) (record {
-          listed = inl (omega arith);
+          listed = inl (inl (omega arith));
           zero = (λ _. (fine, h), λ _. refl);
           faulty = (λ x. absurd (omega (arith, x .0)), λ bad. absurd (bad fine));
           thirteen = (λ z. absurd (omega arith), λ x. absurd (omega (arith, x .1)));

@@ -1,7 +1,7 @@
 -- What stands in a list that is made place by place, and when nothing stands in it twice.
 use Prim.Native.Nat.{ℕ, zero, suc, _<_}
 use mathlib.Core.Path.{_≡_, refl, sym, ap, _∙_, subst}
-use mathlib.Core.List.{List, [], _∷_, _++_, List·Memᴰ, List·Memᴰ·head, List·Memᴰ·tail, List·Memᴰ·not-nil, List·Memᴰ·append-cases}
+use mathlib.Core.List.{List, [], _∷_, _++_, List·Memᴰ, List·Memᴰ·not-nil, List·Memᴰ·append-cases}
 use mathlib.Core.List.{Memᴰ·append-left, Memᴰ·append-right, Memᴰ·cast}
 use mathlib.Core.Logic.{⊎-elim}
 use native.Mathlib.Decide.{ℕ-discrete}
@@ -9,7 +9,9 @@ use native.Mathlib.Omega.{arith}
 use lib.ListN.{length, getD, length-append, List·getD-append}
 use lib.Seq.{getD-at}
 use Rattle.names.specs.Counted.{each}
+use Rattle.names.specs.Spelling.{Distinct}
 use Rattle.names.proofs.Listing.{getD-mem}
+use Rattle.names.proofs.NothingTwice.{distinct-append}
 
 -- ── One number at each place ──
 
@@ -48,28 +50,17 @@ module _ {A : Type 0} (f : ℕ → List A) (x : A) where
 
 -- ── Nothing twice ──
 
-abbrev pub Apart : {A : Type 0} → List A → Type 0
-Apart [] = Unit {0}
-Apart (x ∷ xs) = (List·Memᴰ x xs → ⊥) × Apart xs
-
-apart-append : {A : Type 0} (xs ys : List A) → Apart xs → Apart ys → ((x : A) → List·Memᴰ x xs → List·Memᴰ x ys → ⊥) → Apart (xs ++ ys)
-apart-append [] ys p q none = q
-apart-append (x ∷ xs) ys p q none = (
-  λ m. ⊎-elim (p .0) (none x (List·Memᴰ·head refl)) (List·Memᴰ·append-cases xs m),
-  apart-append xs ys (p .1) q (λ y m. none y (List·Memᴰ·tail m)),
-)
-
 -- what each number gives has nothing twice, and no two numbers give the same
-pub apart-each : {A : Type 0} (f : ℕ → List A) → ((i : ℕ) → Apart (f i)) → ((i j : ℕ) (x : A) → List·Memᴰ x (f i) → List·Memᴰ x (f j) → i ≡ j)
-    → (n : ℕ) → Apart (each n f)
+pub apart-each : {A : Type 0} (f : ℕ → List A) → ((i : ℕ) → Distinct (f i)) → ((i j : ℕ) (x : A) → List·Memᴰ x (f i) → List·Memᴰ x (f j) → i ≡ j)
+    → (n : ℕ) → Distinct (each n f)
 unfolding each
 apart-each f each-apart one zero = tt
 apart-each f each-apart one (suc n) =
-    apart-append (each n f) (f n) (apart-each f each-apart one n) (each-apart n)
+    distinct-append (each n f) (f n) (apart-each f each-apart one n) (each-apart n)
     (λ x m u. let (i, h, v) = each-has f x n m in omega (arith, one i n x v u))
 
 -- two places that have the same are one place
-pub apart-places : {A : Type 0} (l : List A) → Apart l → (d : A) (i j : ℕ) → i < length l → j < length l → getD l i d ≡ getD l j d → i ≡ j
+pub apart-places : {A : Type 0} (l : List A) → Distinct l → (d : A) (i j : ℕ) → i < length l → j < length l → getD l i d ≡ getD l j d → i ≡ j
 apart-places [] p d i j h g e = absurd (omega arith)
 apart-places (x ∷ xs) p d zero zero h g e = refl
 apart-places (x ∷ xs) p d zero (suc j) h g e = absurd (p .0 (Memᴰ·cast e (getD-mem xs j d (omega arith))))

@@ -14,13 +14,14 @@ use Rattle.books.specs.Size.{sizeBy as by}
 use Rattle.sizes.specs.Promise.{Sized}
 use Rattle.sizes.specs.Card.{sized?, sizesOf}
 use Rattle.sizes.proofs.CardRight.{sized-decided}
-use Rattle.sizes.proofs.Listing.{each-has, has-each, Apart, apart-each, apart-places}
+use Rattle.names.specs.Spelling.{Distinct}
+use Rattle.sizes.proofs.Listing.{each-has, has-each, apart-each, apart-places}
 
 listed : {A : Type 0} (t : Bool) (x y : A) → List·Memᴰ x (pick t (y ∷ []) []) → (t ≡ true) × (x ≡ y)
 listed true x y m = (refl, List·Memᴰ·eq-of-singleton m)
 listed false x y m = absurd (List·Memᴰ·not-nil m)
 
-one-apart : {A : Type 0} (t : Bool) (x : A) → Apart (pick t (x ∷ []) [])
+one-apart : {A : Type 0} (t : Bool) (x : A) → Distinct (pick t (x ∷ []) [])
 one-apart true x = (List·Memᴰ·not-nil, tt)
 one-apart false x = tt
 
@@ -61,7 +62,7 @@ module _ (b : Contents) (most : ℕ) where
   is-at : (i j : ℕ) (s : Size) → List·Memᴰ s (at i j) → s ≡ by (suc i) (suc j)
   is-at i j s m = listed (sized? b i j) s (by (suc i) (suc j)) m .1
 
-  row-apart : (i : ℕ) → Apart (row i)
+  row-apart : (i : ℕ) → Distinct (row i)
   row-apart i =
       apart-each (at i) (λ j. one-apart (sized? b i j) (by (suc i) (suc j)))
       (λ j k s m u. omega (arith, ap (λ (x : Size). x .cols) (is-at i j s m), ap (λ (x : Size). x .cols) (is-at i k s u)))

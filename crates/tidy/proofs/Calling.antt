@@ -12,7 +12,7 @@ use Rattle.names.specs.Spelling.{mostColours}
 use Rattle.names.specs.declared.colours.Colours.{Colours}
 use Rattle.names.specs.Bytes.{Bytes}
 use Rattle.books.specs.Answer.{plain}
-use Rattle.books.specs.Book.{bookOf}
+use Rattle.books.specs.Book.{untidyOf}
 use Rattle.books.specs.Contents.{Contents}
 use Rattle.books.specs.ContentsIn.{contentsIn}
 use Rattle.books.specs.Draft.{draftIn, DraftFits}
@@ -21,7 +21,7 @@ use Rattle.books.specs.Outcome.{refused, written}
 use Rattle.books.specs.declared.book.BookRead.{BookRead}
 use Rattle.books.specs.declared.family.Family.{Family}
 use Rattle.books.proofs.GreaterCounts.{rule-more}
-use Rattle.books.proofs.ReadingBooks.{book-lies, book-accepted}
+use Rattle.books.proofs.ReadingBooks.{book-lies-by, book-accepted-by}
 use Rattle.books.proofs.StandingRules.{there-length}
 use Rattle.tidy.specs.Marking.{rewritten, reached}
 use Rattle.tidy.specs.Outcome.{tidiedOut}
@@ -32,10 +32,10 @@ use Rattle.tidy.proofs.LeftRules.{left-few, cleared-contents}
 
 -- ── A book that was read ──
 
-fitted : (s : List ℕ) → Bytes s → bookOf s .fault .number ≡ 0 → RulesKept (bookOf s .family)
+fitted : (s : List ℕ) → Bytes s → untidyOf s .fault .number ≡ 0 → RulesKept (untidyOf s .family)
 fitted s bytes z =
-    let lies = book-lies s z in
-    let keeps = book-accepted s bytes z .keeps in
+    let lies = book-lies-by false s z in
+    let keeps = book-accepted-by false s bytes z .keeps in
     record {
       colours-few = lies .places .few;
       motifs-few = lies .motifs-few;
@@ -45,7 +45,7 @@ fitted s bytes z =
       fit = λ r i. rule-more _ _ mostMotifs mostColours r (keeps .motifs-few) (keeps .colours-ok .few) (keeps .sound .rules-fit r i);
     }
 
-pub read-fitted : (s : List ℕ) (b : BookRead) → b ≡ bookOf s → Bytes s → b .fault .number ≡ 0 → RulesKept (b .family)
+pub read-fitted : (s : List ℕ) (b : BookRead) → b ≡ untidyOf s → Bytes s → b .fault .number ≡ 0 → RulesKept (b .family)
 read-fitted s b read bytes z = rw read (fitted s bytes (rw read at z))
 
 -- ── Its start ──

@@ -2,6 +2,7 @@
 -- number taken apart as the header does. Each way in which the call ends has its number, and every outcome packs.
 use Prim.Native.Nat.{ℕ, _≤_, _<_}
 use mathlib.Core.Path.{_≡_, refl, ap, subst⁻¹}
+use mathlib.Core.Bool.{false}
 use mathlib.Core.List.{List}
 use mathlib.Core.Logic.{_↔_, _⊎_, inl, inr, ⊎-elim}
 use native.Mathlib.Omega.{arith}
@@ -10,32 +11,31 @@ use Rattle.names.specs.Bytes.{Bytes}
 use Rattle.names.specs.Pick.{ReadersNumber}
 use Rattle.names.specs.declared.number.Fault.{Fault}
 use Rattle.books.specs.Answer.{answer, answerIn, countIn}
-use Rattle.books.specs.Book.{bookOf}
-use Rattle.books.specs.Lent.{contentsOf}
-use Rattle.books.specs.NewBook.{IsBook}
+use Rattle.books.specs.Book.{untidyOf}
+use Rattle.books.specs.Lent.{contentsBy}
+use Rattle.books.specs.NewBook.{IsUntidy}
 use Rattle.books.specs.Outcome.{Outcome, Leaves}
 use Rattle.books.specs.SpellBook.{spellBook}
 use Rattle.books.specs.declared.answer.Answer.{Answer}
-use Rattle.books.proofs.NewBooks.{accepted-spelled}
 use Rattle.books.proofs.Outcomes.{Packed, spelled-packs, refused-packs, blamed-packs, readOf, read-off}
-use Rattle.books.proofs.ReadingBooks.{book-refused}
+use Rattle.books.proofs.ReadingBooks.{book-refused-by}
 use Rattle.tidy.specs.Outcome.{tidying}
 use Rattle.tidy.specs.Tidied.{tidied}
-use Rattle.tidy.proofs.Endings.{StartRewrites, ends}
+use Rattle.tidy.proofs.Endings.{untidy-keeps, StartRewrites, ends}
 use Rattle.tidy.proofs.Keeping.{tidied-keeps}
 
 -- A call that was lent a book and a slice answers so, with so many bytes written, and leaves the slice so.
 pub record Answered (book out : List ℕ) (a : Answer) (count : ℕ) (left : List ℕ) : Type 0 where
   pub listed : ReadersNumber (a .number) ⊎ ((a .number ≡ 13) ⊎ (a .number ≡ 17))
-  pub faulty : ((1 ≤ a .number) × ReadersNumber (a .number)) ↔ (IsBook book → ⊥)
+  pub faulty : ((1 ≤ a .number) × ReadersNumber (a .number)) ↔ (IsUntidy book → ⊥)
   -- 17 exactly when the start cannot be rewritten, then 13 exactly when the slice is shorter than the tidied book
-  pub seventeen : (a .number ≡ 17) ↔ (IsBook book × (StartRewrites (contentsOf book) → ⊥))
-  pub thirteen : (a .number ≡ 13) ↔ (IsBook book × StartRewrites (contentsOf book) × (length out < length (spellBook (tidied (contentsOf book)))))
-  pub zero : (a .number ≡ 0) ↔ (IsBook book × StartRewrites (contentsOf book) × (length (spellBook (tidied (contentsOf book))) ≤ length out))
-  pub counted : a .number ≡ 0 → count ≡ length (spellBook (tidied (contentsOf book)))
+  pub seventeen : (a .number ≡ 17) ↔ (IsUntidy book × (StartRewrites (contentsBy false book) → ⊥))
+  pub thirteen : (a .number ≡ 13) ↔ (IsUntidy book × StartRewrites (contentsBy false book) × (length out < length (spellBook (tidied (contentsBy false book)))))
+  pub zero : (a .number ≡ 0) ↔ (IsUntidy book × StartRewrites (contentsBy false book) × (length (spellBook (tidied (contentsBy false book))) ≤ length out))
+  pub counted : a .number ≡ 0 → count ≡ length (spellBook (tidied (contentsBy false book)))
   -- a fault of the book is blamed on it at its place, which is a byte of the book or its end
-  pub in-book : (IsBook book → ⊥) → (a ≡ answer (bookOf book .fault .number) 1 (bookOf book .fault .place)) × (a .place ≤ length book)
-  pub others : IsBook book → (a .blamed ≡ 0) × (a .place ≡ 0)
+  pub in-book : (IsUntidy book → ⊥) → (a ≡ answer (untidyOf book .fault .number) 1 (untidyOf book .fault .place)) × (a .place ≤ length book)
+  pub others : IsUntidy book → (a .blamed ≡ 0) × (a .place ≡ 0)
   pub unwritten : (a .number ≡ 0 → ⊥) → (count ≡ 0) × (left ≡ out)
 
 module _ (book out : List ℕ) (bytes : Bytes book) where
@@ -47,8 +47,8 @@ module _ (book out : List ℕ) (bytes : Bytes book) where
       ends Obeys book out bytes
       (record {
         in-book = λ bad.
-            let f = book-refused book bad .blamed in
-            let refused : IsBook book → ⊥ = λ fine. bad (ap (λ (t : Fault). t .number) fine) in
+            let f = book-refused-by false book bad .blamed in
+            let refused : IsUntidy book → ⊥ = λ fine. bad (ap (λ (t : Fault). t .number) fine) in
             record {
               listed = inl (f .known);
               faulty = (λ _. refused, λ _. (f .some, f .known));
@@ -100,13 +100,13 @@ module _ (book out : List ℕ) (bytes : Bytes book) where
 
   packs : Packed (tidying book out)
   packs =
-      let b = contentsOf book in
+      let b = contentsBy false book in
       ends Packed book out bytes
       (record {
-        in-book = blamed-packs 1 book out (omega arith);
+        in-book = blamed-packs false 1 book out (omega arith);
         no-start = λ _ _. refused-packs 17 out (omega arith);
         no-room = λ _ _ _. refused-packs 13 out (omega arith);
-        with-room = λ fine some _. spelled-packs (tidied b) out (tidied-keeps b (accepted-spelled book bytes fine .keeps) some);
+        with-room = λ fine some _. spelled-packs (tidied b) out (tidied-keeps b (untidy-keeps book bytes fine) some);
       })
 
   module _ (left : List ℕ) (r : ℕ) (leaves : Leaves (tidying book out) r left) where

@@ -14,7 +14,8 @@ use Rattle.books.specs.declared.rule.Body.the-variants.{Colour, Across, Down}
 use Rattle.names.specs.Bits.{bit, isSet}
 use Rattle.tidy.specs.Marks.{adding, rank}
 use Rattle.tidy.specs.Marking.{marked, addingBody, markHead, markBody, pass, passes, rewritten, reached, rewrites?}
-use Rattle.tidy.specs.Tidied.{sameRule, stands, firsts, uses, usable, leaving, tidied}
+use Rattle.books.specs.Equal.{sameRule, stands, firsts}
+use Rattle.tidy.specs.Tidied.{uses, usable, leaving, tidied}
 
 rule : ℕ → Body → Rule
 rule a x = record { head = a; body = x }

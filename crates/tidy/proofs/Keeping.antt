@@ -1,12 +1,12 @@
 -- A tidied book keeps what a book must: its counts are no greater, its start and motifs are numbers of kept motifs, and a rule of the start is left.
 use Prim.Native.Nat.{ℕ, _≤_, _<_}
 use mathlib.Core.Path.{_≡_, refl, subst}
-use mathlib.Core.Bool.{true}
+use mathlib.Core.Bool.{true, false}
 use mathlib.Core.List.{List, [], _∷_, List·Memᴰ, List·Memᴰ·not-nil}
 use native.Mathlib.Omega.{arith}
 use lib.ListN.{length, length-map}
 use Rattle.books.specs.Contents.{Contents}
-use Rattle.books.specs.Keeps.{BodyFits, RuleFits, Sound, Keeps}
+use Rattle.books.specs.Keeps.{BodyFits, RuleFits, Sound, KeepsBy, Keeps}
 use Rattle.books.specs.Moved.{moved}
 use Rattle.books.specs.declared.rule.Dir.the-variants.{Across as across, Down as down}
 use Rattle.books.specs.declared.rule.Rule.{Rule}
@@ -15,9 +15,10 @@ use Rattle.books.specs.declared.rule.Body.the-variants.{Colour, Across, Down}
 use Rattle.tidy.specs.Kept.{Rewrites, coloured, joined, starting, as-first, as-second}
 use Rattle.tidy.specs.Marks.{rank}
 use Rattle.tidy.specs.Marking.{marked, reached}
-use Rattle.tidy.specs.Tidied.{firsts, usable, renumbered, leaving, tidied}
-use Rattle.tidy.proofs.Firsts.{firsts-length}
-use Rattle.tidy.proofs.Leaving.{usable-length, leaving-back}
+use Rattle.books.specs.Equal.{firsts}
+use Rattle.tidy.specs.Tidied.{usable, renumbered, leaving, tidied}
+use Rattle.books.proofs.Firsts.{firsts-length}
+use Rattle.tidy.proofs.Leaving.{usable-length, leaving-back, leaving-apart}
 use Rattle.tidy.proofs.Ranks.{rank-le, rank-lt}
 use Rattle.tidy.proofs.SameSheets.{colour-over, joins-over}
 use Rattle.tidy.proofs.Reaching.{reached-all}
@@ -69,7 +70,7 @@ module _ (b : Contents) where
         firsts-length [] (b .rules),
       )
 
-  pub tidied-keeps : Keeps b → Rewrites b (b .start) → Keeps (tidied b)
+  pub tidied-keeps : KeepsBy false b → Rewrites b (b .start) → Keeps (tidied b)
   tidied-keeps keeps s =
       let few : rank (reached b) (b .motifs) ≤ b .motifs = rank-le (reached b) (b .motifs) in
       record {
@@ -79,4 +80,5 @@ module _ (b : Contents) where
         rules-some = start-rule (keeps .sound) s;
         rules-few = omega (arith, rules-few, keeps .rules-few);
         sound = tidied-sound (keeps .sound);
+        no-copies = unfold tidied in (leaving-apart (reached b) b);
       }

@@ -19,8 +19,10 @@ use Rattle.names.proofs.Tests.{and-both, and-make}
 use Rattle.names.specs.Bits.{isSet}
 use Rattle.tidy.specs.Marks.{rank}
 use Rattle.tidy.specs.Marking.{marked}
-use Rattle.tidy.specs.Tidied.{Apart, uses, usable, firsts, renumbered, leaving}
-use Rattle.tidy.proofs.Firsts.{firsts-forth, firsts-back, firsts-apart, map-apart}
+use Rattle.names.specs.Spelling.{Distinct}
+use Rattle.books.specs.Equal.{firsts}
+use Rattle.tidy.specs.Tidied.{uses, usable, renumbered, leaving}
+use Rattle.books.proofs.Firsts.{firsts-forth, firsts-back, firsts-distinct, map-distinct}
 use Rattle.tidy.proofs.Ranks.{rank-inj}
 use Rattle.tidy.proofs.Rewriting.{joins-marked}
 
@@ -61,11 +63,11 @@ usable-length m (r ∷ rs) =
     pick-ind (λ (l : List Rule). length l ≤ length (r ∷ rs)) (uses m r) (r ∷ usable m rs) (usable m rs)
     (λ _. omega (arith, usable-length m rs)) (λ _. omega (arith, usable-length m rs))
 
-usable-apart : (m : ℕ) (rs : List Rule) → Apart rs → Apart (usable m rs)
+usable-apart : (m : ℕ) (rs : List Rule) → Distinct rs → Distinct (usable m rs)
 unfolding usable
 usable-apart m [] a = tt
 usable-apart m (r ∷ rs) a =
-    pick-ind Apart (uses m r) (r ∷ usable m rs) (usable m rs)
+    pick-ind Distinct (uses m r) (r ∷ usable m rs) (usable m rs)
     (λ _. (λ i. a .0 (usable-back m rs r i .0), usable-apart m rs (a .1)))
     (λ _. usable-apart m rs (a .1))
 
@@ -139,9 +141,9 @@ module _ (m : ℕ) (b : Contents) where
       }
 
   -- no rule is left twice
-  pub leaving-apart : Apart (leaving m b .rules)
+  pub leaving-apart : Distinct (leaving m b .rules)
   unfolding leaving
   leaving-apart =
-      map-apart (renumbered m) (usable m (firsts [] (b .rules)))
+      map-distinct (renumbered m) (usable m (firsts [] (b .rules)))
       (λ q r i j. rules-apart m q r (usable-back m _ q i .1) (usable-back m _ r j .1))
-      (usable-apart m (firsts [] (b .rules)) (firsts-apart [] (b .rules)))
+      (usable-apart m (firsts [] (b .rules)) (firsts-distinct [] (b .rules)))

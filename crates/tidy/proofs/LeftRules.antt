@@ -16,13 +16,16 @@ use Rattle.books.specs.Rules.{noRule}
 use Rattle.books.specs.ContentsIn.{contentsIn}
 use Rattle.books.specs.declared.family.Family.{Family}
 use Rattle.books.specs.declared.rule.Rule.{Rule}
+use Rattle.books.proofs.GreaterCounts.{rule-more}
 use Rattle.books.proofs.StandingRules.{there-length, there-next, there-none}
 use Rattle.tidy.specs.Marks.{rank}
-use Rattle.tidy.specs.Tidied.{stands, firsts, uses, usable, renumbered, leaving}
+use Rattle.books.specs.Equal.{stands, firsts}
+use Rattle.tidy.specs.Tidied.{uses, usable, renumbered, leaving}
 use Rattle.tidy.specs.inner.Steps.{AllFit, rulesStanding, RulesKept}
-use Rattle.tidy.specs.inner.Cleared.{numbersOf, isLeft, leftAfter, cleared}
-use Rattle.tidy.proofs.EqualNumbers.{stands-by-number}
-use Rattle.tidy.proofs.Firsts.{firsts-length}
+use Rattle.books.specs.RuleNumbers.{numbersOf}
+use Rattle.tidy.specs.inner.Cleared.{isLeft, leftAfter, cleared}
+use Rattle.books.proofs.EqualNumbers.{stands-by-number}
+use Rattle.books.proofs.Firsts.{firsts-length}
 use Rattle.tidy.proofs.Leaving.{usable-length}
 
 -- no more are left than there were
@@ -85,7 +88,7 @@ module _ (rules : List Rule) (count : ℕ) (few : count ≤ length rules) (m : �
         → leftFrom i ≡ pick (isLeft m rule before (getD ns i 0)) (renumbered m rule ∷ leftFrom (i + 1)) (leftFrom (i + 1))
     unfolding isLeft andThen
     left-by all ns e first =
-        let found = stands-by-number rules count few i h all in
+        let found = stands-by-number rules count few i h (λ r m. rule-more _ _ _ _ r (omega arith) (omega arith) (all r m)) in
         ⊎-elim
         (λ (eu : uses m rule ≡ true). ⊎-elim
         (λ (es : stands (take i there) rule ≡ true). simp (first, e, found, eu, es) (left-copy es))

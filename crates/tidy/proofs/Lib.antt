@@ -4,8 +4,6 @@ pub mod Passes
 pub mod Rewriting
 pub mod Reaching
 pub mod Turns
-pub mod Firsts
-pub mod EqualNumbers
 pub mod Leaving
 pub mod LeftRules
 pub mod Calling

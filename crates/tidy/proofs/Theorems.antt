@@ -5,13 +5,14 @@ use mathlib.Core.Bool.{true, false}
 use mathlib.Core.Logic.{_↔_}
 use Rattle.books.specs.Contents.{Contents}
 use Rattle.books.specs.Derives.{Member}
-use Rattle.books.specs.Keeps.{Keeps}
+use Rattle.books.specs.Keeps.{KeepsBy, Keeps}
 use Rattle.books.specs.Picture.{Picture}
 use Rattle.books.specs.declared.rule.Rule.{Rule}
 use Rattle.tidy.specs.Kept.{Rewrites, Kept}
 use Rattle.names.specs.Bits.{isSet}
 use Rattle.tidy.specs.Marking.{reached, rewrites?, kept?}
-use Rattle.tidy.specs.Tidied.{Apart, uses, renumbered, tidied}
+use Rattle.names.specs.Spelling.{Distinct}
+use Rattle.tidy.specs.Tidied.{uses, renumbered, tidied}
 use Rattle.tidy.proofs.Keeping.{tidied-keeps}
 use Rattle.tidy.proofs.Leaving.{rules-apart}
 use Rattle.tidy.proofs.Reaching.{kept-decided, marks-kept}
@@ -34,10 +35,10 @@ pub record Tidies (b : Contents) : Type 0 where
   -- a book again, of which every motif is kept and no rule stands twice, and which tidying leaves as it is
   pub keeps : Rewrites b (b .start) → Keeps (tidied b)
   pub all-kept : Rewrites b (b .start) → (a : ℕ) → a < tidied b .motifs → Kept (tidied b) a
-  pub no-copies : Apart (tidied b .rules)
+  pub no-copies : Distinct (tidied b .rules)
   pub again : Rewrites b (b .start) → tidied (tidied b) ≡ tidied b
 
-pub tidies : (b : Contents) → Keeps b → Tidies b
+pub tidies : (b : Contents) → KeepsBy false b → Tidies b
 tidies b k =
     record {
       rewrites-as = rewrites-decided b (k .sound);

@@ -17,8 +17,10 @@ use Rattle.tidy.specs.Kept.{Rewrites, coloured, joined, Reached, startin
 use Rattle.names.specs.Bits.{isSet}
 use Rattle.tidy.specs.Marks.{rank}
 use Rattle.tidy.specs.Marking.{marked, reached}
-use Rattle.tidy.specs.Tidied.{firsts, usable, renumbered, Apart, leaving, tidied}
-use Rattle.tidy.proofs.Firsts.{firsts-same}
+use Rattle.names.specs.Spelling.{Distinct}
+use Rattle.books.specs.Equal.{firsts}
+use Rattle.tidy.specs.Tidied.{usable, renumbered, leaving, tidied}
+use Rattle.books.proofs.Firsts.{firsts-same}
 use Rattle.tidy.proofs.Keeping.{tidied-sound}
 use Rattle.tidy.proofs.Leaving.{uses-all, usable-all, leaving-apart}
 use Rattle.tidy.proofs.Ranks.{rank-all, rank-onto}
@@ -78,7 +80,7 @@ module _ (t : Contents) (m : ℕ) (sound : Sound t) (all : (a : ℕ) → a < t .
   body-same (Across l r) h = cc (number-same l (omega (arith, h .0)), number-same r (omega (arith, h .1)))
   body-same (Down l r) h = cc (number-same l (omega (arith, h .0)), number-same r (omega (arith, h .1)))
 
-  rules-same : Apart (t .rules) → map (renumbered m) (usable m (firsts [] (t .rules))) ≡ t .rules
+  rules-same : Distinct (t .rules) → map (renumbered m) (usable m (firsts [] (t .rules))) ≡ t .rules
   rules-same apart =
       ap (λ (l : List Rule). map (renumbered m) (usable m l)) (firsts-same (t .rules) apart)
       ∙ ap (map (renumbered m))
@@ -87,7 +89,7 @@ module _ (t : Contents) (m : ℕ) (sound : Sound t) (all : (a : ℕ) → a < t .
       (λ r i. let f = sound .rules-fit r i in
       λ k. record { head = number-same (r .head) (omega (arith, f .head-fits)) k; body = body-same (r .body) (f .body-fits) k })
 
-  pub leaving-same : Apart (t .rules) → leaving m t ≡ t
+  pub leaving-same : Distinct (t .rules) → leaving m t ≡ t
   unfolding leaving
   leaving-same apart =
       let rules-are = rules-same apart in
@@ -100,7 +102,7 @@ module _ (t : Contents) (m : ℕ) (sound : Sound t) (all : (a : ℕ) → a < t .
 
 -- ---- twice
 
-pub tidied-apart : (b : Contents) → Apart (tidied b .rules)
+pub tidied-apart : (b : Contents) → Distinct (tidied b .rules)
 unfolding tidied
 tidied-apart b = leaving-apart (reached b) b
 

@@ -1,36 +1,16 @@
 -- The tidied contents of a book: the colours as they are, the kept motifs and the rules that use no others, of equal rules the first, all
 -- renumbered in their old order.
 use Prim.Native.Nat.{ℕ}
-use mathlib.Core.Bool.{Bool, false}
-use mathlib.Core.List.{List, [], _∷_, _++_, map, List·Memᴰ}
-use Rattle.names.specs.Pick.{pick, andThen, orElse}
+use mathlib.Core.Bool.{Bool}
+use mathlib.Core.List.{List, [], _∷_, map}
+use Rattle.names.specs.Pick.{pick, andThen}
 use Rattle.names.specs.Bits.{isSet}
-use Rattle.names.specs.Name.{sameName}
 use Rattle.books.specs.Contents.{Contents}
+use Rattle.books.specs.Equal.{firsts}
 use Rattle.books.specs.Moved.{movedRule}
-use Rattle.books.specs.RuleBytes.{fourOf}
 use Rattle.books.specs.declared.rule.Rule.{Rule}
 use Rattle.tidy.specs.Marks.{rank}
 use Rattle.tidy.specs.Marking.{marked, reached}
-
--- whether two rules are equal: their bytes are the same
-unfoldable pub sameRule : Rule → Rule → Bool
-sameRule q r = sameName (fourOf q) (fourOf r)
-
--- whether a rule stands in a list
-unfoldable pub stands : List Rule → Rule → Bool
-stands [] r = false
-stands (q ∷ qs) r = orElse (sameRule q r) (λ _. stands qs r)
-
--- rules that follow others, without those of which an equal one stands earlier
-unfoldable pub firsts : List Rule → List Rule → List Rule
-firsts before [] = []
-firsts before (r ∷ rs) = pick (stands before r) (firsts (before ++ (r ∷ [])) rs) (r ∷ firsts (before ++ (r ∷ [])) rs)
-
--- no rule stands twice
-abbrev pub Apart : List Rule → Type 0
-Apart [] = Unit {0}
-Apart (r ∷ rs) = (List·Memᴰ r rs → ⊥) × Apart rs
 
 -- the rules of which head and motifs are all marked
 unfoldable pub uses : ℕ → Rule → Bool

@@ -43,7 +43,7 @@ fn tidy_family(book: &[u8], f: Family, out: &mut [u8]) -> u64
 pub extern "C" fn dv_tidy(book: &[u8], out: &mut [u8]) -> u64
     ensures { λ r. ⌜ Leaves (tidying (now (book .entry)) (now (out .entry))) r (now (out .exit)) ⌝ }
 {
-    let b = book::read_book(book);
+    let b = book::read_untidy(book);
     let fault = b.fault;
     if fault.number != 0 {
         return answer::pack(answer::blame(1, fault), 0);

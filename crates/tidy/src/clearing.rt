@@ -1,9 +1,8 @@
 // What is left of a family where only marked motifs are kept: the rules that use no others, of equal rules the first, renumbered in their old order.
 use crate::marking;
+use books::equal;
 use books::family::Family;
-use books::lookups;
 use books::rule::Body;
-use books::rule::MOST_RULES;
 use books::rule::Rule;
 ghost use mathlib.Core.Path.{_≡_};
 ghost use Prim.Native.Nat.{_<_, _≤_};
@@ -12,7 +11,7 @@ ghost use Rattle.books.specs.Keeps.{mostMotifs, mostRules, RuleFits};
 ghost use Rattle.tidy.specs.Marks.{rank};
 ghost use Rattle.tidy.specs.Tidied.{uses, renumbered};
 ghost use Rattle.tidy.specs.inner.Steps.{RulesKept};
-ghost use Rattle.tidy.specs.inner.Cleared.{numbersOf, among, isLeft, cleared};
+ghost use Rattle.tidy.specs.inner.Cleared.{isLeft, cleared};
 
 // The number of a motif among the marked ones: how many of them stand before it.
 fn rank(marks: u32, motif: usize) -> usize
@@ -20,31 +19,6 @@ fn rank(marks: u32, motif: usize) -> usize
     ensures { λ r. ⌜ (r ≡ rank marks motif) × (r ≤ mostMotifs) ⌝ }
 {
     u64::count_ones((marks as u64) % (1u64 << (motif as u32))) as usize
-}
-
-// Each of the first rules in one number, so that equal rules are found quickly.
-fn numbers_of(rules: [Rule; MOST_RULES], count: usize) -> [u64; MOST_RULES]
-    requires { ⌜ count ≤ mostRules ⌝ }
-    ensures { λ r. ⌜ r ≡ numbersOf rules count ⌝ }
-{
-    let mut numbers = [0u64; MOST_RULES];
-    for i in 0..count {
-        let rule = rules[i];
-        numbers[i] = lookups::pack_rule(rule);
-    }
-    numbers
-}
-
-// Whether a number stands among others.
-fn stands(numbers: &[u64], number: u64) -> bool
-    ensures { λ r. ⌜ r ≡ among (now (numbers .entry)) number ⌝ }
-{
-    for i in 0..numbers.len() {
-        if numbers[i] == number {
-            return true;
-        }
-    }
-    false
 }
 
 // Whether a rule's head and motifs are all marked.
@@ -61,12 +35,12 @@ fn is_usable(marks: u32, rule: Rule) -> bool
 }
 
 // Whether a rule is left: its motifs are all marked, and its number stands not among those of the rules before it.
-fn is_left(marks: u32, rule: Rule, before: &[u64], number: u64) -> bool
+fn is_left(marks: u32, rule: Rule, before: &[u32], number: u32) -> bool
     requires { ⌜ RuleFits mostMotifs mostColours rule ⌝ }
     ensures { λ r. ⌜ r ≡ isLeft marks rule (now (before .entry)) number ⌝ }
 {
     if is_usable(marks, rule) {
-        if stands(before, number) {
+        if equal::stands(before, number) {
             return false;
         }
         return true;
@@ -111,7 +85,7 @@ pub(crate) fn clear(f: Family, marks: u32) -> Family
 {
     let old = f.rules;
     let count = f.count;
-    let numbers = numbers_of(old, count);
+    let numbers = equal::numbers_of(old, count);
     let mut rules = f.rules;
     let mut at = 0;
     let mut next = 0;

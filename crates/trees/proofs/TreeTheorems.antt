@@ -2,7 +2,7 @@
 -- with the place of the first node that fails; and some row is accepted exactly where the family has the sheet. Stated on the parts of the answer, and for the C host on the number
 -- taken apart as the header does.
 use Prim.Native.Nat.{ℕ, _/_, _%_, _^_, _≤_, _<_}
-use mathlib.Core.Path.{_≡_, refl, ap}
+use mathlib.Core.Path.{_≡_, refl, ap, subst}
 use mathlib.Core.List.{List, _∷_, _++_}
 use mathlib.Core.Logic.{_↔_, _⊎_, inl, inr}
 use native.Mathlib.Omega.{arith}
@@ -10,7 +10,7 @@ use borrow.Author.Tests.{ne-eqb}
 use lib.ListN.{length}
 use Rattle.names.specs.declared.number.Fault.{Fault}
 use Rattle.names.proofs.Tests.{together, neither}
-use Rattle.books.specs.Answer.{answer, packed, Packs}
+use Rattle.books.specs.Answer.{InputsNumber, answer, packed, Packs}
 use Rattle.books.specs.Book.{bookOf}
 use Rattle.books.specs.Contents.{Contents}
 use Rattle.books.specs.Derives.{Member}
@@ -21,7 +21,7 @@ use Rattle.books.specs.declared.answer.Answer.{Answer}
 use Rattle.books.proofs.Packing.{apart, plain-packs, book-placed, sheet-placed}
 use Rattle.books.proofs.ReadingBooks.{book-refused}
 use Rattle.books.proofs.ReadingSheets.{sheet-refused, sheet-lies}
-use Rattle.pieces.proofs.Demand1.{InBook, InSheet}
+use Rattle.pieces.proofs.Demand1.{InBook, InSheet, not-input}
 use Rattle.trees.specs.declared.node.Node.{Node}
 use Rattle.trees.specs.Due.{RightAt, WrongAt}
 use Rattle.trees.specs.Trees.{TreeOf, Ends, a-tree, fails, left-over}
@@ -54,11 +54,11 @@ module _ (book sheet : List ℕ) (nodes : List Node) where
 
   -- A call that was lent a book, a sheet and a row of nodes answers so.
   pub record Answered (number blamed place : ℕ) : Type 0 where
-    pub listed : (number ≤ 8) ⊎ (number ≡ 16)
-    pub faulty : ((1 ≤ number) × (number ≤ 8)) ↔ (Accepted book sheet → ⊥)
+    pub listed : InputsNumber number ⊎ (number ≡ 16)
+    pub faulty : ((1 ≤ number) × InputsNumber number) ↔ (Accepted book sheet → ⊥)
     pub sixteen : (number ≡ 16) ↔ (Accepted book sheet × (IsTree → ⊥))
     pub zero : (number ≡ 0) ↔ (Accepted book sheet × IsTree)
-    pub faults : 1 ≤ number → number ≤ 8 → InBook book number blamed place ⊎ InSheet book sheet number blamed place
+    pub faults : 1 ≤ number → InputsNumber number → InBook book number blamed place ⊎ InSheet book sheet number blamed place
     pub unblamed : (number ≡ 0) ⊎ (number ≡ 16) → blamed ≡ 0
     pub at-start : number ≡ 0 → place ≡ 0
     -- 16 stands at the first node that fails or is missing, or after the tree where nodes are left over: every node before it is right for what it is due for
@@ -68,23 +68,23 @@ module _ (book sheet : List ℕ) (nodes : List Node) where
   abbrev Obeys : Answer → Type 0
   Obeys a = Answered (a .number) (a .blamed) (a .place)
 
-  in-input : (n blamed place : ℕ) → 1 ≤ n → n ≤ 8 → (Accepted book sheet → ⊥) → InBook book n blamed place ⊎ InSheet book sheet n blamed place → Answered n blamed place
+  in-input : (n blamed place : ℕ) → 1 ≤ n → InputsNumber n → (Accepted book sheet → ⊥) → InBook book n blamed place ⊎ InSheet book sheet n blamed place → Answered n blamed place
   in-input n blamed place h g bad which =
       record {
         listed = inl g;
         faulty = together (h, g) bad;
-        sixteen = neither (λ e. omega arith) (λ x. bad (x .0));
+        sixteen = neither (λ e. unlisted (inr e)) (λ x. bad (x .0));
         zero = neither (λ e. omega arith) (λ x. bad (x .0));
         faults = λ _ _. which;
         unblamed = λ o. absurd (unlisted o);
         at-start = λ e. absurd (omega arith);
-        before = λ e. absurd (omega arith);
-        there = λ e. absurd (omega arith);
+        before = λ e. absurd (unlisted (inr e));
+        there = λ e. absurd (unlisted (inr e));
       }
     where
       unlisted : (n ≡ 0) ⊎ (n ≡ 16) → ⊥
       unlisted (inl e) = omega arith
-      unlisted (inr e) = omega arith
+      unlisted (inr e) = not-input 16 (subst InputsNumber e g) (omega arith) (λ u. omega arith)
 
   no-tree : (place : ℕ) → Accepted book sheet → Ends b p nodes (record { number = 16; place = place }) → ((i : ℕ) → i < place → RightAt b (b .start) p nodes i)
       → WrongAt b (b .start) p nodes place ⊎ LeftOver b p nodes place → Answered 16 0 place
@@ -92,10 +92,10 @@ module _ (book sheet : List ℕ) (nodes : List Node) where
       let none : IsTree → ⊥ = λ t. omega (arith, ap (λ (f : Fault). f .number) (one-end b p end (a-tree t))) in
       record {
         listed = inr refl;
-        faulty = neither (λ e. omega (arith, e .1)) (λ bad. bad fine);
+        faulty = neither (λ e. not-input 16 (e .1) (omega arith) (λ u. omega arith)) (λ bad. bad fine);
         sixteen = together refl (fine, none);
         zero = neither (λ e. omega arith) (λ x. none (x .1));
-        faults = λ h g. absurd (omega arith);
+        faults = λ h g. absurd (not-input 16 g (omega arith) (λ u. omega arith));
         unblamed = λ _. refl;
         at-start = λ e. absurd (omega arith);
         before = λ _. right;
@@ -110,7 +110,7 @@ module _ (book sheet : List ℕ) (nodes : List Node) where
             in-input _ _ _ (f .some) (f .known) (λ fine. n (fine .book-fine))
             (inl (record { number-is = refl; place-is = refl; first = refl; inside = f .inside }));
         in-sheet = λ z n. let f = sheet-refused sheet n .blamed in
-            in-input _ _ _ (f .some) (f .known) (λ fine. n (fine .sheet-fine))
+            in-input _ _ _ (f .some) (inl (f .known)) (λ fine. n (fine .sheet-fine))
             (inr (record { book-fine = z; number-is = refl; place-is = refl; second = refl; inside = f .inside }));
         failing = λ fine i x. no-tree i fine (fails x) (right-before b x) (inl (wrong-there b x));
         over = λ fine xs v vs e t.
@@ -118,7 +118,7 @@ module _ (book sheet : List ℕ) (nodes : List Node) where
             (inr (record { tree = xs; next = v; others = vs; begins = e; derives = t; counted = refl }));
         derived = λ fine t.
             record {
-              listed = inl (omega arith);
+              listed = inl (inl (omega arith));
               faulty = neither (λ e. omega (arith, e .0)) (λ bad. bad fine);
               sixteen = neither (λ e. omega arith) (λ x. x .1 t);
               zero = together refl (fine, t);

@@ -153,7 +153,7 @@ static void order_by_chance(void)
 // Each file missing, empty or there, and each as long as can be accepted.
 static void write_plain_orders(const char *folder)
 {
-    struct family family = {.motifs = 1};
+    struct family family = {.motifs = DV_MOST_MOTIFS};
     struct grid grid = {.ticket = DV_GREATEST_TICKET, .rows = DV_MOST_ROWS, .columns = DV_MOST_COLUMNS};
     grow_palette(&family.palette, DV_MOST_COLOURS);
     for (int i = 0; i < DV_MOST_COLOURS; i++) {
@@ -161,8 +161,11 @@ static void write_plain_orders(const char *folder)
         family.palette.ink[i].length = DV_LONGEST_NAME;
         add_rule(&family, 0, DV_KIND_COLOUR, (unsigned)i, 0);
     }
+    add_rule(&family, 0, DV_KIND_ACROSS, 0, 0);
+    add_rule(&family, 0, DV_KIND_DOWN, 0, 0);
     while (family.rules < DV_MOST_RULES)
-        add_rule(&family, 0, family.rules % 2 == 0 ? DV_KIND_ACROSS : DV_KIND_DOWN, 0, 0);
+        add_new_rule(&family, 0, family.rules % 2 == 0 ? DV_KIND_ACROSS : DV_KIND_DOWN, chance_below(DV_MOST_MOTIFS),
+                     chance_below(DV_MOST_MOTIFS));
     grid.palette = family.palette;
     for (unsigned i = 0; i < grid.rows * grid.columns; i++)
         grid.cell[i] = chance_below(DV_MOST_COLOURS);

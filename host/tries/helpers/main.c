@@ -30,7 +30,7 @@ int main(void)
         expect(dv_work_entries(0, side) == 0 && dv_work_entries(side, 0) == 0 && dv_tree_entries(0, side) == 0 &&
                    dv_tree_entries(side, 0) == 0,
                "a sheet with no cell has entries");
-    for (unsigned one = DV_ACCEPTED; one <= DV_NOT_REWRITTEN; one++)
+    for (unsigned one = DV_ACCEPTED; one <= DV_RULE_TWICE; one++)
         for (unsigned other = DV_ACCEPTED; other < one; other++)
             expect(strcmp(dv_text(one), dv_text(other)) != 0, "two answers have one text");
     expect(strcmp(dv_text(14), dv_text(255)) == 0, "14 has the text of an answer");

@@ -1,9 +1,12 @@
 -- Rules as they are gathered for a new book, and what adding to them or changing them makes.
 use Prim.Native.Nat.{ℕ, _+_, _≤_}
 use mathlib.Core.Path.{_≡_}
-use mathlib.Core.List.{List, map}
+use mathlib.Core.Bool.{Bool}
+use mathlib.Core.List.{List, [], _∷_, map}
 use lib.ListN.{length, getD, take}
 use lib.Seq.{sets}
+use Rattle.names.specs.Pick.{pick}
+use Rattle.books.specs.Equal.{stands}
 use Rattle.books.specs.Keeps.{mostRules}
 use Rattle.books.specs.declared.rule.Rule.{Rule}
 use Rattle.books.specs.Moved.{movedRule}
@@ -12,6 +15,19 @@ use Rattle.families.specs.declared.gathering.Rules.{Rules}
 -- the rules that stand
 abbrev pub rulesStanding : Rules → List Rule
 rulesStanding l = take (l .count) (l .rules)
+
+-- none of them, in the same row
+abbrev pub none : Rules → Rules
+none l = record { count = 0; rules = l .rules }
+
+-- the rules that are not found, by a test, ...
+unfoldable pub leftBy : (Rule → Bool) → List Rule → List Rule
+leftBy found [] = []
+leftBy found (r ∷ rs) = pick (found r) (leftBy found rs) (r ∷ leftBy found rs)
+
+-- ... which is that they stand in another list
+abbrev pub missing : List Rule → List Rule → List Rule
+missing before = leftBy (stands before)
 
 -- with these rules after them
 abbrev pub followed : Rules → List Rule → Rules
@@ -29,3 +45,8 @@ changed t l = record { count = l .count; rules = sets (l .rules) 0 (map t (rules
 pub record Rows (l : Rules) : Type 0 where
   pub few : l .count ≤ mostRules
   pub places-all : length (l .rules) ≡ mostRules
+
+-- these rules stand, in a row of places
+pub record Stands (l : Rules) (xs : List Rule) : Type 0 where
+  pub rows : Rows l
+  pub are : rulesStanding l ≡ xs

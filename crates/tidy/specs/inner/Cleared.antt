@@ -1,27 +1,17 @@
--- What is left of a family, and how an equal rule is found.
-use Prim.Native.Nat.{ℕ, _-_}
+-- What is left of a family.
+use Prim.Native.Nat.{ℕ}
 use mathlib.Core.Bool.{Bool, true, false}
-use mathlib.Core.List.{List, [], _∷_, _++_, map}
-use lib.Dec.{eqb}
-use lib.ListN.{length, take, replicate}
+use mathlib.Core.List.{List, [], map}
+use lib.ListN.{length}
 use lib.Seq.{sets}
-use Rattle.names.specs.Pick.{pick, andThen, orElse}
-use Rattle.books.specs.Keeps.{mostRules}
-use Rattle.books.specs.Lookups.{packedRule}
+use Rattle.names.specs.Pick.{pick, andThen}
+use Rattle.books.specs.Equal.{firsts}
+use Rattle.books.specs.RuleNumbers.{among}
 use Rattle.books.specs.declared.family.Family.{Family}
 use Rattle.books.specs.declared.rule.Rule.{Rule}
 use Rattle.tidy.specs.Marks.{rank}
-use Rattle.tidy.specs.Tidied.{firsts, uses, usable, renumbered}
+use Rattle.tidy.specs.Tidied.{uses, usable, renumbered}
 use Rattle.tidy.specs.inner.Steps.{rulesStanding}
-
--- the first rules in numbers, and zeros behind them
-unfoldable pub numbersOf : List Rule → ℕ → List ℕ
-numbersOf rules count = map packedRule (take count rules) ++ replicate (mostRules - count) 0
-
--- whether a number stands in a list
-unfoldable pub among : List ℕ → ℕ → Bool
-among [] n = false
-among (k ∷ ks) n = orElse (eqb k n) (λ _. among ks n)
 
 -- whether a rule is left: its motifs are all marked, and its number stands not among those before it
 unfoldable pub isLeft : ℕ → Rule → List ℕ → ℕ → Bool

@@ -1,40 +1,76 @@
--- The loop's invariant: reading what is left of the rules from here gives what reading them all gives. The measure is what is left of the count.
-use borrow.Author.Needs.{needs}
+-- The loop's invariant: the rules so far stand with their numbers, and reading what is left from here gives what reading them all gives. The measure is what is
+-- left of the count.
+use Prim.Native.Nat.{ℕ, _-_, _<_}
+use mathlib.Core.Path.{_≡_, _∙_, ap, sym}
 use native.Mathlib.Omega.{arith}
-use Prim.Native.Nat.{_≤_, _-_}
-use mathlib.Core.Path.{_≡_, _∙_, sym}
-use Rattle.names.proofs.Count.{left-suc, left-all, left-none}
-use Rattle.books.specs.Rules.{rulesFrom, rulesAt}
+use lib.ListN.{take}
+use Rattle.names.proofs.Count.{left-all}
+use Rattle.books.specs.Keeps.{mostRules}
+use Rattle.books.proofs.RulesGoOn.{Going, going-begins, going-long, going-ends, going-refused, going-repeats, going-next}
+use borrow.Author.Needs.{needs}
 use Rattle.books.proofs.rules.read_rules.Statement.{statement}
 use Rattle.books.proofs.rules.read_rules.Tie as tie
 
 abbrev Inv-loop : tie.InvT-loop
-Inv-loop s from motifs colours count rules₀ at₀ i₀ rules at i = (i ≤ count) × (rulesFrom s motifs colours rules i at (count - i) ≡ rulesAt s from motifs colours count)
+Inv-loop strict s from motifs colours count rules₀ numbers₀ at₀ i₀ rules numbers at i = Going strict s from motifs colours count rules numbers at i
 
 abbrev μ-loop : tie.MeasureT-loop
-μ-loop s from motifs colours count rules₀ at₀ i₀ rules at i = count - i
+μ-loop strict s from motifs colours count rules₀ numbers₀ at₀ i₀ rules numbers at i = count - i
+
+-- where a rule was read, and the start
+abbrev read : tie.After-repeats Inv-loop μ-loop → tie.After-read-rule Inv-loop μ-loop
+read c = c .before .before .before .before .before .before .before
+
+abbrev began : tie.After-read-rule Inv-loop μ-loop → tie.Start Inv-loop μ-loop
+began r = r .before .before .before .before .before
+
+inside : (r : tie.After-read-rule Inv-loop μ-loop) → r .before .before .loop .i < mostRules
+inside r = omega (arith, r .before .loop-test .taken, began r .pre .2)
 
 loop-holds : tie.Need-loop-holds Inv-loop μ-loop
-unfolding rulesAt
-loop-holds c = (omega arith, simp (left-all, c .no-rules .ensures))
+loop-holds c = rw (c .no-rules .ensures) (going-begins _ _ _ _ _ _)
 
 read-rule-requires : tie.Need-read-rule-requires Inv-loop μ-loop
 read-rule-requires c κs = omega (arith, c .before .before .before .before .pre)
 
 returns : tie.Need-returns Inv-loop μ-loop
 returns c =
-    let less = c .before .before .before .before .before .loop-test .taken in
-    let rule = sym (c .before .before .before .before .read-rule .ensures) ∙ c .before .before .r .given .1 in
-    c .refused-rules .ensures ∙ (simp (left-suc _ _ less, rule) at (c .before .before .before .before .before .before .loop .inv .1))
+    let r = c .before .before .before .before in
+    let rule = sym (r .read-rule .ensures) ∙ c .before .before .r .given .1 in
+    c .refused-rules .ensures ∙ going-refused _ _ _ _ _ _ (r .before .before .loop .inv) (r .before .loop-test .taken) rule
+
+-- the numbers that were looked at are those of the rules before
+front : (r : tie.After-read-rule Inv-loop μ-loop) → let l = r .before .before .loop in take (l .i - 0) (l .numbers) ≡ take (l .i) (l .numbers)
+front r = let l = r .before .before .loop in ap (λ (n : ℕ). take n (l .numbers)) (left-all (l .i))
+
+part-ends : tie.Need-part-repeats-end Inv-loop μ-loop
+part-ends c =
+    let r = c .before .before .before .before .before in
+    let few = inside r in
+    omega (arith, going-long _ _ _ _ _ _ (r .before .before .loop .inv) (omega arith))
+
+returns-2 : tie.Need-returns-2 Inv-loop μ-loop
+returns-2 c =
+    let asked = c .before .before .before in
+    let r = read asked in
+    let number = asked .before .before .before in
+    let rule = sym (r .read-rule .ensures) ∙ number .before .before .r2 .given .1 in
+    let p = began r .pre in
+    c .refused-rules2 .ensures ∙ rw (c .before .fault .ensures)
+    (going-repeats _ _ _ _ _ _ (r .before .before .loop .inv) (r .before .loop-test .taken) (p .0) (p .1) (p .2) rule (number .rule-number .ensures) (front r)
+    (sym (asked .repeats .ensures) ∙ c .before .before .if1 .taken))
 
 loop-again : tie.Need-loop-again Inv-loop μ-loop
 loop-again c =
-    let less = c .before .before .before .before .loop-test .taken in
-    let rule = sym (c .before .before .before .read-rule .ensures) ∙ c .before .r2 .given .1 in
-    (omega arith, simp (left-suc _ _ less, rule) at (c .before .before .before .before .before .loop .inv .1))
+    let r = read (c .before) in
+    let number = c .before .before .before .before in
+    let rule = sym (r .read-rule .ensures) ∙ number .before .before .r2 .given .1 in
+    let p = began r .pre in
+    going-next _ _ _ _ _ _ (r .before .before .loop .inv) (r .before .loop-test .taken) (p .0) (p .1) (p .2) rule (number .rule-number .ensures) (front r)
+    (sym (c .before .repeats .ensures) ∙ c .if1 .left)
 
-returns-2 : tie.Need-returns-2 Inv-loop μ-loop
-returns-2 c = rw (c .fault .ensures) (simp (left-none _ _ (c .before .loop-test .left)) at (c .before .before .loop .inv .1))
+returns-3 : tie.Need-returns-3 Inv-loop μ-loop
+returns-3 c = rw (c .fault2 .ensures) (going-ends _ _ _ _ _ _ (c .before .before .loop .inv) (c .before .loop-test .left))
 
 pub read-rules-spec : {M : Type 1} → statement M
 read-rules-spec =
@@ -42,17 +78,27 @@ read-rules-spec =
     (tie.spec
     Inv-loop
     μ-loop
-    (λ c κs. tt)
+    (λ c κs. search needs)
     loop-holds
     read-rule-requires
     (λ c. search needs)
-    (λ c κs. tt)
+    (λ c κs. search needs)
     returns
     (λ c. search needs)
+    (λ c κs. search needs)
     (λ c. omega arith)
     (λ c. omega arith)
+    part-ends
+    (λ c κs. search needs)
+    (λ c κs. search needs)
+    (λ c κs. search needs)
+    returns-2
+    (λ c. omega (arith, inside (read (c .before))))
+    (λ c. inside (read (c .before)))
+    (λ c. omega (arith, inside (read (c .before))))
+    (λ c. inside (read (c .before)))
     (λ c. omega arith)
     (λ c. omega arith)
     loop-again
-    (λ c κs. tt)
-    returns-2)
+    (λ c κs. search needs)
+    returns-3)

@@ -1,5 +1,6 @@
 -- A refused book is blamed; of an accepted one the combination is made and finished.
 use Prim.Native.Nat.{ℕ}
+use mathlib.Core.Bool.{true}
 use mathlib.Core.List.{List, []}
 use denote.Ref.{now}
 use Rattle.books.specs.ContentsIn.{contentsIn}
@@ -26,7 +27,7 @@ returns : tie.Need-returns
 returns c =
     let test = c .before .before in
     let r = read (test .before) in
-    blamed-leaves (book r) _ (r .read-book .ensures) 1 _ (c .before .blame .ensures) _ _ _ (test .if1 .taken) (c .pack .ensures)
+    blamed-leaves true (book r) _ (r .read-book .ensures) 1 _ (c .before .blame .ensures) _ _ _ (test .if1 .taken) (c .pack .ensures)
 
 -- the book, which was accepted
 book-lent : (c : tie.Else1) → let r = read (c .before) in Lent (book r) (r .read-book .result .family)
@@ -47,7 +48,7 @@ returns-2 c =
     let r = read (accepted .before) in
     let a = began r .args in
     let family = r .read-book .result .family in
-    let went = read-accepted (book r) _ (r .read-book .ensures) 1 (now (a .out)) _ (accepted .if1 .left) in
+    let went = read-accepted true (book r) _ (r .read-book .ensures) 1 (now (a .out)) _ (accepted .if1 .left) in
     finished-leaves (book r) (book r) (alone (a .single) (contentsIn (book r) family)) (made .make-single .result) (made .make-single .ensures (book r) (book r))
     _ (now (a .out)) _ _ went (c .before .before .finish .ensures)
 

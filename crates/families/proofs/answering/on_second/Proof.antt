@@ -1,5 +1,6 @@
 -- A refused second book is blamed; of two accepted ones the combination is made and finished.
 use Prim.Native.Nat.{ℕ}
+use mathlib.Core.Bool.{true}
 use mathlib.Core.List.{List}
 use denote.Ref.{now}
 use Rattle.books.specs.Contents.{Contents}
@@ -34,7 +35,7 @@ returns : tie.Need-returns
 returns c =
     let test = c .before .before in
     let r = read (test .before) in
-    blamed-leaves (second r) _ (r .read-book .ensures) 2 _ (c .before .blame .ensures) _ _ _ (test .if1 .taken) (c .pack .ensures)
+    blamed-leaves true (second r) _ (r .read-book .ensures) 2 _ (c .before .blame .ensures) _ _ _ (test .if1 .taken) (c .pack .ensures)
 
 -- the second book, which was accepted
 second-lent : (c : tie.Else1) → let r = read (c .before) in Lent (second r) (r .read-book .result .family)
@@ -54,7 +55,7 @@ returns-2 c =
     let accepted = made .before .before in
     let r = read (accepted .before) in
     let a = began r .args in
-    let went = read-accepted (second r) _ (r .read-book .ensures) 2 (now (a .out)) _ (accepted .if1 .left) in
+    let went = read-accepted true (second r) _ (r .read-book .ensures) 2 (now (a .out)) _ (accepted .if1 .left) in
     finished-leaves (now (a .first)) (second r) (paired (a .pairing) (firstIn r) (secondIn r)) (made .make-pair .result) (made .make-pair .ensures)
     _ (now (a .out)) _ _ went (c .before .before .finish .ensures)
 

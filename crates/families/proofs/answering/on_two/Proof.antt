@@ -1,5 +1,6 @@
 -- A refused first book is blamed, and an accepted one is lent to what follows.
 use Prim.Native.Nat.{ℕ}
+use mathlib.Core.Bool.{true}
 use mathlib.Core.List.{List}
 use denote.Ref.{now}
 use Rattle.families.specs.Outcome.{onSecond}
@@ -24,7 +25,7 @@ returns : tie.Need-returns
 returns c =
     let test = c .before .before in
     let r = read (test .before) in
-    blamed-leaves (first r) _ (r .read-book .ensures) 1 _ (c .before .blame .ensures) _ _ _ (test .if1 .taken) (c .pack .ensures)
+    blamed-leaves true (first r) _ (r .read-book .ensures) 1 _ (c .before .blame .ensures) _ _ _ (test .if1 .taken) (c .pack .ensures)
 
 on-second-requires : tie.Need-on-second-requires
 on-second-requires c κs =
@@ -38,7 +39,7 @@ returns-2 c =
     let r = read (accepted .before) in
     let a = began r .args in
     let out = now (a .out) in
-    rw (read-accepted (first r) _ (r .read-book .ensures) 1 out (λ f. onSecond (paired (a .pairing) f) (now (a .second)) out) (accepted .if1 .left))
+    rw (read-accepted true (first r) _ (r .read-book .ensures) 1 out (λ f. onSecond (paired (a .pairing) f) (now (a .second)) out) (accepted .if1 .left))
     (c .before .before .on-second .ensures)
 
 pub on-two-spec : {M : Type 1} → statement M

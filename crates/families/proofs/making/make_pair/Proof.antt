@@ -1,77 +1,134 @@
--- The counts, with what the pairing adds, are tested before the rules are gathered, and the draft of what is gathered is one of the combination.
+-- What the pairing adds is made and counted before the rules are gathered, and the draft of what is gathered is one of the combination.
 use Prim.Native.Nat.{_+_, _≤_}
-use mathlib.Core.Path.{_≡_, sym, _∙_}
+use mathlib.Core.Path.{_≡_, sym, ap, ap₂, subst, subst⁻¹, _∙_}
 use native.Mathlib.Omega.{arith}
 use denote.Ref.{now}
 use Rattle.books.specs.ContentsIn.{contentsIn}
 use Rattle.books.specs.Keeps.{mostRules}
-use Rattle.families.specs.Limits.{countsWithin?, withinLimits?}
+use Rattle.families.specs.Limits.{withinLimits?}
 use Rattle.families.specs.inner.Asked.{paired}
-use Rattle.families.specs.inner.Combined.{addedBy}
+use Rattle.families.specs.inner.Combined.{raisedRules, secondAdds, GatherFits, gathered}
+use Rattle.families.specs.inner.Made.{draftedAs, MakesPair}
+use Rattle.families.specs.inner.Gathered.{rulesStanding, Stands}
+use Rattle.families.specs.declared.gathering.Rules.{Rules}
 use Rattle.families.proofs.Testing.{counts-within}
-use Rattle.families.proofs.AddingRules.{added-few}
 use Rattle.families.proofs.Drafts.{exceeding-makes}
-use Rattle.families.proofs.DraftsOfTwo.{pair-test, pair-makes}
+use Rattle.families.proofs.DraftsOfTwo.{adds-fit, pair-test, gather-fits, pair-makes}
 use borrow.Author.Needs.{needs}
 use Rattle.families.proofs.making.make_pair.Statement.{statement}
 use Rattle.families.proofs.making.make_pair.Tie as tie
 
--- where the colours were merged, from where the counts are known, and the start
-abbrev merged : tie.After-struct-known6 → tie.After-merge
-merged c = c .before .before .before .before .before .before .before .before
+-- where the colours were merged, where the second family's rules were raised, and the start
+abbrev merged : tie.After-raise-rules → tie.After-merge
+merged r = r .before .before .before .before .before .before .before
 
-abbrev began : tie.After-struct-known6 → tie.Start
-began c = merged c .before .before .before
+abbrev began : tie.After-raise-rules → tie.Start
+began r = merged r .before .before .before
 
--- the counts of rules are small
-counted : (c : tie.After-struct-known6)
-    → let a = began c .args in (a .f .count + a .g .count ≤ mostRules + mostRules) × (c .before .before .before .before .added-by .result ≤ mostRules + mostRules)
-counted c =
-    let a = began c .args in
-    let own = began c .pre .0 .fitted .sized in
-    let other = began c .pre .1 .fitted .sized in
-    (omega (arith, own .rows .few, other .rows .few), omega (arith, added-few (a .pairing) (a .f) (a .g) own other, c .before .before .before .before .added-by .ensures))
+abbrev rose : tie.After-second-adds → tie.After-raise-rules
+rose a = a .before .before .before
+
+-- where what is added was made, from where it was counted
+abbrev made : tie.After-counts-within → tie.After-second-adds
+made c = c .before .before .before .before .before .before .before
+
+raise-rules-requires : tie.Need-raise-rules-requires
+raise-rules-requires c κs =
+    let p = c .before .before .before .before .before .before .before .before .before .pre in
+    rw (c .rules-of2 .ensures) (omega (arith, p .0 .fitted .sized .motifs-few), p .1 .fitted .sized .rows, p .1 .fitted .fits)
+
+risen : (r : tie.After-raise-rules) → let a = began r .args in r .raise-rules .result ≡ raisedRules (a .f) (a .g) (merged r .merge .result .numbers)
+risen r = simp (r .before .rules-of2 .ensures) at (r .raise-rules .ensures)
+
+first-adds-requires : tie.Need-first-adds-requires
+first-adds-requires r κs =
+    let p = began r .pre in
+    (p .0 .fitted .sized, omega (arith, p .0 .fitted .sized .motifs-few, p .1 .fitted .sized .motifs-few))
+
+second-adds-requires : tie.Need-second-adds-requires
+second-adds-requires c κs =
+    let r = c .before .before in
+    let a = began r .args in
+    let p = began r .pre in
+    rw (risen r)
+    (adds-fit (now (a .first)) (now (a .second)) (a .f) (a .g) _ (p .0) (p .1) (merged r .merge .ensures) (a .pairing) _ (c .before .first-adds .ensures))
+
+-- what is added from the second family
+from-second : (d : tie.After-second-adds) → let r = rose d in let a = began r .args in
+    Stands (d .second-adds .result)
+    (secondAdds (a .pairing) (a .f .start) (rulesStanding (d .before .before .first-adds .result))
+    (rulesStanding (raisedRules (a .f) (a .g) (merged r .merge .result .numbers))) (a .f .motifs + a .g .start) (a .f .motifs + a .g .motifs))
+from-second d =
+    let a = began (rose d) .args in
+    subst (λ (l : Rules). Stands (d .second-adds .result)
+    (secondAdds (a .pairing) (a .f .start) (rulesStanding (d .before .before .first-adds .result)) (rulesStanding l) (a .f .motifs + a .g .start) (a .f .motifs + a .g .motifs)))
+    (risen (rose d)) (d .second-adds .ensures)
+
+-- the counts are small
+small : (d : tie.After-second-adds) → let a = began (rose d) .args in
+    (a .f .count ≤ mostRules) × (a .g .count ≤ mostRules) × (d .before .before .first-adds .result .count ≤ mostRules) × (d .second-adds .result .count ≤ mostRules)
+small d =
+    let p = began (rose d) .pre in
+    (p .0 .fitted .sized .rows .few, p .1 .fitted .sized .rows .few, d .before .before .first-adds .ensures .rows .few, d .second-adds .ensures .rows .few)
+
+colours-small : (d : tie.After-second-adds) → let a = began (rose d) .args in (a .f .colours .count ≤ 64) × (merged (rose d) .merge .result .more .count ≤ 64)
+colours-small d =
+    let p = began (rose d) .pre in
+    (p .0 .fitted .sized .colours-few, omega (arith, merged (rose d) .merge .ensures .few, p .1 .fitted .sized .colours-few))
+
+motifs-small : (r : tie.After-raise-rules) → let a = began r .args in (a .f .motifs ≤ 32) × (a .g .motifs ≤ 32) × (a .g .start ≤ 32)
+motifs-small r =
+    let p = began r .pre in
+    (p .0 .fitted .sized .motifs-few, p .1 .fitted .sized .motifs-few, omega (arith, p .1 .fitted .sized .motifs-few, p .1 .fitted .sized .start-fits))
 
 -- the test, and what it says where it holds
-counts : (c : tie.After-counts-within) → let a = began (c .before) .args in
-    c .counts-within .result
-    ≡ countsWithin? (a .f .colours .count + merged (c .before) .merge .result .more .count) (a .f .motifs + a .g .motifs + 1) (a .f .count + a .g .count + addedBy (a .pairing) (a .f) (a .g))
-counts c = simp (c .before .before .before .before .before .added-by .ensures) at (c .counts-within .ensures)
-
-tested : (c : tie.After-counts-within) → let a = began (c .before) .args in
+tested : (c : tie.After-counts-within) → let a = began (rose (made c)) .args in
     c .counts-within .result ≡ withinLimits? (paired (a .pairing) (contentsIn (now (a .first)) (a .f)) (contentsIn (now (a .second)) (a .g)))
 tested c =
-    let a = began (c .before) .args in
-    let p = began (c .before) .pre in
-    counts c ∙ sym (pair-test (now (a .first)) (now (a .second)) (a .f) (a .g) _ (p .0) (p .1) (merged (c .before) .merge .ensures) (a .pairing))
+    let d = made c in
+    let a = began (rose d) .args in
+    let p = began (rose d) .pre in
+    c .counts-within .ensures
+    ∙ sym (pair-test (now (a .first)) (now (a .second)) (a .f) (a .g) _ (p .0) (p .1) (merged (rose d) .merge .ensures) (a .pairing)
+    _ (d .before .before .first-adds .ensures) _ (from-second d))
 
-room : (c : tie.Then1) → let a = began (c .before .before) .args in a .f .count + a .g .count + addedBy (a .pairing) (a .f) (a .g) ≤ mostRules
-room c = counts-within _ _ _ (sym (counts (c .before)) ∙ c .if1 .taken) .2
+room : (c : tie.Then1) → let d = made (c .before) in let a = began (rose d) .args in
+    a .f .count + a .g .count + (d .before .before .first-adds .result .count + d .second-adds .result .count) ≤ mostRules
+room c = counts-within _ _ _ (sym (c .before .counts-within .ensures) ∙ c .if1 .taken) .2
 
-pair-rules-requires : tie.Need-pair-rules-requires
-pair-rules-requires c κs =
-    let p = began (c .before .before .before) .pre in
-    record { own = p .0 .fitted .sized; other = p .1 .fitted; room = room (c .before) }
-
-add-drafting : tie.Need-add-drafting
-add-drafting c =
-    let p = began (c .before .before .before .before) .pre in
-    omega (arith, p .0 .fitted .sized .motifs-few, p .1 .fitted .sized .motifs-few)
+gather-requires : tie.Need-gather-requires
+gather-requires c κs =
+    let d = made (c .before) in
+    let r = rose d in
+    let a = began r .args in
+    let p = began r .pre in
+    let copied = d .before .before .first-adds .result in
+    let added = d .second-adds .result in
+    subst⁻¹ (λ (l : Rules). GatherFits (r .before .before .before .rules-of .result) l copied added) (risen r)
+    (subst⁻¹ (λ (l : Rules). GatherFits l (raisedRules (a .f) (a .g) (merged r .merge .result .numbers)) copied added) (r .before .before .before .rules-of .ensures)
+    (gather-fits (now (a .first)) (now (a .second)) (a .f) (a .g) _ (p .0) (p .1) (merged r .merge .ensures) (a .pairing)
+    _ (d .before .before .first-adds .ensures) _ (from-second d) (room c)))
 
 returns : tie.Need-returns
 returns c =
-    let then = c .before .before .before in
-    let known = then .before .before in
-    let a = began known .args in
-    let p = began known .pre in
-    simp (c .drafting .ensures, c .before .pair-rules .ensures)
-    (pair-makes (now (a .first)) (now (a .second)) (a .f) (a .g) _ (p .0) (p .1) (merged known .merge .ensures) (a .pairing) (room then)
-    (sym (tested (then .before)) ∙ then .if1 .taken))
+    let then = c .before .before in
+    let d = made (then .before) in
+    let r = rose d in
+    let a = began r .args in
+    let p = began r .pre in
+    let copied = d .before .before .first-adds .result in
+    let added = d .second-adds .result in
+    let rules = c .before .gather .ensures
+    ∙ ap₂ (λ (x y : Rules). gathered x y copied added) (r .before .before .before .rules-of .ensures) (risen r) in
+    let drafted = c .drafting .ensures ∙ ap (draftedAs (a .f) (merged r .merge .result .more) (a .f .motifs + a .g .motifs + 1) (a .f .motifs + a .g .motifs)) rules in
+    subst⁻¹ (MakesPair (a .pairing) (now (a .first)) (a .f) (now (a .second)) (a .g)) drafted
+    (pair-makes (now (a .first)) (now (a .second)) (a .f) (a .g) _ (p .0) (p .1) (merged r .merge .ensures) (a .pairing)
+    _ (d .before .before .first-adds .ensures) _ (from-second d) (room then) (sym (tested (then .before)) ∙ then .if1 .taken))
 
 returns-2 : tie.Need-returns-2
 returns-2 c =
     let test = c .before .before in
-    rw (c .exceeding .ensures) (exceeding-makes _ _ _ _ (began (test .before) .pre .0 .fitted .sized) (sym (tested test) ∙ c .before .if1 .left))
+    rw (c .exceeding .ensures) (exceeding-makes _ _ _ _ (began (rose (made test)) .pre .0 .fitted .sized) (sym (tested test) ∙ c .before .if1 .left))
 
 pub make-pair-spec : {M : Type 1} → statement M
 make-pair-spec =
@@ -80,13 +137,19 @@ make-pair-spec =
     (λ c κs. search needs)
     (λ c. search needs)
     (λ c κs. search needs)
-    (λ c. search needs)
-    (λ c. search needs)
-    (λ c. omega (arith, counted c))
-    (λ c. omega (arith, counted c))
     (λ c κs. search needs)
-    pair-rules-requires
-    add-drafting
+    raise-rules-requires
+    first-adds-requires
+    (λ c. omega (arith, motifs-small (c .before .before)))
+    second-adds-requires
+    (λ c. omega (arith, colours-small (c .before .before)))
+    (λ c. omega (arith, motifs-small (rose (c .before .before))))
+    (λ c. omega (arith, small (c .before .before .before .before)))
+    (λ c. search needs)
+    (λ c. omega (arith, small (c .before .before .before .before .before .before)))
+    (λ c κs. search needs)
+    gather-requires
+    (λ c. omega (arith, motifs-small (rose (made (c .before .before)))))
     (λ c κs. search needs)
     (λ c κs. search needs)
     returns

@@ -14,7 +14,7 @@ use Rattle.books.specs.declared.rule.Rule.{Rule}
 use Rattle.books.proofs.StandingRules.{there-length, there-stands, one-written}
 use Rattle.tidy.specs.Tidied.{renumbered}
 use Rattle.tidy.specs.inner.Cleared.{leftAfter, cleared}
-use Rattle.tidy.proofs.EqualNumbers.{numbers-length}
+use Rattle.books.proofs.EqualNumbers.{numbers-length}
 use Rattle.tidy.proofs.LeftRules.{left-few, left-ends, left-by}
 use Rattle.tidy.proofs.clearing.clear.Statement.{statement}
 use Rattle.tidy.proofs.clearing.clear.Tie as tie
@@ -121,7 +121,7 @@ clear-spec =
     (tie.spec
     Inv-loop
     μ-loop
-    (λ c κs. c .before .pre .rules-few)
+    (λ c κs. tt)
     (λ c. (omega arith, omega arith, refl))
     (λ c. omega (arith, inside c))
     (λ c. omega (arith, inside c))

@@ -1,44 +1,19 @@
 -- Of equal rules the first is left: every rule is there, and none twice. So what is left stays as it is when it is gone through again.
 use Prim.Native.Nat.{_≤_}
 use mathlib.Core.Path.{_≡_, refl, sym, _∙_, ap}
-use mathlib.Core.Bool.{Bool, true, false≢true, true≢false}
-use mathlib.Core.List.{List, [], _∷_, _++_, map, List·Memᴰ, List·Memᴰ·head, List·Memᴰ·tail, List·Memᴰ·cases-cons, List·Memᴰ·not-nil}
+use mathlib.Core.Bool.{Bool, true≢false}
+use mathlib.Core.List.{List, [], _∷_, _++_, map, append-nil, append-assoc, List·Memᴰ, List·Memᴰ·head, List·Memᴰ·tail, List·Memᴰ·cases-cons, List·Memᴰ·not-nil}
 use mathlib.Core.List.{List·Memᴰ·append-cases, List·Memᴰ·eq-of-singleton, Memᴰ·append-left, Memᴰ·append-right, Memᴰ·cast, Memᴰ·of-map}
-use mathlib.Core.Logic.{_↔_, _⊎_, inl, inr, ⊎-elim}
+use mathlib.Core.Logic.{_⊎_, inl, inr, ⊎-elim}
 use native.Mathlib.Omega.{arith}
 use lib.ListN.{length}
 use Rattle.names.specs.Pick.{pick}
 use Rattle.names.proofs.Picking.{pick-ind}
-use Rattle.names.proofs.Tests.{not-true-false, or-either, or-left, or-right}
-use Rattle.names.proofs.SameNames.{same-name}
-use Rattle.books.specs.RuleBytes.{fourOf, ruleIn}
+use Rattle.names.specs.Spelling.{Distinct}
+use Rattle.names.proofs.Tests.{not-true-false}
+use Rattle.books.specs.Equal.{stands, firsts}
 use Rattle.books.specs.declared.rule.Rule.{Rule}
-use Rattle.books.proofs.LentRules.{rule-back}
-use Rattle.tidy.specs.Tidied.{sameRule, stands, firsts, Apart}
-
--- ── The test for equal rules ──
-
-pub rule-same : (q r : Rule) → (sameRule q r ≡ true) ↔ (q ≡ r)
-unfolding sameRule
-rule-same q r = (
-  λ e. sym (rule-back q) ∙ ap ruleIn (same-name (fourOf q) (fourOf r) .0 e) ∙ rule-back r,
-  λ p. same-name (fourOf q) (fourOf r) .1 (ap fourOf p),
-)
-
-pub stands-back : (l : List Rule) (r : Rule) → stands l r ≡ true → List·Memᴰ r l
-unfolding stands
-stands-back [] r e = absurd (false≢true e)
-stands-back (q ∷ l) r e =
-    ⊎-elim (λ h. List·Memᴰ·head (sym (rule-same q r .0 h))) (λ h. List·Memᴰ·tail (stands-back l r h)) (or-either (sameRule q r) _ e)
-
-pub stands-forth : (l : List Rule) (r : Rule) → List·Memᴰ r l → stands l r ≡ true
-unfolding stands
-stands-forth [] r i = absurd (List·Memᴰ·not-nil i)
-stands-forth (q ∷ l) r i =
-    ⊎-elim
-    (λ (e : r ≡ q). or-left (sameRule q r) _ (rule-same q r .1 (sym e)))
-    (λ u. or-right (sameRule q r) _ (stands-forth l r u))
-    (List·Memᴰ·cases-cons i)
+use Rattle.books.proofs.EqualRules.{stands-back, stands-forth}
 
 -- ── Every rule ──
 
@@ -101,36 +76,49 @@ firsts-new before (r ∷ rs) x =
     (λ u. firsts-new next rs x u (Memᴰ·append-left (r ∷ []) j))
     (List·Memᴰ·cases-cons i))
 
-pub firsts-apart : (before rs : List Rule) → Apart (firsts before rs)
+pub firsts-distinct : (before rs : List Rule) → Distinct (firsts before rs)
 unfolding firsts
-firsts-apart before [] = tt
-firsts-apart before (r ∷ rs) =
+firsts-distinct before [] = tt
+firsts-distinct before (r ∷ rs) =
     let next = before ++ (r ∷ []) in
-    pick-ind Apart (stands before r) (firsts next rs) (r ∷ firsts next rs)
-    (λ _. firsts-apart next rs)
-    (λ _. (λ i. firsts-new next rs r i (Memᴰ·append-right before (List·Memᴰ·head refl)), firsts-apart next rs))
+    pick-ind Distinct (stands before r) (firsts next rs) (r ∷ firsts next rs)
+    (λ _. firsts-distinct next rs)
+    (λ _. (λ i. firsts-new next rs r i (Memᴰ·append-right before (List·Memᴰ·head refl)), firsts-distinct next rs))
 
 -- rules of which none stands twice, nor earlier, are all left
-apart-left : (before rs : List Rule) → Apart rs → ((x : Rule) → List·Memᴰ x rs → List·Memᴰ x before → ⊥) → firsts before rs ≡ rs
+pub distinct-left : (before rs : List Rule) → Distinct rs → ((x : Rule) → List·Memᴰ x rs → List·Memᴰ x before → ⊥) → firsts before rs ≡ rs
 unfolding firsts
-apart-left before [] f none = refl
-apart-left before (r ∷ rs) f none =
+distinct-left before [] f none = refl
+distinct-left before (r ∷ rs) f none =
     let next = before ++ (r ∷ []) in
     ap (λ (t : Bool). pick t (firsts next rs) (r ∷ firsts next rs))
     (not-true-false (stands before r) (λ e. none r (List·Memᴰ·head refl) (stands-back before r e)))
-    ∙ ap (λ (l : List Rule). r ∷ l) (apart-left next rs (f .1) (λ x i j. ⊎-elim
+    ∙ ap (λ (l : List Rule). r ∷ l) (distinct-left next rs (f .1) (λ x i j. ⊎-elim
     (none x (List·Memᴰ·tail i))
     (λ w. f .0 (Memᴰ·cast (sym (List·Memᴰ·eq-of-singleton w)) i))
     (List·Memᴰ·append-cases before j)))
 
-pub firsts-same : (rs : List Rule) → Apart rs → firsts [] rs ≡ rs
-firsts-same rs f = apart-left [] rs f (λ x _ j. List·Memᴰ·not-nil j)
+pub firsts-same : (rs : List Rule) → Distinct rs → firsts [] rs ≡ rs
+firsts-same rs f = distinct-left [] rs f (λ x _ j. List·Memᴰ·not-nil j)
+
+-- what is left of two lists, one after the other
+pub firsts-append : (before xs ys : List Rule) → firsts before (xs ++ ys) ≡ firsts before xs ++ firsts (before ++ xs) ys
+unfolding firsts
+firsts-append before [] ys = ap (λ (l : List Rule). firsts l ys) (sym (append-nil before))
+firsts-append before (r ∷ xs) ys =
+    let next : List Rule = before ++ (r ∷ []) in
+    let rest : firsts next (xs ++ ys) ≡ firsts next xs ++ firsts (before ++ (r ∷ xs)) ys =
+    firsts-append next xs ys ∙ ap (λ (l : List Rule). firsts next xs ++ firsts l ys) (append-assoc before (r ∷ []) xs) in
+    pick-ind (λ (l : List Rule). l ≡ pick (stands before r) (firsts next xs) (r ∷ firsts next xs) ++ firsts (before ++ (r ∷ xs)) ys) (stands before r)
+    (firsts next (xs ++ ys)) (r ∷ firsts next (xs ++ ys))
+    (λ e. rw e rest)
+    (λ e. rw e (ap (λ (l : List Rule). r ∷ l) rest))
 
 -- rules that are told apart after a change stand not twice after it
-pub map-apart : (f : Rule → Rule) (rs : List Rule) → ((q r : Rule) → List·Memᴰ q rs → List·Memᴰ r rs → f q ≡ f r → q ≡ r) → Apart rs → Apart (map f rs)
-map-apart f [] one a = tt
-map-apart f (r ∷ rs) one a = (
+pub map-distinct : (f : Rule → Rule) (rs : List Rule) → ((q r : Rule) → List·Memᴰ q rs → List·Memᴰ r rs → f q ≡ f r → q ≡ r) → Distinct rs → Distinct (map f rs)
+map-distinct f [] one a = tt
+map-distinct f (r ∷ rs) one a = (
   λ i. let (q, j, e) = Memᴰ·of-map f rs i in
       a .0 (Memᴰ·cast (sym (one q r (List·Memᴰ·tail j) (List·Memᴰ·head refl) e)) j),
-  map-apart f rs (λ q z i j. one q z (List·Memᴰ·tail i) (List·Memᴰ·tail j)) (a .1),
+  map-distinct f rs (λ q z i j. one q z (List·Memᴰ·tail i) (List·Memᴰ·tail j)) (a .1),
 )
