@@ -13,10 +13,10 @@
 // What a caller sees to, for every call:
 // - A slice is a pointer and then its length, in elements. The pointer is valid for that many elements, and aligned for
 //   their type, until the call returns. With length 0 it may be null, as that of an empty std::vector may be.
-// - A slice that the call may write (work, tree, card, figures, out) overlaps no other slice of the same call. Nothing
-//   tells when it does. dv_beside(f, f_len, g, g_len, g, room) reads names of g that it has written over: with the one
-//   colour "Navy" in f and "Red" in g it answers 0, and the new book has the inks "Navy" and "Nav". Slices that are
-//   only read may overlap: the same book may be given twice.
+// - A slice that the call may write (work, tree, card, figures, out, and the sheet of dv_recolour) overlaps no other
+//   slice of the same call. Nothing tells when it does. dv_beside(f, f_len, g, g_len, g, room) reads names of g that it
+//   has written over: with the one colour "Navy" in f and "Red" in g it answers 0, and the new book has the inks "Navy"
+//   and "Nav". Slices that are only read may overlap: the same book may be given twice.
 // - Of the calling thread's stack DV_ENOUGH_STACK bytes are free at the call.
 // With DV_CHECKED defined before this header is included, each call tests by assert, which NDEBUG takes out again, what
 // can be told from pointers and lengths: null, alignment, overlap, and a length that no memory has. Whether a pointer
@@ -39,7 +39,7 @@ extern "C" {
 
 // The version of rules and calls that this header describes, and the call that tells the archive's. A host compares the
 // two before any other call, so that a header and an archive of two versions are noticed.
-#define DV_VERSION 10
+#define DV_VERSION 11
 uint64_t dv_version(void);
 
 // The greatest sizes.
@@ -131,7 +131,8 @@ enum dv_answer_number {
     DV_IN_FAMILY = 15,      // the sheet is in the family, so that there is no reason why not
     DV_NOT_A_TREE = 16,     // the lent nodes are no derivation of the sheet; place: the first node that fails, from 0
     DV_NOT_REWRITTEN = 17,  // the start motif of a book to be tidied cannot be rewritten to colours, sizes forgotten
-    DV_RULE_TWICE = 18      // an equal rule stood earlier in the book; place: first byte of the later rule
+    DV_RULE_TWICE = 18,     // an equal rule stood earlier in the book; place: first byte of the later rule
+    DV_NO_SUCH_CELL = 19    // the sheet has no such row, no such column or no colour of this number
 };
 
 // A fixed text for each answer number, in English, to stand after what it is said of, as in "the sheet: not in the
@@ -175,6 +176,8 @@ static inline const char *dv_text(unsigned number)
         return "its start motif cannot be rewritten to colours";
     case DV_RULE_TWICE:
         return "a rule stands twice: dv_tidy makes a book without it";
+    case DV_NO_SUCH_CELL:
+        return "it has no such row, column or colour";
     default:
         return "no answer has this number";
     }
@@ -290,6 +293,19 @@ static inline size_t dv_reason_row(uint64_t answer) { return (size_t)(answer >> 
 static inline size_t dv_reason_column(uint64_t answer) { return (size_t)(answer >> 40 & 0x1f); }
 static inline size_t dv_reason_height(uint64_t answer) { return (size_t)(answer >> 45 & 0x1f); }
 static inline size_t dv_reason_width(uint64_t answer) { return (size_t)(answer >> 50 & 0x1f); }
+
+// Recolours one cell of a sheet of m rows and n columns, for the proofing desk: row and column from 0, and colour a
+// number of the sheet's own list. Answers, in this order: 1 to 8 or 18 blaming 1, the book; 1 to 8 blaming 2, the
+// sheet; 19 where the sheet has no such row, column or colour; 9; 11; 0. On 1 to 9, 18 and 19 nothing is written.
+//
+// On 0 and 11 the byte of that cell in sheet is the colour, and the entries of the pieces that contain the cell are
+// made anew, smaller pieces first, each from the entries of its parts as they stand in work: so a call takes time by
+// those pieces alone. Everything else in sheet and work is unchanged. Where the first dv_work_entries(m, n) entries of
+// work held the table of the sheet, as dv_derive, dv_why_not or this call leaves them with the same book, they hold
+// that of the sheet as it now is, and 0 and 11 say what dv_derive says of it. Elsewhere 0 and 11 say only whether the
+// start motif's bit is set in the entry of the whole sheet as it then stands.
+uint64_t dv_recolour(const uint8_t *book, size_t book_len, uint8_t *sheet, size_t sheet_len, uint32_t *work,
+                     size_t work_len, size_t row, size_t column, size_t colour);
 
 // Reports on a run of sheets against one book, for planning. A run is at most DV_LONGEST_RUN bytes: sheets one after
 // another, each preceded by its length, a number spelt as in a book. A length of 0 is a sheet that answers 1; an empty
@@ -440,6 +456,17 @@ static inline uint64_t dv_checked_why_not(const uint8_t *book, size_t book_len, 
     return dv_why_not(book, book_len, sheet, sheet_len, work, work_len);
 }
 
+static inline uint64_t dv_checked_recolour(const uint8_t *book, size_t book_len, uint8_t *sheet, size_t sheet_len,
+                                           uint32_t *work, size_t work_len, size_t row, size_t column, size_t colour)
+{
+    assert(dv_is_lent(book, book_len, 1) && dv_is_lent(sheet, sheet_len, 1));
+    assert(dv_is_lent(work, work_len, sizeof *work));
+    assert(dv_are_apart(sheet, sheet_len, book, book_len));
+    assert(dv_are_apart(work, work_len * sizeof *work, book, book_len));
+    assert(dv_are_apart(work, work_len * sizeof *work, sheet, sheet_len));
+    return dv_recolour(book, book_len, sheet, sheet_len, work, work_len, row, column, colour);
+}
+
 static inline uint64_t dv_checked_run_report(const uint8_t *book, size_t book_len, const uint8_t *run, size_t run_len,
                                              uint32_t *work, size_t work_len, uint32_t *figures, size_t figures_len)
 {
@@ -490,6 +517,7 @@ DV_CHECKED_OF_ONE(tidy)
 #define dv_check_tree dv_checked_check_tree
 #define dv_size_card dv_checked_size_card
 #define dv_why_not dv_checked_why_not
+#define dv_recolour dv_checked_recolour
 #define dv_run_report dv_checked_run_report
 #define dv_either_of dv_checked_either_of
 #define dv_beside dv_checked_beside

@@ -24,8 +24,8 @@ static const uint8_t *before;
 
 void wrong(const char *what)
 {
-    fprintf(stderr, "compare: %s\nin %s, number %zu, slices of %zu and %zu entries, ", what, call.name, call.number,
-            call.output[0].entries, call.output[1].entries);
+    fprintf(stderr, "compare: %s\nin %s, numbers %zu, %zu and %zu, slices of %zu and %zu entries, ", what, call.name,
+            call.number[0], call.number[1], call.number[2], call.output[0].entries, call.output[1].entries);
     say_kind();
     for (int i = 0; i < SLICES; i++)
         if (call.input[i].at != NULL) {
@@ -111,9 +111,11 @@ static void expect_unwritten(const struct lent *lent, struct input input)
 
 static uint64_t ask(struct lent *outputs)
 {
-    struct loan loan = {.number = call.number};
+    struct loan loan;
+    memcpy(loan.number, call.number, sizeof loan.number);
     for (int i = 0; i < SLICES; i++) {
-        lend(&outputs[i], before, call.output[i].entries * call.output[i].size);
+        const void *held = call.output[i].held;
+        lend(&outputs[i], held != NULL ? held : before, call.output[i].entries * call.output[i].size);
         loan.in[i] = in[i].slice;
         loan.in_len[i] = call.input[i].length;
         loan.out[i] = outputs[i].slice;

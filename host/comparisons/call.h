@@ -4,7 +4,7 @@
 
 #include "compare.h"
 
-enum { SLICES = 3 };
+enum { SLICES = 3, NUMBERS = 3 };
 
 // An input; null where the call takes none.
 struct input {
@@ -12,18 +12,19 @@ struct input {
     size_t length;
 };
 
-// A slice that may be written: its entries, and the bytes of one entry.
+// A slice that may be written: its entries, the bytes of one entry, and what it holds before; null where that is noise.
 struct output {
     size_t entries, size;
+    const void *held;
 };
 
-// What an engine is lent: its inputs, the slices that it may write, and a number where the call takes one.
+// What an engine is lent: its inputs, the slices that it may write, and numbers where the call takes some.
 struct loan {
     const uint8_t *in[SLICES];
     size_t in_len[SLICES];
     void *out[SLICES];
     size_t out_len[SLICES];
-    size_t number;
+    size_t number[NUMBERS];
 };
 
 struct call {
@@ -31,7 +32,7 @@ struct call {
     uint64_t (*ask)(const struct engine *engine, const struct loan *loan);
     struct input input[SLICES];
     struct output output[SLICES];
-    size_t number;
+    size_t number[NUMBERS];
 };
 
 struct input all_of(const struct bytes *bytes);

@@ -28,6 +28,9 @@ uint64_t compare_check_tree(const struct bytes *book, const struct bytes *sheet,
                             size_t count);
 // The card is put into card, where that is not null and the answer is 0.
 uint64_t compare_size_card(const struct bytes *book, size_t card_len, uint32_t card[DV_CARD_ENTRIES]);
+// The sheet and the work slice hold before the call what they are given with, and after it what both engines left.
+uint64_t compare_recolour(const struct bytes *book, struct bytes *sheet, uint32_t *work, size_t work_len, size_t row,
+                          size_t column, size_t colour);
 uint64_t compare_why_not(const struct bytes *book, const struct bytes *sheet, size_t work_len);
 // The figures are put into figures, where that is not null and the answer is 0.
 uint64_t compare_run_report(const struct bytes *book, const struct run *run, size_t work_len, size_t figures_len,

@@ -6,11 +6,11 @@
 #include "../shared/chance.h"
 #include "call.h"
 
-enum { ENOUGH = 50, NO_ANSWER = 14 };
+enum { ENOUGH = 50, LAST_ANSWER = DV_NO_SUCH_CELL };
 
 static const char *kind;
 static uint64_t seed_of_run;
-static unsigned long comparisons, answers[DV_RULE_TWICE + 1], reasons[DV_REASON_NO_PIECE + 1];
+static unsigned long comparisons, answers[LAST_ANSWER + 1], reasons[DV_REASON_NO_PIECE + 1];
 
 void say_kind(void)
 {
@@ -23,9 +23,14 @@ void count_comparison(void)
 }
 
 // 14 is no answer any more.
+static bool is_answer(unsigned number)
+{
+    return number <= LAST_ANSWER && number != 14;
+}
+
 void count_answer(unsigned number)
 {
-    if (number > DV_RULE_TWICE || number == NO_ANSWER)
+    if (!is_answer(number))
         wrong("both engines answer with a number that is no answer");
     answers[number]++;
 }
@@ -69,8 +74,8 @@ void compare_kinds(uint64_t seed)
         printf("%s %s %lu", i == 0 ? "" : ",", kind, comparisons - before);
     }
     printf("\n");
-    for (unsigned i = DV_ACCEPTED; i <= DV_RULE_TWICE; i++)
-        if (i != NO_ANSWER)
+    for (unsigned i = DV_ACCEPTED; i <= LAST_ANSWER; i++)
+        if (is_answer(i))
             expect_enough(answers[i], "answer", i);
     for (unsigned i = DV_REASON_COLOUR; i <= DV_REASON_NO_PIECE; i++)
         expect_enough(reasons[i], "reason", i);

@@ -25,6 +25,9 @@ uint64_t independent_size_card(const uint8_t *book, size_t book_len, uint32_t *c
 uint64_t independent_why_not(const uint8_t *book, size_t book_len, const uint8_t *sheet, size_t sheet_len,
                              uint32_t *work, size_t work_len);
 
+uint64_t independent_recolour(const uint8_t *book, size_t book_len, uint8_t *sheet, size_t sheet_len, uint32_t *work,
+                              size_t work_len, size_t row, size_t column, size_t colour);
+
 uint64_t independent_run_report(const uint8_t *book, size_t book_len, const uint8_t *run, size_t run_len,
                                 uint32_t *work, size_t work_len, uint32_t *figures, size_t figures_len);
 

@@ -28,6 +28,11 @@ void independent_split(struct rules *rules, const struct book *book);
 // Fills the work slice with the table of the sheet under the book with these rules.
 void independent_fill(struct table *table, const struct rules *rules, const struct order *order, uint32_t *work);
 
+// Writes the entries of the pieces that have the cell, smaller pieces first, the cell's by a colour of the sheet and the
+// others' from the entries of their parts.
+void independent_refill(struct table *table, const struct rules *rules, const struct order *order, uint32_t *work,
+                        unsigned row, unsigned column, unsigned colour);
+
 static inline uint32_t entry(const struct table *table, unsigned height, unsigned width, unsigned top, unsigned left)
 {
     return table->entry[table->slot[height][width] + top * (table->columns - width + 1) + left];

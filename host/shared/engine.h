@@ -24,6 +24,8 @@ struct engine {
     uint64_t (*size_card)(const uint8_t *book, size_t book_len, uint32_t *card, size_t card_len);
     uint64_t (*why_not)(const uint8_t *book, size_t book_len, const uint8_t *sheet, size_t sheet_len, uint32_t *work,
                         size_t work_len);
+    uint64_t (*recolour)(const uint8_t *book, size_t book_len, uint8_t *sheet, size_t sheet_len, uint32_t *work,
+                         size_t work_len, size_t row, size_t column, size_t colour);
     uint64_t (*run_report)(const uint8_t *book, size_t book_len, const uint8_t *run, size_t run_len, uint32_t *work,
                            size_t work_len, uint32_t *figures, size_t figures_len);
     uint64_t (*of_two[RUN])(const uint8_t *first, size_t first_len, const uint8_t *second, size_t second_len,

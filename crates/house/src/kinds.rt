@@ -5,6 +5,7 @@ use crate::combining;
 use crate::judging;
 use crate::lent;
 use crate::lines;
+use crate::painting;
 use crate::printing;
 use crate::reading;
 use crate::reports;
@@ -36,12 +37,13 @@ fn asked(line: &[u8], first: &[u8], second: &[u8]) {
     );
 }
 
-// A line with its inputs. What is kept is changed by lines of two kinds only.
+// A line with its inputs. What is kept is changed by lines of three kinds only.
 fn run(line: &[u8], first: &[u8], second: &[u8], kept: &mut [u8]) {
     match lent::byte_at(line, 0) {
         b'k' => spelling::keep(lent::byte_at(line, 5), first, kept),
         b'm' => combining::make(line, first, second, kept),
         b'l' => judging::judge(line, first, second, kept),
+        b'p' => painting::paint(line, first, kept),
         _ => asked(line, first, second),
     }
 }

@@ -9,6 +9,7 @@ mod judging;
 mod kinds;
 mod lent;
 mod lines;
+mod painting;
 mod printing;
 mod reading;
 mod reports;

@@ -75,6 +75,10 @@ module _ (book before : List ℕ) {split : Split} {masks : List ℕ} (is : keptW
   unfolding splitBook
   kept-start = ap (λ (x : SplitBook). x .split .start) is
 
+  pub kept-colours : split .colours ≡ bookOf book .family .colours
+  unfolding splitBook
+  kept-colours = ap (λ (x : SplitBook). x .split .colours) is
+
   -- of an accepted one, with the masks of its rules where the slice has room for them alone
   pub kept-from : split .fault .number ≡ 0 → length before ≡ allMasks → SplitFrom book split masks
   kept-from fine sized = record { accepted = ap (λ (x : Fault). x .number) (sym kept-fault) ∙ fine; before = before; sized = sized; is = is }

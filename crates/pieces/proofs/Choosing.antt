@@ -134,3 +134,21 @@ choose-right v rules a q f =
       fitting = fitting;
       lower = λ j k. low .lower j (omega arith) k;
     })
+
+-- So a rule is found exactly where one fits.
+pub some-found : (v : View) (rules : List Rule) (a : ℕ) (q : Piece) → (lowest v rules a q < length rules) ↔ SomeFits v rules a q
+unfolding lowest
+some-found v rules a q = (
+  λ h.
+      let low : Least (taken v rules a q) 0 (length rules) (lowest v rules a q) = least-is (taken v rules a q) 0 (length rules) in
+      let r : Rule = getD rules (lowest v rules a q) noRule in
+      let (own, fitting) = taken-both v rules a q (lowest v rules a q) (low .accepted (omega arith)) in
+      record {
+        number = lowest v rules a q;
+        body = r .body;
+        below = h;
+        rule-is = λ z. record { head = eqb-true (r .head) a own z; body = r .body };
+        suits = fits-suits v q (r .body) .0 fitting;
+      },
+  lowest-below v rules a q,
+)

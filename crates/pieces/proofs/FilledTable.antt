@@ -68,7 +68,7 @@ module _ (b : Contents) (sound : Sound b) (p : Picture) (fire : Dir → ℕ → 
   n = p .cols
 
   -- one entry, from right entries of the parts
-  right-entry : (t : List ℕ) (q : Piece) → Inside m n q → 2 < q .height + q .width
+  pub right-entry : (t : List ℕ) (q : Piece) → Inside m n q → 2 < q .height + q .width
       → ((x : Piece) → Inside m n x → slotOf m n x < slotOf m n q → at m n t x ≡ entry b (cut p x)) → entryOf fire m n t q ≡ entry b (cut p q)
   unfolding cutsOf entry
   right-entry t q i large right =

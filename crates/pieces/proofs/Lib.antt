@@ -3,6 +3,10 @@ pub mod Stretches
 pub mod Slots
 pub mod PartsOfPieces
 pub mod NextPiece
+pub mod InOrder
+pub mod NextWith
+pub mod Refilled
+pub mod Passing
 pub mod CellsFirst
 pub mod PartSlots
 pub mod Courses
@@ -36,11 +40,16 @@ pub mod ComingApart
 pub mod PiecesAlike
 pub mod Endings
 pub mod Judging
+pub mod Ruled
+pub mod OneCell
 pub mod Lacking
 pub mod DerivationAnswers
 pub mod Deriving
 pub mod AskingAnswers
 pub mod AskingSheets
+pub mod Recolouring
+pub mod MadeAnew
+pub mod Recasting
 pub mod Tickets
 pub mod Demand1
 pub mod Demand2

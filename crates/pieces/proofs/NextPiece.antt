@@ -39,7 +39,7 @@ module _ (m n u v t l : ℕ) (h : l + 1 ≡ n - v) (k : t + 1 ≡ m - u) where
       let b : (m - u) * stretches n (v + 1) ≡ (m - u) * stretches n n = ap (λ (x : ℕ). (m - u) * stretches n x) j in
       omega (arith, passed, mul-zero (m - (u + 1)), zero-mul (n - 0))
 
-last : (m n : ℕ) → slotAt m n m 0 0 0 ≡ total m n
+pub last : (m n : ℕ) → slotAt m n m 0 0 0 ≡ total m n
 unfolding slotAt stretches
 last m n = omega (arith, total-stretches m n, mul-zero (m - m), zero-mul (n - 0))
 

@@ -72,7 +72,7 @@ module _ {book : List ℕ} {f : Family} {bytes : List ℕ} {g : Sheet} (read : A
 
     module _ (masks : List ℕ) (j : Joins) (serves : Serves (b .rules) masks j) where
       -- The painters of a cell's number are the motifs that derive the cell.
-      painted-entry : (r c : ℕ) → r < g .size .rows → c < g .size .cols → getD masks (paintersFrom + getD cells (r * g .size .cols + c) 0) 0 ≡ entry b (cut p (piece 1 1 r c))
+      pub painted-entry : (r c : ℕ) → r < g .size .rows → c < g .size .cols → getD masks (paintersFrom + getD cells (r * g .size .cols + c) 0) 0 ≡ entry b (cut p (piece 1 1 r c))
       painted-entry r c hr hc =
           ap (λ (k : ℕ). getD masks (paintersFrom + k) 0)
           (numbered .each (r * g .size .cols + c) (cell-before (g .size .rows) (g .size .cols) r c hr hc)

@@ -15,4 +15,5 @@ pub mod Rights
 pub mod Largest
 pub mod OnSheet
 pub mod Asking
+pub mod Recolour
 pub mod inner

@@ -12,3 +12,4 @@ pub mod Verdict
 pub mod TreeWrote
 pub mod Due
 pub mod Larger
+pub mod Refill

@@ -73,7 +73,7 @@ pub fn split_book(book: &[u8], masks: &mut [u32]) -> Split
 }
 
 // 0 where a motif has its bit at the whole sheet, and else 11.
-fn whole_sheet(work: &[u32], size: Size, motif: u8) -> u8
+pub(crate) fn whole_sheet(work: &[u32], size: Size, motif: u8) -> u8
     requires { ⌜ Tabled size (now work) ⌝ }
     ensures { λ r. ⌜ r ≡ startAnswer (size .rows) (size .cols) (now (work .entry)) motif ⌝ }
 {

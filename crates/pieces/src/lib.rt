@@ -10,5 +10,6 @@ pub mod masks;
 pub mod on_sheet;
 pub mod part;
 pub mod piece;
+pub mod recolour;
 mod table;
 mod tree;

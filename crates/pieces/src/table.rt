@@ -38,7 +38,14 @@ fn join_along(work: &[u32], masks: &[u32], count: usize, course: Course) -> u32
 }
 
 // The entry of a piece of more than one cell, from the entries of its parts.
-fn entry_of(work: &[u32], masks: &[u32], joins: Joins, size: Size, p: Piece, slot: usize) -> u32
+pub(crate) fn entry_of(
+    work: &[u32],
+    masks: &[u32],
+    joins: Joins,
+    size: Size,
+    p: Piece,
+    slot: usize,
+) -> u32
     requires { ⌜ TableDue size (now work) (length (now masks)) joins × Slotted (size .rows) (size .cols) p slot ⌝ }
     ensures { λ x. ⌜ x ≡ entryOf (joinsFired (now (masks .entry)) joins) (size .rows) (size .cols) (now (work .entry)) p ⌝ }
 {

@@ -5,8 +5,8 @@
 
 static uint64_t ask_combination(const struct engine *engine, const struct loan *loan)
 {
-    return combine(engine, (enum combination)loan->number, loan->in[0], loan->in_len[0], loan->in[1], loan->in_len[1],
-                   loan->out[0], loan->out_len[0]);
+    return combine(engine, (enum combination)loan->number[0], loan->in[0], loan->in_len[0], loan->in[1],
+                   loan->in_len[1], loan->out[0], loan->out_len[0]);
 }
 
 uint64_t compare_combination(enum combination combination, const struct bytes *first, const struct bytes *second,
@@ -17,7 +17,7 @@ uint64_t compare_combination(enum combination combination, const struct bytes *f
                                        .ask = ask_combination,
                                        .input = {all_of(first), all_of(takes_two(combination) ? second : NULL)},
                                        .output = {{out_len, 1}},
-                                       .number = combination});
+                                       .number = {combination}});
     if (made != NULL && dv_number(answer) == DV_ACCEPTED) {
         made->length = dv_count(answer);
         memcpy(made->at, held_after(0), made->length);

@@ -23,23 +23,24 @@ uint64_t compare_read_sheet(const struct bytes *sheet)
 
 static uint64_t ask_colour(const struct engine *engine, const struct loan *loan)
 {
-    return engine->colour(loan->in[0], loan->in_len[0], loan->number);
+    return engine->colour(loan->in[0], loan->in_len[0], loan->number[0]);
 }
 
 uint64_t compare_colour(const struct bytes *book, size_t number)
 {
     return shown_by_both(
-        (struct call){.name = "dv_colour", .ask = ask_colour, .input = {all_of(book)}, .number = number});
+        (struct call){.name = "dv_colour", .ask = ask_colour, .input = {all_of(book)}, .number = {number}});
 }
 
 static uint64_t ask_rule(const struct engine *engine, const struct loan *loan)
 {
-    return engine->rule(loan->in[0], loan->in_len[0], loan->number);
+    return engine->rule(loan->in[0], loan->in_len[0], loan->number[0]);
 }
 
 uint64_t compare_rule(const struct bytes *book, size_t number)
 {
-    return shown_by_both((struct call){.name = "dv_rule", .ask = ask_rule, .input = {all_of(book)}, .number = number});
+    return shown_by_both(
+        (struct call){.name = "dv_rule", .ask = ask_rule, .input = {all_of(book)}, .number = {number}});
 }
 
 static uint64_t ask_sheet_size(const struct engine *engine, const struct loan *loan)

@@ -26,6 +26,11 @@ static uint64_t why_not(void)
     return dv_why_not(slice[0].at, slice[0].length, slice[1].at, slice[1].length, (uint32_t *)(void *)slice[2].at,
                       slice[2].length);
 }
+static uint64_t recolour(void)
+{
+    return dv_recolour(slice[0].at, slice[0].length, slice[1].at, slice[1].length, (uint32_t *)(void *)slice[2].at,
+                       slice[2].length, 0, 0, 0);
+}
 static uint64_t run_report(void)
 {
     return dv_run_report(slice[0].at, slice[0].length, slice[1].at, slice[1].length, (uint32_t *)(void *)slice[2].at,
@@ -60,6 +65,7 @@ const struct call calls[] = {
     {"dv_check_tree", check_tree, {BOOK, SHEET, NODES}, {0}, ENDS_EARLY},
     {"dv_size_card", size_card, {BOOK}, {sizeof(uint32_t)}, ENDS_EARLY},
     {"dv_why_not", why_not, {BOOK, SHEET}, {sizeof(uint32_t)}, ENDS_EARLY},
+    {"dv_recolour", recolour, {BOOK}, {1, sizeof(uint32_t)}, ENDS_EARLY},
     {"dv_run_report", run_report, {BOOK, RUN}, {sizeof(uint32_t), sizeof(uint32_t)}, DV_OUT_SHORT},
     {"dv_either_of", either_of, {BOOK, BOOK}, {1}, ENDS_EARLY},
     {"dv_beside", beside, {BOOK, BOOK}, {1}, ENDS_EARLY},

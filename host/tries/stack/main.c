@@ -39,6 +39,10 @@ static void check_tree(void)
 }
 static void size_card(void) { answer = dv_size_card(book.at, book.length, card, DV_CARD_ENTRIES); }
 static void why_not(void) { answer = dv_why_not(book.at, book.length, sheet.at, sheet.length, work, DV_MOST_WORK); }
+static void recolour(void)
+{
+    answer = dv_recolour(book.at, book.length, sheet.at, sheet.length, work, DV_MOST_WORK, 0, 0, 0);
+}
 static void run_report(void)
 {
     answer = dv_run_report(book.at, book.length, run.at, run.length, work, DV_MOST_WORK, figures, DV_REPORT_ENTRIES);
@@ -84,6 +88,7 @@ static struct kind kinds[] = {
     {"dv_check_tree", check_tree, 0},
     {"dv_size_card", size_card, 0},
     {"dv_why_not", why_not, 0},
+    {"dv_recolour", recolour, 0},
     {"dv_run_report", run_report, 0},
     {"dv_tidy", tidy, 0},
 };

@@ -1,0 +1,1 @@
+-- Nothing of its own: what the call says is told in `pieces`.

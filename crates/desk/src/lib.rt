@@ -1,0 +1,21 @@
+// The call of the proofing desk for the C host. It stands apart from the calls of `pieces`, so that each archive has one loop over pieces, and the compiler
+// makes it as fast as it can be.
+use books::answer;
+use pieces::recolour::recolour;
+ghost use Rattle.pieces.specs.Recolour.{recolouring, RecoloursPacked};
+
+// Recolours one cell of a sheet, as `pieces::recolour::recolour` does.
+#[no_mangle]
+pub extern "C" fn dv_recolour(
+    book: &[u8],
+    sheet: &mut [u8],
+    work: &mut [u32],
+    row: usize,
+    column: usize,
+    colour: usize,
+) -> u64
+    ensures { λ r. ⌜ RecoloursPacked (recolouring (now (book .entry)) (now (sheet .entry)) (now (work .entry)) row column colour)
+        r (now (sheet .exit)) (now (work .exit)) ⌝ }
+{
+    answer::pack(recolour(book, sheet, work, row, column, colour), 0)
+}

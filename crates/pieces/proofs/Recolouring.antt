@@ -1,0 +1,118 @@
+-- A book and a sheet that were read: where one has a fault, or the sheet has not got the cell or the colour, or the slice is too short, that is the answer; and else the
+-- sheet and the slice are left with the cell recoloured.
+use Prim.Native.Nat.{ℕ, _≤_, _<_}
+use mathlib.Core.Path.{_≡_, refl}
+use mathlib.Core.Bool.{true, false}
+use mathlib.Core.List.{List}
+use mathlib.Core.Logic.{_⊎_, inl, inr}
+use native.Mathlib.Omega.{arith}
+use borrow.Author.Tests.{eq-eqb, ne-eqb, ltb-true, ltb-false, lt-ltb}
+use lib.Dec.{ltb}
+use lib.ListN.{length}
+use Rattle.names.proofs.Tests.{true-or-false, and-both, and-make}
+use Rattle.books.specs.Answer.{plain, blaming}
+use Rattle.books.specs.Book.{bookOf}
+use Rattle.books.specs.Lent.{contentsOf, pictureOf}
+use Rattle.books.specs.Sheet.{sheetOf, sheetFigures}
+use Rattle.books.specs.Size.{Within}
+use Rattle.books.specs.declared.sheet.SheetFigures.{SheetFigures}
+use Rattle.books.specs.declared.size.Size.{Size}
+use Rattle.books.proofs.ReadingSheets.{sheet-lies}
+use Rattle.books.proofs.SizesWithin.{within-more}
+use Rattle.pieces.specs.Derivation.{entriesNeeded}
+use Rattle.pieces.specs.Most.{most}
+use Rattle.pieces.specs.Recolour.{has?, sheetWith, untouched, recast, recolouring}
+use Rattle.pieces.specs.inner.Refill.{lackingFor}
+
+-- ── What the sheet has ──
+
+-- the sheet has the cell and the colour
+pub record Has (s : Size) (colours row column colour : ℕ) : Type 0 where
+  pub row-on : row < s .rows
+  pub column-on : column < s .cols
+  pub colour-in : colour < colours
+
+pub has-it : (s : Size) (colours row column colour : ℕ) → has? s colours row column colour ≡ true → Has s colours row column colour
+unfolding has?
+has-it s colours row column colour e =
+    let (x, u) = and-both _ _ e in
+    let (y, z) = and-both _ _ u in
+    record { row-on = ltb-true _ _ x; column-on = ltb-true _ _ y; colour-in = ltb-true _ _ z }
+
+pub it-has : (s : Size) (colours row column colour : ℕ) → Has s colours row column colour → has? s colours row column colour ≡ true
+unfolding has?
+it-has s colours row column colour h = and-make _ _ (lt-ltb _ _ (h .row-on)) (and-make _ _ (lt-ltb _ _ (h .column-on)) (lt-ltb _ _ (h .colour-in)))
+
+-- ── The order of the answers ──
+
+module _ (book sheet entries : List ℕ) (row column colour : ℕ) where
+  abbrev size : Size
+  size = sheetOf sheet .sheet .size
+
+  abbrev colours : ℕ
+  colours = sheetOf sheet .sheet .colours .count
+
+  abbrev lack : ℕ
+  lack = lackingFor size colours row column colour (length entries)
+
+  pub book-first : (bookOf book .fault .number ≡ 0 → ⊥) → recolouring book sheet entries row column colour ≡ untouched (blaming 1 (bookOf book .fault)) sheet entries
+  unfolding recolouring
+  book-first n = simp (ne-eqb (bookOf book .fault .number) 0 n)
+
+  module _ (book-fine : bookOf book .fault .number ≡ 0) where
+    pub sheet-second : (sheetOf sheet .fault .number ≡ 0 → ⊥) → recolouring book sheet entries row column colour ≡ untouched (blaming 2 (sheetOf sheet .fault)) sheet entries
+    unfolding recolouring
+    sheet-second n = simp (eq-eqb (bookOf book .fault .number) 0 book-fine, ne-eqb (sheetOf sheet .fault .number) 0 n)
+
+    module _ (sheet-fine : sheetOf sheet .fault .number ≡ 0) where
+      pub cell-third : has? size colours row column colour ≡ false → recolouring book sheet entries row column colour ≡ untouched (plain 19) sheet entries
+      unfolding recolouring
+      cell-third e = simp (eq-eqb (bookOf book .fault .number) 0 book-fine, eq-eqb (sheetOf sheet .fault .number) 0 sheet-fine, e)
+
+      module _ (has : has? size colours row column colour ≡ true) where
+        pub room-fourth : ltb (length entries) (entriesNeeded (pictureOf sheet)) ≡ true → recolouring book sheet entries row column colour ≡ untouched (plain 9) sheet entries
+        unfolding recolouring
+        room-fourth e = simp (eq-eqb (bookOf book .fault .number) 0 book-fine, eq-eqb (sheetOf sheet .fault .number) 0 sheet-fine, has, e)
+
+        pub recast-last : ltb (length entries) (entriesNeeded (pictureOf sheet)) ≡ false
+            → recolouring book sheet entries row column colour ≡ recast (contentsOf book) (sheetWith sheet row column colour) row column entries
+        unfolding recolouring
+        recast-last e = simp (eq-eqb (bookOf book .fault .number) 0 book-fine, eq-eqb (sheetOf sheet .fault .number) 0 sheet-fine, has, e)
+
+      -- what lacks is answered, ...
+      pub lack-told : (lack ≡ 0 → ⊥) → recolouring book sheet entries row column colour ≡ untouched (plain lack) sheet entries
+      unfolding lackingFor
+      lack-told some = go (true-or-false (has? size colours row column colour)) (true-or-false (ltb (length entries) (entriesNeeded (pictureOf sheet))))
+        where
+          go : (has? size colours row column colour ≡ true) ⊎ (has? size colours row column colour ≡ false)
+              → (ltb (length entries) (entriesNeeded (pictureOf sheet)) ≡ true) ⊎ (ltb (length entries) (entriesNeeded (pictureOf sheet)) ≡ false)
+              → recolouring book sheet entries row column colour ≡ untouched (plain lack) sheet entries
+          go (inr h) e = rw h (cell-third h)
+          go (inl h) (inl e) = rw (h, e) (room-fourth h e)
+          go (inl h) (inr e) = absurd (some (rw (h, e) refl))
+
+      -- ... and where nothing does, the sheet has the cell, and the slice is long enough
+      pub nothing-lacks : lack ≡ 0 → Has size colours row column colour × (entriesNeeded (pictureOf sheet) ≤ length entries)
+      unfolding lackingFor
+      nothing-lacks none = go (true-or-false (has? size colours row column colour)) (true-or-false (ltb (length entries) (entriesNeeded (pictureOf sheet))))
+        where
+          go : (has? size colours row column colour ≡ true) ⊎ (has? size colours row column colour ≡ false)
+              → (ltb (length entries) (entriesNeeded (pictureOf sheet)) ≡ true) ⊎ (ltb (length entries) (entriesNeeded (pictureOf sheet)) ≡ false)
+              → Has size colours row column colour × (entriesNeeded (pictureOf sheet) ≤ length entries)
+          go (inr h) e = let z : _≡_ {A = ℕ} 19 0 = rw h at none in absurd (omega arith)
+          go (inl h) (inl e) = let z : _≡_ {A = ℕ} 9 0 = rw (h, e) at none in absurd (omega arith)
+          go (inl h) (inr e) = (has-it size colours row column colour h, ltb-false _ _ e)
+
+-- ── The same by the figures that were read ──
+
+module _ (sheet : List ℕ) {g : SheetFigures} (is : g ≡ sheetFigures (sheetOf sheet)) where
+  pub read-within : g .fault .number ≡ 0 → Within most (g .size .rows) (g .size .cols)
+  read-within = rw is (λ fine. within-more (omega arith) (sheet-lies sheet fine .within))
+
+module _ (book sheet entries : List ℕ) (row column colour : ℕ) {g : SheetFigures} (is : g ≡ sheetFigures (sheetOf sheet)) (book-fine : bookOf book .fault .number ≡ 0) where
+  pub read-blamed : (g .fault .number ≡ 0 → ⊥) → recolouring book sheet entries row column colour ≡ untouched (blaming 2 (g .fault)) sheet entries
+  read-blamed = rw is (λ n. sheet-second book sheet entries row column colour book-fine n)
+
+  pub read-lacks : g .fault .number ≡ 0 → (lackingFor (g .size) (g .colours) row column colour (length entries) ≡ 0 → ⊥)
+      → recolouring book sheet entries row column colour ≡ untouched (plain (lackingFor (g .size) (g .colours) row column colour (length entries))) sheet entries
+  read-lacks = rw is (λ fine some. lack-told book sheet entries row column colour book-fine fine some)

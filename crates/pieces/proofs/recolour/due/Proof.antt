@@ -1,0 +1,20 @@
+-- One row and one column make a cell.
+use Prim.Native.Nat.{_+_}
+use borrow.Author.Tests.{eq-eqb, ne-eqb}
+use Rattle.pieces.specs.inner.Refill.{dueBy}
+use borrow.Author.Needs.{needs}
+use Rattle.pieces.proofs.recolour.due.Statement.{statement}
+use Rattle.pieces.proofs.recolour.due.Tie as tie
+
+returns : tie.Need-returns
+unfolding dueBy
+returns c = let p = c .before .before .before .before .args .p in rw (eq-eqb (p .height + p .width) 2 (c .if1 .taken))
+
+returns-2 : tie.Need-returns-2
+unfolding dueBy
+returns-2 c =
+    let p = c .before .before .before .before .before .args .p in
+    rw (ne-eqb (p .height + p .width) 2 (c .before .if1 .left)) (c .entry-of .ensures)
+
+pub due-spec : {M : Type 1} → statement M
+due-spec = tie.close (tie.spec (λ c. search needs) returns (λ c κs. search needs) returns-2)

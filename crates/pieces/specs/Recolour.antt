@@ -1,0 +1,125 @@
+-- One cell of a sheet recoloured: its byte is changed, and the entries of the pieces that have the cell are made anew, smaller pieces first, each from the
+-- entries of its parts as they then stand.
+use Prim.Native.Nat.{ℕ, _+_, _-_, _*_, _≤_, _<_}
+use mathlib.Core.Path.{_≡_}
+use mathlib.Core.Bool.{Bool}
+use mathlib.Core.List.{List, [], _∷_}
+use lib.Dec.{leb, ltb}
+use lib.ListN.{length, set}
+use Rattle.names.specs.Bits.{bits}
+use Rattle.names.specs.Pick.{pick, andThen}
+use Rattle.books.specs.Contents.{Contents}
+use Rattle.books.specs.Picture.{Picture}
+use Rattle.books.specs.Sheet.{sheetOf}
+use Rattle.books.specs.Lent.{pictureOf, lentBoth}
+use Rattle.books.specs.Answer.{plain, packed}
+use Rattle.books.specs.declared.answer.Answer.{Answer}
+use Rattle.books.specs.declared.rule.Rule.{Rule}
+use Rattle.books.specs.declared.size.Size.{Size}
+use Rattle.pieces.specs.declared.piece.Piece.{Piece}
+use Rattle.pieces.specs.Pieces.{pieces, slotOf}
+use Rattle.pieces.specs.View.{View, named}
+use Rattle.pieces.specs.Choice.{lowest}
+use Rattle.pieces.specs.Largest.{marked}
+use Rattle.pieces.specs.Derivation.{entriesNeeded}
+use Rattle.pieces.specs.Asking.{startAnswer}
+
+-- ── The cell ──
+
+-- a sheet of a size with so many colours has the row, the column and the colour
+unfoldable pub has? : Size → ℕ → ℕ → ℕ → ℕ → Bool
+has? s colours row column colour = andThen (ltb row (s .rows)) (λ _. andThen (ltb column (s .cols)) (λ _. ltb colour colours))
+
+-- a sheet ends with its cells, row by row, a byte each
+abbrev pub cellPlace : ℕ → Size → ℕ → ℕ → ℕ
+cellPlace long s row column = long - s .rows * s .cols + (row * s .cols + column)
+
+abbrev pub withCell : List ℕ → Size → ℕ → ℕ → ℕ → List ℕ
+withCell sheet s row column colour = set sheet (cellPlace (length sheet) s row column) colour
+
+-- the bytes of a sheet with the cell changed
+abbrev pub sheetWith : List ℕ → ℕ → ℕ → ℕ → List ℕ
+sheetWith sheet row column colour = withCell sheet (sheetOf sheet .sheet .size) row column colour
+
+-- a piece has the cell
+pub record HasCell (row column : ℕ) (q : Piece) : Type 0 where
+  pub from-top : q .top ≤ row
+  pub upto-bottom : row < q .top + q .height
+  pub from-left : q .left ≤ column
+  pub upto-right : column < q .left + q .width
+
+-- the test for that
+unfoldable pub spans? : ℕ → ℕ → ℕ → Bool
+spans? from long cell = andThen (leb from cell) (λ _. ltb cell (from + long))
+
+unfoldable pub hasCell? : ℕ → ℕ → Piece → Bool
+hasCell? row column q = andThen (spans? (q .top) (q .height) row) (λ _. spans? (q .left) (q .width) column)
+
+-- ── The entries ──
+
+-- what tells of a piece: the bits of a slice for its parts, and the picture for its cell
+abbrev pub viewOf : Contents → Picture → List ℕ → View
+viewOf b p t = named b p (marked (p .rows) (p .cols) t)
+
+-- some rule with head a fits a piece: a colour rule for the cell, or a join with a cut whose two parts have their bits
+unfoldable pub someFits? : View → List Rule → ℕ → Piece → Bool
+someFits? v rules a q = ltb (lowest v rules a q) (length rules)
+
+-- the motifs with such a rule
+unfoldable pub ruled : Contents → Picture → List ℕ → Piece → ℕ
+ruled b p t q = bits (b .motifs) (λ a. someFits? (viewOf b p t) (b .rules) a q)
+
+-- of these pieces those that are chosen get the entries due to them, one after the other
+unfoldable pub refilledFrom : (List ℕ → Piece → ℕ) → ℕ → ℕ → (Piece → Bool) → List Piece → List ℕ → List ℕ
+refilledFrom due m n chosen [] t = t
+refilledFrom due m n chosen (q ∷ qs) t = refilledFrom due m n chosen qs (pick (chosen q) (set t (slotOf m n q) (due t q)) t)
+
+-- the pieces that have the cell, in the order of the table: the parts of a piece stand before it
+unfoldable pub refilled : (List ℕ → Piece → ℕ) → ℕ → ℕ → ℕ → ℕ → List ℕ → List ℕ
+refilled due m n row column t = refilledFrom due m n (hasCell? row column) (pieces m n) t
+
+-- ── The outcome ──
+
+-- the answer, the bytes of the sheet, and what stands in the work slice
+pub record Recolouring : Type 0 where
+  pub answer : Answer
+  pub bytes : List ℕ
+  pub entries : List ℕ
+
+-- an answer that leaves both as they are
+abbrev pub untouched : Answer → List ℕ → List ℕ → Recolouring
+untouched a sheet entries = record { answer = a; bytes = sheet; entries = entries }
+
+-- 0 where the start motif has its bit at the whole sheet, and else 11
+abbrev pub judgedSheet : Contents → Picture → List ℕ → List ℕ → Recolouring
+judgedSheet b p sheet entries = record { answer = plain (startAnswer (p .rows) (p .cols) entries (b .start)); bytes = sheet; entries = entries }
+
+-- with the byte changed, the entries are made anew by what the sheet then shows
+unfoldable pub recast : Contents → List ℕ → ℕ → ℕ → List ℕ → Recolouring
+recast b sheet row column entries =
+    let p = pictureOf sheet in
+    judgedSheet b p sheet (refilled (ruled b p) (p .rows) (p .cols) row column entries)
+
+-- the book's fault, then the sheet's; 19 where the sheet has not got the row, the column or the colour; 9 where the work slice is too short: on these
+-- nothing is written
+unfoldable pub recolouring : List ℕ → List ℕ → List ℕ → ℕ → ℕ → ℕ → Recolouring
+recolouring book sheet entries row column colour =
+    let g = sheetOf sheet .sheet in
+    lentBoth book sheet (λ a. untouched a sheet entries) (λ b p.
+    pick (has? (g .size) (g .colours .count) row column colour)
+    (pick (ltb (length entries) (entriesNeeded p)) (untouched (plain 9) sheet entries)
+    (recast b (sheetWith sheet row column colour) row column entries))
+    (untouched (plain 19) sheet entries))
+
+-- what a caller is told of the answer, and the sheet and the work slice as the call leaves them, are those of a recolouring
+pub record LeftBy {A : Type 0} (told : Answer → A) (d : Recolouring) (r : A) (sheet work : List ℕ) : Type 0 where
+  pub answers : r ≡ told (d .answer)
+  pub leaves-sheet : sheet ≡ d .bytes
+  pub leaves-work : work ≡ d .entries
+
+abbrev pub Recolours : Recolouring → Answer → List ℕ → List ℕ → Type 0
+Recolours d r sheet work = LeftBy (λ a. a) d r sheet work
+
+-- packed into one number for the C host, with 0 for the count
+abbrev pub RecoloursPacked : Recolouring → ℕ → List ℕ → List ℕ → Type 0
+RecoloursPacked d r sheet work = LeftBy (λ a. packed a 0) d r sheet work
