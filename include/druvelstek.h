@@ -2,9 +2,9 @@
 //
 // A book is one family of layouts and a sheet is a grid of colours with its job ticket, both spelt byte by byte as
 // docs/RULES.md says. The library tells whether the family derives the sheet, and why not where it does not, gives the
-// table of pieces and one derivation, judges derivations that others chose, tells which sizes the family has, reports
-// on a whole run of sheets, looks up names, rules, sizes and tickets, and makes new books of lent ones. Each call is
-// proved to keep what its comment says, on every input.
+// table of pieces and one derivation, judges derivations that others chose, decides small sheets by a second engine for
+// the bench, tells which sizes the family has, reports on a whole run of sheets, looks up names, rules, sizes and
+// tickets, and makes new books of lent ones. Each call is proved to keep what its comment says, on every input.
 //
 // Nothing in the bytes tells a book from a sheet, and some are both: 2, 1 "a", 1 "b", 4, 3, 1, 0, 0, 0 is a book of
 // four motifs with one rule, and a sheet of three rows and one column for job 4. A caller keeps apart which file is
@@ -39,7 +39,7 @@ extern "C" {
 
 // The version of rules and calls that this header describes, and the call that tells the archive's. A host compares the
 // two before any other call, so that a header and an archive of two versions are noticed.
-#define DV_VERSION 11
+#define DV_VERSION 12
 uint64_t dv_version(void);
 
 // The greatest sizes.
@@ -69,6 +69,9 @@ struct dv_node {
 
 // Nodes of a tree of the largest sheet. More may be lent; none is looked at past one more than the sheet's tree has.
 #define DV_MOST_NODES 287
+
+// The most cells of a sheet that dv_plain takes.
+#define DV_MOST_PLAIN_CELLS 16
 
 // Entries of a size card.
 #define DV_CARD_ENTRIES 12
@@ -132,7 +135,8 @@ enum dv_answer_number {
     DV_NOT_A_TREE = 16,     // the lent nodes are no derivation of the sheet; place: the first node that fails, from 0
     DV_NOT_REWRITTEN = 17,  // the start motif of a book to be tidied cannot be rewritten to colours, sizes forgotten
     DV_RULE_TWICE = 18,     // an equal rule stood earlier in the book; place: first byte of the later rule
-    DV_NO_SUCH_CELL = 19    // the sheet has no such row, no such column or no colour of this number
+    DV_NO_SUCH_CELL = 19,   // the sheet has no such row, no such column or no colour of this number
+    DV_TOO_MANY_CELLS = 20  // the sheet has more cells than the plain engine takes
 };
 
 // A fixed text for each answer number, in English, to stand after what it is said of, as in "the sheet: not in the
@@ -178,6 +182,8 @@ static inline const char *dv_text(unsigned number)
         return "a rule stands twice: dv_tidy makes a book without it";
     case DV_NO_SUCH_CELL:
         return "it has no such row, column or colour";
+    case DV_TOO_MANY_CELLS:
+        return "more cells than the plain engine takes";
     default:
         return "no answer has this number";
     }
@@ -258,6 +264,17 @@ uint64_t dv_derive(const uint8_t *book, size_t book_len, const uint8_t *sheet, s
 // have, and where nodes are left over the number of those that were read.
 uint64_t dv_check_tree(const uint8_t *book, size_t book_len, const uint8_t *sheet, size_t sheet_len,
                        const struct dv_node *nodes, size_t nodes_len);
+
+// Decides whether the family derives the sheet by a second engine, to test a RIP build on the bench: with no table and
+// no slice to work in, it tries every rule that has the motif for its head and every cut, and asks the same of the two
+// parts. It shares no code with dv_derive beyond the reading. Answers, in this order: 1 to 8 or 18 blaming 1, the book;
+// 1 to 8 blaming 2, the sheet; 20 where the sheet has more than DV_MOST_PLAIN_CELLS cells; 11; 0. Where it does not
+// answer 20, its whole answer is that of dv_derive with slices long enough. No slice is written.
+//
+// Every call ends, but nothing is kept of what was asked before, and the time grows with the ways in which the sheet
+// comes apart: with many rules under one head 16 cells can take longer than anyone waits. docs/SPEED.md has how it
+// grows. It asks at most rows + columns - 1 deep, so that DV_ENOUGH_STACK is enough for it too. Not for the press.
+uint64_t dv_plain(const uint8_t *book, size_t book_len, const uint8_t *sheet, size_t sheet_len);
 
 // Writes the family's size card, for order entry: bit c-1 of entry r-1 is set exactly when the family has some sheet of
 // r rows and c columns, in any of its colours; other bits are clear. Answers, in this order: 1 to 8 or 18 blaming 1;
@@ -439,6 +456,12 @@ static inline uint64_t dv_checked_check_tree(const uint8_t *book, size_t book_le
     return dv_check_tree(book, book_len, sheet, sheet_len, nodes, nodes_len);
 }
 
+static inline uint64_t dv_checked_plain(const uint8_t *book, size_t book_len, const uint8_t *sheet, size_t sheet_len)
+{
+    assert(dv_is_lent(book, book_len, 1) && dv_is_lent(sheet, sheet_len, 1));
+    return dv_plain(book, book_len, sheet, sheet_len);
+}
+
 static inline uint64_t dv_checked_size_card(const uint8_t *book, size_t book_len, uint32_t *card, size_t card_len)
 {
     assert(dv_is_lent(book, book_len, 1) && dv_is_lent(card, card_len, sizeof *card));
@@ -515,6 +538,7 @@ DV_CHECKED_OF_ONE(tidy)
 #define dv_sheet_size dv_checked_sheet_size
 #define dv_derive dv_checked_derive
 #define dv_check_tree dv_checked_check_tree
+#define dv_plain dv_checked_plain
 #define dv_size_card dv_checked_size_card
 #define dv_why_not dv_checked_why_not
 #define dv_recolour dv_checked_recolour

@@ -26,6 +26,7 @@ uint64_t compare_sheet_size(const struct bytes *sheet);
 uint64_t compare_derive(const struct bytes *book, const struct bytes *sheet, size_t work_len, size_t tree_len);
 uint64_t compare_check_tree(const struct bytes *book, const struct bytes *sheet, const struct dv_node *nodes,
                             size_t count);
+uint64_t compare_plain(const struct bytes *book, const struct bytes *sheet);
 // The card is put into card, where that is not null and the answer is 0.
 uint64_t compare_size_card(const struct bytes *book, size_t card_len, uint32_t card[DV_CARD_ENTRIES]);
 // The sheet and the work slice hold before the call what they are given with, and after it what both engines left.

@@ -2,6 +2,7 @@
 #include "../shared/chance.h"
 #include "../shared/damage.h"
 #include "../shared/grow.h"
+#include "../shared/soon.h"
 #include "compare.h"
 
 static void compare_some_tree(const struct bytes *book, const struct bytes *sheet)
@@ -21,6 +22,8 @@ static void compare_as_book(const struct bytes *book, const struct bytes *sheet,
     compare_size_card(book, one_in(4) ? 0 : DV_CARD_ENTRIES, NULL);
     compare_why_not(book, sheet, one_in(4) ? 0 : ROOMY_WORK);
     compare_some_tree(book, sheet);
+    if (soon_searched(book, sheet))
+        compare_plain(book, sheet);
     compare_tidy(book, one_in(4) ? 0 : ROOMY_OUT, NULL);
     enum combination combination = (enum combination)chance_below(COMBINATIONS);
     if (one_in(2))
@@ -36,6 +39,8 @@ static void compare_as_sheet(const struct bytes *book, const struct bytes *sheet
     compare_derive(book, sheet, one_in(4) ? 0 : ROOMY_WORK, one_in(4) ? 0 : ROOMY_TREE);
     compare_why_not(book, sheet, one_in(4) ? 0 : ROOMY_WORK);
     compare_some_tree(book, sheet);
+    if (soon_searched(book, sheet))
+        compare_plain(book, sheet);
 }
 
 // Every byte as every other, every beginning, every byte dropped or doubled, and bytes that follow the end.

@@ -164,6 +164,24 @@ static void expect_trees(void)
     expect(check_tree(nodes, 11) == (16 | 4 << 12), "a cut that leaves a part empty");
 }
 
+static uint64_t plain(const struct bytes *sheet)
+{
+    return judged->plain(house.at, house.length, sheet->at, sheet->length);
+}
+
+// 16 cells are taken, and more are not, but for a sheet that is refused.
+static void expect_plain(void)
+{
+    static const struct bytes sixteen = BYTES(SLATES, 0, 2, 8, 0, 0, 0, 0, 0, 0, 0, 0, 1, 1, 1, 1, 1, 1, 1, 1);
+    static const struct bytes square = BYTES(SLATES, 0, 4, 4, 0, 0, 0, 0, 0, 0, 0, 0, 1, 1, 1, 1, 1, 1, 1, 1);
+    static const struct bytes eighteen = BYTES(SLATES, 0, 2, 9, 0, 0, 0, 0, 0, 0, 0, 0, 0, 1, 1, 1, 1, 1, 1, 1, 1, 1);
+    static const struct bytes wide = BYTES(SLATES, 0, 1, 17, 0, 0, 0, 0, 0, 0, 0, 0, 0, 0, 0, 0, 0, 0, 0, 0, 0);
+    expect(plain(&sheet_a) == 0 && plain(&sixteen) == 0, "sheet A and 2 by 8 are in the family");
+    expect(plain(&square) == 11, "4 by 4 is not");
+    expect(plain(&eighteen) == 20, "18 cells are too many");
+    expect(plain(&wide) == (3 | 2 << 8 | 19 << 12), "17 columns are too many");
+}
+
 // A book of 32 motifs, each of them two of the next, and the last a cell; its rules from the last to the first, so that
 // the motifs are reached one by one.
 static const struct bytes chain = BYTES(
@@ -221,6 +239,7 @@ KIND(house)
         expect_reasons();
         expect_report();
         expect_trees();
+        expect_plain();
         expect_tidy();
         expect_lookups();
     }

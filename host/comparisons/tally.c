@@ -1,12 +1,13 @@
 #include "tally.h"
 
+#include <stdbool.h>
 #include <stdio.h>
 #include <stdlib.h>
 
 #include "../shared/chance.h"
 #include "call.h"
 
-enum { ENOUGH = 50, LAST_ANSWER = DV_NO_SUCH_CELL };
+enum { ENOUGH = 50, LAST_ANSWER = DV_TOO_MANY_CELLS };
 
 static const char *kind;
 static uint64_t seed_of_run;

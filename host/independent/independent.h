@@ -20,6 +20,8 @@ struct dv_node;
 uint64_t independent_check_tree(const uint8_t *book, size_t book_len, const uint8_t *sheet, size_t sheet_len,
                                 const struct dv_node *nodes, size_t nodes_len);
 
+uint64_t independent_plain(const uint8_t *book, size_t book_len, const uint8_t *sheet, size_t sheet_len);
+
 uint64_t independent_size_card(const uint8_t *book, size_t book_len, uint32_t *card, size_t card_len);
 
 uint64_t independent_why_not(const uint8_t *book, size_t book_len, const uint8_t *sheet, size_t sheet_len,

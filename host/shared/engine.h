@@ -21,6 +21,7 @@ struct engine {
                        size_t work_len, uint16_t *tree, size_t tree_len);
     uint64_t (*check_tree)(const uint8_t *book, size_t book_len, const uint8_t *sheet, size_t sheet_len,
                            const struct dv_node *nodes, size_t nodes_len);
+    uint64_t (*plain)(const uint8_t *book, size_t book_len, const uint8_t *sheet, size_t sheet_len);
     uint64_t (*size_card)(const uint8_t *book, size_t book_len, uint32_t *card, size_t card_len);
     uint64_t (*why_not)(const uint8_t *book, size_t book_len, const uint8_t *sheet, size_t sheet_len, uint32_t *work,
                         size_t work_len);

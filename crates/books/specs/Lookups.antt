@@ -56,4 +56,4 @@ sizeShown s = packedSize (sizeOf s)
 
 -- how many of the customer's requests have landed
 abbrev pub version : ℕ
-version = 11
+version = 12

@@ -67,5 +67,5 @@ pub extern "C" fn dv_sheet_size(sheet: &[u8]) -> u64
 pub extern "C" fn dv_version() -> u64
     ensures { λ r. ⌜ r ≡ version ⌝ }
 {
-    11
+    12
 }

@@ -2,6 +2,7 @@
 use crate::asking;
 use crate::cards;
 use crate::combining;
+use crate::engines;
 use crate::judging;
 use crate::lent;
 use crate::lines;
@@ -19,6 +20,8 @@ fn call(letter: u8, first: &[u8], second: &[u8], work: &mut [u32], number: usize
         b'c' => cards::card(first, work, number),
         b'w' => why::why_not(first, second, work),
         b'r' => reports::run(first, second, work),
+        b'u' => engines::plain(first, second),
+        b'a' => engines::both(first, second, work, number),
         _ => reading::read(letter, first, second),
     }
 }

@@ -27,7 +27,7 @@ pub(crate) fn room(said: usize, all: usize) -> usize
     all
 }
 
-fn one_if(test: bool) -> usize
+pub(crate) fn one_if(test: bool) -> usize
     ensures { λ r. ⌜ r ≤ 1 ⌝ }
 {
     if test { 1 } else { 0 }

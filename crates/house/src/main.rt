@@ -5,6 +5,7 @@ use libc::STDIN_FILENO;
 mod asking;
 mod cards;
 mod combining;
+mod engines;
 mod judging;
 mod kinds;
 mod lent;

@@ -3,7 +3,7 @@ use crate::lent;
 use crate::lines;
 
 // One byte more, where there is room; and the place after it.
-fn put(out: &mut [u8], at: usize, byte: u8) -> usize {
+pub(crate) fn put(out: &mut [u8], at: usize, byte: u8) -> usize {
     if at < out.len() {
         out[at] = byte;
         return at + 1;
@@ -20,7 +20,7 @@ fn fill(out: &mut [u8], at: usize, times: usize, byte: u8) -> usize {
     end
 }
 
-fn copy(out: &mut [u8], at: usize, bytes: &[u8]) -> usize {
+pub(crate) fn copy(out: &mut [u8], at: usize, bytes: &[u8]) -> usize {
     let mut end = at;
     for i in 0..bytes.len() {
         end = put(out, end, bytes[i]);

@@ -1,7 +1,7 @@
 -- A piece of a sheet and the picture that is cut out by it are alike, where each cell has its colour's number in the book: the parts of the one are the pieces of the
 -- other's parts. A book and a sheet that are accepted give such numbers.
 use Prim.Native.Nat.{ℕ, _+_, _*_, _≤_, _<_}
-use mathlib.Core.Path.{_≡_, refl, sym, ap, ap₂, _∙_}
+use mathlib.Core.Path.{_≡_, sym, ap, ap₂, _∙_}
 use mathlib.Core.Bool.{true}
 use mathlib.Core.List.{List}
 use mathlib.Core.Logic.{_↔_}

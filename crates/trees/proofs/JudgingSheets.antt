@@ -10,7 +10,7 @@ use Rattle.books.specs.declared.rule.Dir.{Dir}
 use Rattle.books.specs.declared.rule.Rule.{Rule}
 use Rattle.books.specs.declared.size.Size.{Size}
 use Rattle.pieces.specs.OnSheet.{two, partsOn, onSheet}
-use Rattle.pieces.specs.Parts.{reach, firstPart, restPart}
+use Rattle.pieces.specs.Parts.{firstPart, restPart}
 use Rattle.pieces.specs.Pieces.{Inside}
 use Rattle.pieces.specs.declared.part.Part.{Part}
 use Rattle.pieces.specs.declared.piece.Piece.{Piece}

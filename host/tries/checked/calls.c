@@ -17,6 +17,7 @@ static uint64_t check_tree(void)
     return dv_check_tree(slice[0].at, slice[0].length, slice[1].at, slice[1].length,
                          (struct dv_node *)(void *)slice[2].at, slice[2].length / 2);
 }
+static uint64_t plain(void) { return dv_plain(slice[0].at, slice[0].length, slice[1].at, slice[1].length); }
 static uint64_t size_card(void)
 {
     return dv_size_card(slice[0].at, slice[0].length, (uint32_t *)(void *)slice[1].at, slice[1].length);
@@ -63,6 +64,7 @@ const struct call calls[] = {
     {"dv_sheet_size", sheet_size, {SHEET}, {0}, 0},
     {"dv_derive", derive, {BOOK, SHEET}, {sizeof(uint32_t), sizeof(uint16_t)}, ENDS_EARLY},
     {"dv_check_tree", check_tree, {BOOK, SHEET, NODES}, {0}, ENDS_EARLY},
+    {"dv_plain", plain, {BOOK, SHEET}, {0}, ENDS_EARLY},
     {"dv_size_card", size_card, {BOOK}, {sizeof(uint32_t)}, ENDS_EARLY},
     {"dv_why_not", why_not, {BOOK, SHEET}, {sizeof(uint32_t)}, ENDS_EARLY},
     {"dv_recolour", recolour, {BOOK}, {1, sizeof(uint32_t)}, ENDS_EARLY},

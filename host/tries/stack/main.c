@@ -10,6 +10,7 @@
 #include "../../shared/engine.h"
 #include "../../shared/grow.h"
 #include "../../shared/nodes.h"
+#include "../../shared/soon.h"
 
 enum { ROOM = 1 << 18, PAINT = 0xa5, MARGIN = 8192, BY_CHANCE = 60 };
 
@@ -36,6 +37,10 @@ static void derive(void)
 static void check_tree(void)
 {
     answer = dv_check_tree(book.at, book.length, sheet.at, sheet.length, nodes, DV_MOST_NODES);
+}
+static void plain(void)
+{
+    answer = soon_searched(&book, &sheet) ? dv_plain(book.at, book.length, sheet.at, sheet.length) : 0;
 }
 static void size_card(void) { answer = dv_size_card(book.at, book.length, card, DV_CARD_ENTRIES); }
 static void why_not(void) { answer = dv_why_not(book.at, book.length, sheet.at, sheet.length, work, DV_MOST_WORK); }
@@ -86,6 +91,7 @@ static struct kind kinds[] = {
     {"dv_sheet_size", sheet_size, 0},
     {"dv_derive", derive, 0},
     {"dv_check_tree", check_tree, 0},
+    {"dv_plain", plain, 0},
     {"dv_size_card", size_card, 0},
     {"dv_why_not", why_not, 0},
     {"dv_recolour", recolour, 0},
@@ -147,6 +153,24 @@ static void measure_deepest(bool long_first)
     }
 }
 
+// A sheet of one row that the plain engine takes apart cell by cell: as deep as it goes.
+static void measure_deepest_plain(void)
+{
+    struct family family = {.motifs = 1, .start = 0};
+    struct grid grid = {.rows = 1, .columns = DV_MOST_COLUMNS};
+    add_ink(&family.palette, "Slate C");
+    grid.palette = family.palette;
+    add_rule(&family, 0, DV_KIND_ACROSS, 0, 0);
+    add_rule(&family, 0, DV_KIND_COLOUR, 0, 0);
+    spell_all(&family, &family, &grid);
+    measure();
+    plain();
+    if (answer != 0) {
+        fprintf(stderr, "stack: the plain engine has not gone through the row\n");
+        exit(1);
+    }
+}
+
 // The most colours, motifs and rules, and one that all combinations take.
 static void measure_largest(void)
 {
@@ -183,6 +207,7 @@ int main(void)
     chance_seed(1);
     measure_deepest(false);
     measure_deepest(true);
+    measure_deepest_plain();
     measure_largest();
     measure_by_chance();
     for (size_t i = 0; i < sizeof kinds / sizeof *kinds; i++)

@@ -1,0 +1,62 @@
+-- For each pair that the plain engine takes, its answer is that of a derivation with room enough: both begin with the same faults, and both say whether the family has the sheet.
+use Prim.Native.Nat.{ℕ, _%_, _^_}
+use mathlib.Core.Path.{_≡_, refl, sym, ap, _∙_}
+use mathlib.Core.List.{List}
+use native.Mathlib.Omega.{arith}
+use Rattle.books.specs.Answer.{plain, packed}
+use Rattle.books.specs.Book.{bookOf}
+use Rattle.books.specs.Derives.{Member}
+use Rattle.books.specs.Lent.{contentsOf, pictureOf, Accepted}
+use Rattle.books.specs.Sheet.{sheetOf}
+use Rattle.books.specs.declared.answer.Answer.{Answer}
+use Rattle.books.proofs.LentEnds.{blamed-is}
+use Rattle.books.proofs.Packing.{apart}
+use Rattle.pieces.specs.Derivation.{Derivation, Roomy, derivation, Leaves, LeavesPacked}
+use Rattle.pieces.proofs.DerivationAnswers.{book-first, sheet-second}
+use Rattle.pieces.proofs.Endings.{derivation-ends}
+use Rattle.plain.specs.Outcome.{plainAnswer}
+use Rattle.plain.proofs.Demand1.{plain-answer-packs}
+use Rattle.plain.proofs.Endings.{plain-ends}
+
+module _ (book sheet entries numbers : List ℕ) (room : Roomy (pictureOf sheet) entries numbers) where
+  abbrev d : Derivation
+  d = derivation book sheet entries numbers
+
+  abbrev Has : Type 0
+  Has = Member (contentsOf book) (pictureOf sheet)
+
+  -- with room enough a derivation of an accepted pair says whether the family has the sheet
+  says : Accepted book sheet → (a : Answer) → ((Has → ⊥) → a ≡ plain 11) → (Has → a ≡ plain 0) → a ≡ d .answer
+  says fine a none some =
+      derivation-ends book sheet entries numbers (λ (x : Derivation). a ≡ x .answer)
+      (record {
+        in-book = λ n. absurd (n (fine .book-fine));
+        in-sheet = λ z n. absurd (n (fine .sheet-fine));
+        short-work = λ _ short. absurd (omega (arith, room .work-long));
+        short-tree = λ _ _ short. absurd (omega (arith, room .tree-long));
+        declined = λ _ _ x. none x;
+        derived = λ _ _ x _ _. some x;
+      })
+
+  pub as-derived : (plainAnswer book sheet .number ≡ 20 → ⊥) → plainAnswer book sheet ≡ d .answer
+  as-derived =
+      plain-ends book sheet (λ (a : Answer). (a .number ≡ 20 → ⊥) → a ≡ d .answer)
+      (record {
+        in-book = λ n _. sym (ap (λ (x : Derivation). x .answer) (book-first book sheet entries numbers n) ∙ blamed-is 1 (bookOf book .fault) n);
+        in-sheet = λ z n _. sym (ap (λ (x : Derivation). x .answer) (sheet-second book sheet entries numbers z n) ∙ blamed-is 2 (sheetOf sheet .fault) n);
+        too-many = λ _ _ taken. absurd (taken refl);
+        declined = λ fine _ none _. says fine (plain 11) (λ _. refl) (λ has. absurd (none has));
+        derived = λ fine _ has _. says fine (plain 0) (λ none. absurd (none has)) (λ _. refl);
+      })
+
+  -- ── The theorems ──
+
+  -- the two engines answer alike, number, blamed input and place, ...
+  pub plain-as-derive : {a r : Answer} {w t : List ℕ} → a ≡ plainAnswer book sheet → Leaves d r w t → (a .number ≡ 20 → ⊥) → a ≡ r
+  plain-as-derive e left taken = e ∙ as-derived (λ h. taken (ap (λ (x : Answer). x .number) e ∙ h)) ∙ sym (left .answers)
+
+  -- ... and give the C host the same number
+  pub dv-plain-as-dv-derive : {a r : ℕ} {w t : List ℕ} → a ≡ packed (plainAnswer book sheet) 0 → LeavesPacked d r w t → (a % 2 ^ 8 ≡ 20 → ⊥) → a ≡ r
+  dv-plain-as-dv-derive e left taken =
+      let number = apart (plainAnswer book sheet) 0 (plain-answer-packs book sheet) .number-is in
+      e ∙ ap (λ (x : Answer). packed x 0) (as-derived (λ h. taken (ap (λ (n : ℕ). n % 2 ^ 8) e ∙ number ∙ h))) ∙ sym (left .answers)

@@ -1,0 +1,49 @@
+-- The five ways in which the call ends: what holds of each holds of every call.
+use Prim.Native.Nat.{ℕ, _≤_, _<_}
+use mathlib.Core.Path.{_≡_}
+use mathlib.Core.List.{List}
+use borrow.Author.Tests.{ltb-true, ltb-false}
+use lib.Dec.{ltb}
+use Rattle.names.proofs.Picking.{pick-ind}
+use Rattle.books.specs.Answer.{answer, plain}
+use Rattle.books.specs.Book.{bookOf}
+use Rattle.books.specs.Contents.{Contents}
+use Rattle.books.specs.Decide.{derives?}
+use Rattle.books.specs.Derives.{Member}
+use Rattle.books.specs.Lent.{contentsOf, pictureOf, Accepted}
+use Rattle.books.specs.Picture.{Picture}
+use Rattle.books.specs.Sheet.{sheetOf}
+use Rattle.books.specs.declared.answer.Answer.{Answer}
+use Rattle.books.proofs.Deciding.{decided, refused}
+use Rattle.books.proofs.LentEnds.{both-end}
+use Rattle.plain.specs.Outcome.{mostCells, cells, searched, plainAnswer}
+
+module _ (book sheet : List ℕ) where
+  abbrev b : Contents
+  b = contentsOf book
+
+  abbrev p : Picture
+  p = pictureOf sheet
+
+  pub record Cases (P : Answer → Type 0) : Type 0 where
+    pub in-book : (bookOf book .fault .number ≡ 0 → ⊥) → P (answer (bookOf book .fault .number) 1 (bookOf book .fault .place))
+    pub in-sheet : bookOf book .fault .number ≡ 0 → (sheetOf sheet .fault .number ≡ 0 → ⊥) → P (answer (sheetOf sheet .fault .number) 2 (sheetOf sheet .fault .place))
+    pub too-many : Accepted book sheet → mostCells < cells p → P (plain 20)
+    pub declined : Accepted book sheet → cells p ≤ mostCells → (Member b p → ⊥) → P (plain 11)
+    pub derived : Accepted book sheet → cells p ≤ mostCells → Member b p → P (plain 0)
+
+  module _ (P : Answer → Type 0) (cases : Cases P) where
+    by-searching : Accepted book sheet → P (searched b p)
+    unfolding searched
+    by-searching fine =
+        pick-ind P (ltb mostCells (cells p)) _ _
+        (λ e. cases .too-many fine (ltb-true _ _ e))
+        (λ e. let few = ltb-false mostCells (cells p) e in
+        pick-ind P (derives? b (b .start) p) _ _
+        (λ d. cases .derived fine few (decided b (b .start) p .0 d))
+        (λ d. cases .declined fine few (refused b (b .start) p .0 d)))
+
+    pub plain-ends : P (plainAnswer book sheet)
+    unfolding plainAnswer
+    plain-ends =
+        both-end P (λ a. a) book sheet searched (record { in-book = cases .in-book; in-sheet = cases .in-sheet; in-neither = by-searching })
