@@ -24,14 +24,14 @@ derived entries numbers f b e g =
     (pick (eqb (e .number) 0) (roomed b (picture g) entries numbers) (leaving (blaming 2 e) entries numbers))
     (leaving (blaming 1 f) entries numbers)
 
-derived-so : (book sheet entries numbers : List ℕ) → derivation book sheet entries numbers
-    ≡ derived entries numbers (bookOf book .fault) (contentsOf book) (sheetOf sheet .fault) (gridIn sheet (sheetOf sheet .sheet))
+derived-so : (press : ℕ) (book sheet entries numbers : List ℕ) → derivation press book sheet entries numbers
+    ≡ derived entries numbers (bookOf book .fault) (contentsOf book) (sheetOf press sheet .fault) (gridIn sheet (sheetOf press sheet .sheet))
 unfolding derivation derived
-derived-so book sheet entries numbers = refl
+derived-so press book sheet entries numbers = refl
 
-pub buffers-enough : (book sheet entries numbers : List ℕ) (n m : ℕ) → 8192 ≤ n → 8192 ≤ m
-    → derivation (take n book) (take m sheet) entries numbers ≡ derivation book sheet entries numbers
-buffers-enough book sheet entries numbers n m hn hm =
-    let b = enough book n hn in
-    let s = enough sheet m hm in
-    rw (derived-so (take n book) (take m sheet) entries numbers, derived-so book sheet entries numbers, b .book-fault, b .book-contents, s .sheet-fault, s .sheet-grid)
+pub buffers-enough : (press : ℕ) (book sheet entries numbers : List ℕ) (n m : ℕ) → 8192 ≤ n → 8192 ≤ m
+    → derivation press (take n book) (take m sheet) entries numbers ≡ derivation press book sheet entries numbers
+buffers-enough press book sheet entries numbers n m hn hm =
+    let b = enough press book n hn in
+    let s = enough press sheet m hm in
+    rw (derived-so press (take n book) (take m sheet) entries numbers, derived-so press book sheet entries numbers, b .book-fault, b .book-contents, s .sheet-fault, s .sheet-grid)

@@ -13,15 +13,16 @@ use Rattle.names.specs.declared.number.Fault.{Fault}
 use Rattle.names.proofs.Picking.{pick-ind}
 use Rattle.books.specs.Contents.{Contents}
 use Rattle.books.specs.Lent.{contentsOf, pictureOf}
+use Rattle.books.specs.Press.{greatestOf}
 use Rattle.books.specs.Picture.{Picture}
 use Rattle.books.specs.Answer.{blaming}
 use Rattle.books.specs.Book.{bookOf}
 use Rattle.books.specs.Decide.{derives?}
 use Rattle.books.specs.Lookups.{sizeOf}
 use Rattle.books.specs.Sheet.{sheetOf}
-use Rattle.books.specs.Size.{room}
 use Rattle.books.proofs.Deciding.{decided}
-use Rattle.books.proofs.NumberedCells.{sheet-cells}
+use Rattle.books.proofs.Area.{area}
+use Rattle.books.proofs.LookingUp.{size-few}
 use Rattle.pieces.specs.Given.{Given}
 use Rattle.pieces.specs.Tree.{tree}
 use Rattle.pieces.specs.Derivation.{Derivation, leaving, entriesNeeded, numbersNeeded, filled, judged, roomed, derivation}
@@ -29,15 +30,15 @@ use Rattle.pieces.proofs.TheTree.{tree-given, given-length}
 use Rattle.belongs.specs.Nodes.{nodesOf}
 
 -- a sheet that was read has few cells, and a refused one has none
-pub cells-few : (s : List ℕ) → sizeOf s .rows * sizeOf s .cols ≤ room
-cells-few s = sheet-cells s .area-few
+pub cells-few : (s : List ℕ) → sizeOf 0 s .rows * sizeOf 0 s .cols ≤ greatestOf 0 * greatestOf 0
+cells-few s = let (rows, cols) = size-few 0 s in area _ _ _ rows cols
 
-pub nodes-few : (s : List ℕ) (n : ℕ) → n ≡ nodesOf s → n ≤ 2 * room - 1
+pub nodes-few : (s : List ℕ) (n : ℕ) → n ≡ nodesOf s → n ≤ 2 * (greatestOf 0 * greatestOf 0) - 1
 nodes-few s n e = omega (arith, cells-few s)
 
 -- whatever the family and the motif, the derivation given of the sheet has so many nodes
-pub nodes-given : (b : Contents) (a : ℕ) (s xs : List ℕ) → Given b a (pictureOf s) xs → length xs ≡ 2 * nodesOf s
-nodes-given b a s xs = given-length b a (pictureOf s) xs
+pub nodes-given : (b : Contents) (a : ℕ) (s xs : List ℕ) → Given b a (pictureOf 0 s) xs → length xs ≡ 2 * nodesOf s
+nodes-given b a s xs = given-length b a (pictureOf 0 s) xs
 
 -- ── What is printed on 0 ──
 
@@ -46,7 +47,7 @@ module _ (book sheet numbers : List ℕ) where
   b = contentsOf book
 
   abbrev p : Picture
-  p = pictureOf sheet
+  p = pictureOf 0 sheet
 
   -- so many numbers of the tree slice are the derivation given
   abbrev Prints : Derivation → Type 0
@@ -73,9 +74,9 @@ module _ (book sheet numbers : List ℕ) where
   fault-prints : (input : ℕ) (f : Fault) (entries : List ℕ) → eqb (f .number) 0 ≡ false → Prints (leaving (blaming input f) entries numbers)
   fault-prints input f entries t z = absurd (eqb-false (f .number) 0 t (rw t at z))
 
-  pub prints-given : (entries : List ℕ) → Prints (derivation book sheet entries numbers)
+  pub prints-given : (entries : List ℕ) → Prints (derivation 0 book sheet entries numbers)
   unfolding derivation
   prints-given entries =
       pick-ind Prints (eqb (bookOf book .fault .number) 0) _ _
-      (λ _. pick-ind Prints (eqb (sheetOf sheet .fault .number) 0) _ _ (λ _. roomed-prints entries) (fault-prints 2 (sheetOf sheet .fault) entries))
+      (λ _. pick-ind Prints (eqb (sheetOf 0 sheet .fault .number) 0) _ _ (λ _. roomed-prints entries) (fault-prints 2 (sheetOf 0 sheet .fault) entries))
       (fault-prints 1 (bookOf book .fault) entries)

@@ -2,7 +2,9 @@
 use Prim.Native.Nat.{ℕ, _*_, _≤_}
 use native.Mathlib.Nat.{mul-le-mul}
 use native.Mathlib.Omega.{arith}
-use Rattle.books.specs.Size.{greatest, room, Within}
+use Rattle.books.specs.Press.{greatestOf}
+use Rattle.books.specs.Size.{room, Within}
+use Rattle.books.proofs.Presses.{greatest-few}
 
 pub area : (rows cols most : ℕ) → rows ≤ most → cols ≤ most → rows * cols ≤ most * most
 area rows cols most h g = mul-le-mul h g
@@ -10,9 +12,9 @@ area rows cols most h g = mul-le-mul h g
 pub within-area : {most rows cols : ℕ} → Within most rows cols → rows * cols ≤ most * most
 within-area w = area _ _ _ (w .rows-few) (w .cols-few)
 
--- the greatest sheet finds room
-pub room-enough : greatest * greatest ≤ room
-room-enough = omega arith
+-- the greatest sheet of every press finds room
+pub room-enough : (press : ℕ) → greatestOf press * greatestOf press ≤ room
+room-enough press = area (greatestOf press) (greatestOf press) _ (greatest-few press) (greatest-few press)
 
-pub within-room : {rows cols : ℕ} → Within greatest rows cols → rows * cols ≤ room
-within-room w = omega (arith, within-area w, room-enough)
+pub within-room : (press : ℕ) {rows cols : ℕ} → Within (greatestOf press) rows cols → rows * cols ≤ room
+within-room press w = omega (arith, within-area w, room-enough press)

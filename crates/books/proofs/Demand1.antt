@@ -87,11 +87,11 @@ pub record BookTold (s : List ℕ) (r : ℕ) : Type 0 where
   pub count : r / 2 ^ 32 ≡ 0
 
 -- the count is the ticket of the contents, and 0 where the sheet is refused
-pub record SheetTold (s : List ℕ) (r : ℕ) : Type 0 where
-  pub tells : Told ReadersNumber s (sheetOf s .fault) r
-  pub refused : (f : Fault) → 1 ≤ f .number → ((r % 2 ^ 8 ≡ f .number) × (r / 2 ^ 12 % 2 ^ 20 ≡ f .place)) ↔ SheetFault s f
-  pub accepted : Bytes s → (r % 2 ^ 8 ≡ 0) ↔ ((g : Grid) × GridKeeps g × (s ≡ spellSheet g))
-  pub ticket : (g : Grid) → GridKeeps g → s ≡ spellSheet g → r / 2 ^ 32 ≡ g .ticket
+pub record SheetTold (press : ℕ) (s : List ℕ) (r : ℕ) : Type 0 where
+  pub tells : Told ReadersNumber s (sheetOf press s .fault) r
+  pub refused : (f : Fault) → 1 ≤ f .number → ((r % 2 ^ 8 ≡ f .number) × (r / 2 ^ 12 % 2 ^ 20 ≡ f .place)) ↔ SheetFault press s f
+  pub accepted : Bytes s → (r % 2 ^ 8 ≡ 0) ↔ ((g : Grid) × GridKeeps press g × (s ≡ spellSheet g))
+  pub ticket : (g : Grid) → GridKeeps press g → s ≡ spellSheet g → r / 2 ^ 32 ≡ g .ticket
   pub no-ticket : 1 ≤ r % 2 ^ 8 → r / 2 ^ 32 ≡ 0
 
 pub read-book-told : (s : List ℕ) (r : ℕ) → r ≡ packed (bookAnswer s) 0 → BookTold s r
@@ -108,18 +108,18 @@ read-book-told s r e =
       count = rw e (apart (bookAnswer s) 0 packs .count-is);
     }
 
-pub read-sheet-told : (s : List ℕ) (r : ℕ) → r ≡ packed (sheetAnswer s) (ticketOf s) → SheetTold s r
-read-sheet-told s r e =
-    let packs = ticket-packs s in
-    let t : Told ReadersNumber s (sheetOf s .fault) r = rw e (told ReadersNumber (omega arith) s _ (ticketOf s) (sheetOf s .fault) packs (λ n. sheet-refused s n .blamed)) in
-    let count : r / 2 ^ 32 ≡ ticketOf s = rw e (apart (sheetAnswer s) (ticketOf s) packs .count-is) in
+pub read-sheet-told : (press : ℕ) (s : List ℕ) (r : ℕ) → r ≡ packed (sheetAnswer press s) (ticketOf press s) → SheetTold press s r
+read-sheet-told press s r e =
+    let packs = ticket-packs press s in
+    let t : Told ReadersNumber s (sheetOf press s .fault) r = rw e (told ReadersNumber (omega arith) s _ (ticketOf press s) (sheetOf press s .fault) packs (λ n. sheet-refused press s n .blamed)) in
+    let count : r / 2 ^ 32 ≡ ticketOf press s = rw e (apart (sheetAnswer press s) (ticketOf press s) packs .count-is) in
     record {
       tells = t;
-      refused = λ f some. let first = told-first s _ f r t some in let row = sheet-refused-exactly s f some in (λ h. row .0 (first .0 h), λ x. first .1 (row .1 x));
+      refused = λ f some. let first = told-first s _ f r t some in let row = sheet-refused-exactly press s f some in (λ h. row .0 (first .0 h), λ x. first .1 (row .1 x));
       accepted = λ bytes. (
-        λ z. let a = sheet-accepted s bytes (sym (t .number-is) ∙ z) in (gridIn s (sheetOf s .sheet), a .keeps, a .spelled),
-        λ x. t .number-is ∙ rw (x .2) (ap (λ (f : Fault). f .number) (sheet-read-back (x .0) (x .1) .0)),
+        λ z. let a = sheet-accepted press s bytes (sym (t .number-is) ∙ z) in (gridIn s (sheetOf press s .sheet), a .keeps, a .spelled),
+        λ x. t .number-is ∙ rw (x .2) (ap (λ (f : Fault). f .number) (sheet-read-back press (x .0) (x .1) .0)),
       );
-      ticket = λ g k i. count ∙ rw i (ap (λ (x : Grid). x .ticket) (sheet-read-back g k .1));
-      no-ticket = λ h. count ∙ ap (λ (x : Sheet). x .ticket) (sheet-refused s (λ z. omega (arith, t .number-is)) .none);
+      ticket = λ g k i. count ∙ rw i (ap (λ (x : Grid). x .ticket) (sheet-read-back press g k .1));
+      no-ticket = λ h. count ∙ ap (λ (x : Sheet). x .ticket) (sheet-refused press s (λ z. omega (arith, t .number-is)) .none);
     }

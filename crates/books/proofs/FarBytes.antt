@@ -1,4 +1,4 @@
--- Reading the first 8,192 bytes of a file is enough: a book is read or refused within 5,164 bytes and a sheet within 3,196, so that what follows changes nothing. Where a
+-- Reading the first 8,192 bytes of a file is enough: a book and a sheet of any press are read or refused within them, so that what follows changes nothing. Where a
 -- longer file is cut off, both are refused, at the same fault: the cut is farther on than any reader looks.
 use Prim.Native.Nat.{ℕ, _<_, _≤_}
 use mathlib.Core.Path.{_≡_, sym, ap, _∙_}
@@ -16,6 +16,7 @@ use Rattle.books.specs.Book.{bookOf}
 use Rattle.books.specs.Sheet.{sheetOf}
 use Rattle.books.specs.declared.book.BookRead.{BookRead}
 use Rattle.books.specs.declared.sheet.SheetRead.{SheetRead}
+use Rattle.books.proofs.Area.{room-enough}
 use Rattle.books.proofs.ReadingBooks.{farthestBook, book-places}
 use Rattle.books.proofs.ReadingSheets.{farthest, sheet-places}
 use Rattle.books.proofs.FarBooks.{book-far}
@@ -36,21 +37,21 @@ front-of f limit far s n h =
 contents-far : (t u : List ℕ) → farthestBook < length t → contentsOf (t ++ u) ≡ contentsOf t
 contents-far t u h = rw (book-far true t u h, names-in-far t u (bookOf t .family .colours) (book-places t))
 
-grid-far : (t u : List ℕ) → farthest < length t → gridIn (t ++ u) (sheetOf (t ++ u) .sheet) ≡ gridIn t (sheetOf t .sheet)
-grid-far t u h = rw (sheet-far t u h, names-in-far t u (sheetOf t .sheet .colours) (sheet-places t))
+grid-far : (press : ℕ) (t u : List ℕ) → farthest press < length t → gridIn (t ++ u) (sheetOf press (t ++ u) .sheet) ≡ gridIn t (sheetOf press t .sheet)
+grid-far press t u h = rw (sheet-far press t u h, names-in-far t u (sheetOf press t .sheet .colours) (sheet-places press t))
 
 -- the first n bytes of a file are read as the file: the same fault, the same contents
-pub record Enough (s : List ℕ) (n : ℕ) : Type 0 where
+pub record Enough (press : ℕ) (s : List ℕ) (n : ℕ) : Type 0 where
   pub book-fault : bookOf (take n s) .fault ≡ bookOf s .fault
   pub book-contents : contentsOf (take n s) ≡ contentsOf s
-  pub sheet-fault : sheetOf (take n s) .fault ≡ sheetOf s .fault
-  pub sheet-grid : gridIn (take n s) (sheetOf (take n s) .sheet) ≡ gridIn s (sheetOf s .sheet)
+  pub sheet-fault : sheetOf press (take n s) .fault ≡ sheetOf press s .fault
+  pub sheet-grid : gridIn (take n s) (sheetOf press (take n s) .sheet) ≡ gridIn s (sheetOf press s .sheet)
 
-pub enough : (s : List ℕ) (n : ℕ) → 8192 ≤ n → Enough s n
-enough s n h =
+pub enough : (press : ℕ) (s : List ℕ) (n : ℕ) → 8192 ≤ n → Enough press s n
+enough press s n h =
     record {
       book-fault = ap (λ (r : BookRead). r .fault) (front-of bookOf farthestBook (book-far true) s n (omega arith));
       book-contents = front-of (λ (x : List ℕ). contentsOf x) farthestBook contents-far s n (omega arith);
-      sheet-fault = ap (λ (r : SheetRead). r .fault) (front-of sheetOf farthest sheet-far s n (omega arith));
-      sheet-grid = front-of (λ (x : List ℕ). gridIn x (sheetOf x .sheet)) farthest grid-far s n (omega arith);
+      sheet-fault = ap (λ (r : SheetRead). r .fault) (front-of (sheetOf press) (farthest press) (sheet-far press) s n (omega (arith, room-enough press)));
+      sheet-grid = front-of (λ (x : List ℕ). gridIn x (sheetOf press x .sheet)) (farthest press) (grid-far press) s n (omega (arith, room-enough press));
     }

@@ -1,4 +1,4 @@
--- A sheet is read or refused within 3,196 bytes, so that bytes farther on change nothing: each part is read where the one before it ends, and has its own bound.
+-- A sheet of a press is read or refused within so many bytes that bytes farther on change nothing: each part is read where the one before it ends, and has its own bound.
 use Prim.Native.Nat.{ℕ, zero, suc, _+_, _*_, _<_, _≤_}
 use mathlib.Core.Path.{_≡_, refl}
 use mathlib.Core.List.{List, _++_}
@@ -12,7 +12,8 @@ use Rattle.names.specs.declared.colours.Colours.{Colours}
 use Rattle.names.proofs.ReadingNumbers.{number-lies, number-in, number-below}
 use Rattle.names.proofs.ReadingColours.{colours-lie}
 use Rattle.names.proofs.FarBytes.{onward-same, faultless-same, number-far, number-in-far, number-below-far, colours-far}
-use Rattle.books.specs.Size.{greatest, sizeAt, afterSize}
+use Rattle.books.specs.Press.{greatestOf}
+use Rattle.books.specs.Size.{sizeAt, afterSize}
 use Rattle.books.specs.Cells.{refusedCells, cellsOnward, cellsAt}
 use Rattle.books.specs.Sheet.{refusedSheet, filledAt, sheetOf}
 use Rattle.books.specs.declared.size.Size.{Size}
@@ -33,10 +34,12 @@ module _ {ℓ} {A : Type ℓ} (refuse : Fault → A) where
   after-size-same r (RefusedSize f) go to e g = rw e
 
 -- what follows a ticket
-abbrev sized : List ℕ → Colours → ℕ → ℕ → SheetRead
-sized s c ticket at = afterSize refusedSheet (sizeAt s at greatest) (λ size next. filledAt s c ticket size (cellsAt s (c .count) next (size .rows * size .cols)))
+abbrev sized : ℕ → List ℕ → Colours → ℕ → ℕ → SheetRead
+sized press s c ticket at =
+    afterSize refusedSheet (sizeAt s at (greatestOf press)) (λ size next.
+    filledAt s (greatestOf press) c ticket size (cellsAt s (c .count) next (size .rows * size .cols)))
 
-module _ (t u : List ℕ) where
+module _ (press : ℕ) (t u : List ℕ) where
   size-far : (at most : ℕ) → at + 5 < length t → sizeAt (t ++ u) at most ≡ sizeAt t at most
   unfolding sizeAt
   size-far at most h =
@@ -55,29 +58,29 @@ module _ (t u : List ℕ) where
 
   -- the cells are the same, and bytes follow them in both
   filled-far : (c : Colours) (ticket : ℕ) (size : Size) (at count : ℕ) → at ≤ length t → at + 3 * count < length t
-      → filledAt (t ++ u) c ticket size (cellsAt t (c .count) at count) ≡ filledAt t c ticket size (cellsAt t (c .count) at count)
+      → filledAt (t ++ u) (greatestOf press) c ticket size (cellsAt t (c .count) at count) ≡ filledAt t (greatestOf press) c ticket size (cellsAt t (c .count) at count)
   unfolding filledAt
   filled-far c ticket size at count inside h =
       let r = cellsAt t (c .count) at count in
       faultless-same refusedSheet (r .fault) _ _
       (λ z. ending-same refusedSheet t u (r .next) _ _ (omega (arith, cells-lie t (c .count) (at + 3 * count) at count inside (omega arith) z .near)))
 
-  sized-far : (c : Colours) (ticket at : ℕ) → at + 6 + 3 * (greatest * greatest) < length t → sized (t ++ u) c ticket at ≡ sized t c ticket at
+  sized-far : (c : Colours) (ticket at : ℕ) → at + 6 + 3 * (greatestOf press * greatestOf press) < length t → sized press (t ++ u) c ticket at ≡ sized press t c ticket at
   sized-far c ticket at h =
-      after-size-same refusedSheet (sizeAt (t ++ u) at greatest) (sizeAt t at greatest) _ _ (size-far at greatest (omega arith))
+      after-size-same refusedSheet (sizeAt (t ++ u) at (greatestOf press)) (sizeAt t at (greatestOf press)) _ _ (size-far at (greatestOf press) (omega arith))
       (λ size next e.
-      let l = size-lies t at greatest size next e in
+      let l = size-lies t at (greatestOf press) size next e in
       let count = size .rows * size .cols in
       let near : next + 3 * count < length t = omega (arith, l .near, within-area (l .within)) in
       rw (cells-far (c .count) next count near) (filled-far c ticket size next count (l .inside) near))
 
-  ticketed-far : (c : Colours) (at : ℕ) → at + 9 + 3 * (greatest * greatest) < length t
-      → onward refusedSheet (numberAt (t ++ u) at) (sized (t ++ u) c) ≡ onward refusedSheet (numberAt t at) (sized t c)
+  ticketed-far : (c : Colours) (at : ℕ) → at + 9 + 3 * (greatestOf press * greatestOf press) < length t
+      → onward refusedSheet (numberAt (t ++ u) at) (sized press (t ++ u) c) ≡ onward refusedSheet (numberAt t at) (sized press t c)
   ticketed-far c at h =
       onward-same refusedSheet (numberAt (t ++ u) at) (numberAt t at) _ _ (number-far t u at (omega arith))
       (λ ticket then e. sized-far c ticket then (omega (arith, number-lies t at ticket then e .near)))
 
-  pub sheet-far : farthest < length t → sheetOf (t ++ u) ≡ sheetOf t
+  pub sheet-far : farthest press < length t → sheetOf press (t ++ u) ≡ sheetOf press t
   unfolding sheetOf
   sheet-far h =
       rw (colours-far t u (omega arith))

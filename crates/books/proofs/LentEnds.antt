@@ -40,21 +40,21 @@ module _ {A : Type 0} (P : A → Type 0) (refuse : Answer → A) where
       → (bookBy strict book .fault .number ≡ 0 → P (go (contentsBy strict book))) → P (lentBookBy strict input book refuse go)
   book-ends strict input book go = read-ends input (bookBy strict book .fault) (contentsBy strict book) go
 
-  pub sheet-ends : (input : ℕ) (sheet : List ℕ) (go : Picture → A)
-      → ((sheetOf sheet .fault .number ≡ 0 → ⊥) → P (refuse (answer (sheetOf sheet .fault .number) input (sheetOf sheet .fault .place))))
-      → (sheetOf sheet .fault .number ≡ 0 → P (go (pictureOf sheet))) → P (lentSheet input sheet refuse go)
-  sheet-ends input sheet go = read-ends input (sheetOf sheet .fault) (pictureOf sheet) go
+  pub sheet-ends : (press input : ℕ) (sheet : List ℕ) (go : Picture → A)
+      → ((sheetOf press sheet .fault .number ≡ 0 → ⊥) → P (refuse (answer (sheetOf press sheet .fault .number) input (sheetOf press sheet .fault .place))))
+      → (sheetOf press sheet .fault .number ≡ 0 → P (go (pictureOf press sheet))) → P (lentSheet press input sheet refuse go)
+  sheet-ends press input sheet go = read-ends input (sheetOf press sheet .fault) (pictureOf press sheet) go
 
-  pub record BothEnd (book sheet : List ℕ) (go : Contents → Picture → A) : Type 0 where
+  pub record BothEnd (press : ℕ) (book sheet : List ℕ) (go : Contents → Picture → A) : Type 0 where
     pub in-book : (bookOf book .fault .number ≡ 0 → ⊥) → P (refuse (answer (bookOf book .fault .number) 1 (bookOf book .fault .place)))
-    pub in-sheet : bookOf book .fault .number ≡ 0 → (sheetOf sheet .fault .number ≡ 0 → ⊥)
-        → P (refuse (answer (sheetOf sheet .fault .number) 2 (sheetOf sheet .fault .place)))
-    pub in-neither : Accepted book sheet → P (go (contentsOf book) (pictureOf sheet))
+    pub in-sheet : bookOf book .fault .number ≡ 0 → (sheetOf press sheet .fault .number ≡ 0 → ⊥)
+        → P (refuse (answer (sheetOf press sheet .fault .number) 2 (sheetOf press sheet .fault .place)))
+    pub in-neither : Accepted press book sheet → P (go (contentsOf book) (pictureOf press sheet))
 
-  pub both-end : (book sheet : List ℕ) (go : Contents → Picture → A) → BothEnd book sheet go → P (lentBoth book sheet refuse go)
-  both-end book sheet go ways =
-      book-ends true 1 book (λ b. lentSheet 2 sheet refuse (go b)) (ways .in-book)
-      (λ z. sheet-ends 2 sheet (go (contentsOf book)) (ways .in-sheet z) (λ y. ways .in-neither (record { book-fine = z; sheet-fine = y })))
+  pub both-end : (press : ℕ) (book sheet : List ℕ) (go : Contents → Picture → A) → BothEnd press book sheet go → P (lentBoth press book sheet refuse go)
+  both-end press book sheet go ways =
+      book-ends true 1 book (λ b. lentSheet press 2 sheet refuse (go b)) (ways .in-book)
+      (λ z. sheet-ends press 2 sheet (go (contentsOf book)) (ways .in-sheet z) (λ y. ways .in-neither (record { book-fine = z; sheet-fine = y })))
 
 -- ── The order of the answers ──
 
@@ -63,10 +63,10 @@ module _ {A : Type 0} (book : List ℕ) (refuse : Answer → A) where
       → lentBook input book refuse go ≡ refuse (blaming input (bookOf book .fault))
   book-refused-first input go n = simp (ne-eqb (bookOf book .fault .number) 0 n)
 
-  module _ (sheet : List ℕ) (go : Contents → Picture → A) where
-    pub sheet-refused-second : bookOf book .fault .number ≡ 0 → (sheetOf sheet .fault .number ≡ 0 → ⊥)
-        → lentBoth book sheet refuse go ≡ refuse (blaming 2 (sheetOf sheet .fault))
-    sheet-refused-second z n = simp (eq-eqb (bookOf book .fault .number) 0 z, ne-eqb (sheetOf sheet .fault .number) 0 n)
+  module _ (press : ℕ) (sheet : List ℕ) (go : Contents → Picture → A) where
+    pub sheet-refused-second : bookOf book .fault .number ≡ 0 → (sheetOf press sheet .fault .number ≡ 0 → ⊥)
+        → lentBoth press book sheet refuse go ≡ refuse (blaming 2 (sheetOf press sheet .fault))
+    sheet-refused-second z n = simp (eq-eqb (bookOf book .fault .number) 0 z, ne-eqb (sheetOf press sheet .fault .number) 0 n)
 
-    pub both-go-on : Accepted book sheet → lentBoth book sheet refuse go ≡ go (contentsOf book) (pictureOf sheet)
-    both-go-on fine = simp (eq-eqb (bookOf book .fault .number) 0 (fine .book-fine), eq-eqb (sheetOf sheet .fault .number) 0 (fine .sheet-fine))
+    pub both-go-on : Accepted press book sheet → lentBoth press book sheet refuse go ≡ go (contentsOf book) (pictureOf press sheet)
+    both-go-on fine = simp (eq-eqb (bookOf book .fault .number) 0 (fine .book-fine), eq-eqb (sheetOf press sheet .fault .number) 0 (fine .sheet-fine))

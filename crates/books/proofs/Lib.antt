@@ -31,6 +31,7 @@ pub mod SpellingRules
 pub mod SpellingBooks
 pub mod LongestBook
 pub mod BookExamples
+pub mod Presses
 pub mod Area
 pub mod SizesWithin
 pub mod ReadingSizes

@@ -1,19 +1,20 @@
--- The longest sheet has the bytes of the longest colour list, three for the ticket, one for the rows, one for the columns, and one for each cell: 2,774 where
--- it has at most 12 rows and columns. Its spelling is made of bytes.
+-- The longest sheet has the bytes of the longest colour list, three for the ticket, one for the rows, one for the columns, and one for each cell, of
+-- which there are as many as its press has rows and columns at most. Its spelling is made of bytes.
 use Prim.Native.Nat.{ℕ, suc, _+_, _*_, _≤_}
 use mathlib.Core.Path.{_≡_, refl, ap}
 use mathlib.Core.List.{List, [], _∷_, _++_}
 use native.Mathlib.Omega.{arith}
-use lib.ListN.{length, length-append, replicate, getD-replicate}
+use lib.ListN.{length, length-append, replicate, length-replicate, getD-replicate}
 use Rattle.names.specs.Number.{greatestNumber, spellNumber}
 use Rattle.names.specs.Spelling.{spellColours}
 use Rattle.names.specs.Bytes.{Bytes}
 use Rattle.names.proofs.SpellingNumbers.{spell-short, spell-longest, spell-few}
 use Rattle.books.specs.Grid.{Grid, GridKeeps}
 use Rattle.books.specs.ContentsIn.{gridIn}
-use Rattle.books.specs.Size.{greatest}
+use Rattle.books.specs.Press.{greatestOf, IsPress}
 use Rattle.books.specs.Sheet.{sheetOf}
 use Rattle.books.specs.SpellSheet.{spellCells, spellSheet}
+use Rattle.books.proofs.Presses.{greatest-few, greatest-some}
 use Rattle.books.proofs.Area.{within-area}
 use Rattle.names.proofs.SpelledBytes.{FewBytes, none-few, both-few, fewer, number-one, number-three, colours-few}
 use Rattle.names.proofs.LongestColours.{colours-longest, longestNames, longest-names, longest-length}
@@ -27,8 +28,8 @@ cells-length colours few (v ∷ vs) fit =
     let low = fit 0 (omega arith) in
     omega (arith, length-append (spellNumber v) (spellCells vs), spell-short v (omega arith), cells-length colours few vs (λ i h. fit (suc i) (omega arith)))
 
-pub sheet-length : (g : Grid) → GridKeeps g → length (spellSheet g) ≡ length (spellColours (g .colours)) + length (spellNumber (g .ticket)) + 2 + g .rows * g .cols
-sheet-length g k =
+pub sheet-length : (press : ℕ) (g : Grid) → GridKeeps press g → length (spellSheet g) ≡ length (spellColours (g .colours)) + length (spellNumber (g .ticket)) + 2 + g .rows * g .cols
+sheet-length press g k =
     let colours = spellColours (g .colours) in
     let ticket = spellNumber (g .ticket) in
     let rows = spellNumber (g .rows) in
@@ -40,8 +41,8 @@ sheet-length g k =
       length-append ticket (rows ++ (cols ++ cells)),
       length-append rows (cols ++ cells),
       length-append cols cells,
-      spell-short (g .rows) (omega (arith, k .within .rows-few)),
-      spell-short (g .cols) (omega (arith, k .within .cols-few)),
+      spell-short (g .rows) (omega (arith, k .within .rows-few, greatest-few press)),
+      spell-short (g .cols) (omega (arith, k .within .cols-few, greatest-few press)),
       cells-length (length (g .colours)) (omega (arith, k .colours-ok .few)) (g .cells) (k .cells-fit),
       k .cells-all,
     )
@@ -52,46 +53,55 @@ cells-few colours few (v ∷ vs) fit =
     let low = fit 0 (omega arith) in
     fewer (omega arith) (both-few (number-one v (omega arith)) (cells-few colours few vs (λ i h. fit (suc i) (omega arith))))
 
-pub spelling-bytes : (g : Grid) → GridKeeps g → Bytes (spellSheet g)
-spelling-bytes g k =
+pub spelling-bytes : (press : ℕ) (g : Grid) → GridKeeps press g → Bytes (spellSheet g)
+spelling-bytes press g k =
     both-few (colours-few (g .colours) (k .colours-ok))
     (both-few (number-three (g .ticket) (k .ticket-few))
-    (both-few (number-one (g .rows) (omega (arith, k .within .rows-few)))
-    (both-few (number-one (g .cols) (omega (arith, k .within .cols-few)))
+    (both-few (number-one (g .rows) (omega (arith, k .within .rows-few, greatest-few press)))
+    (both-few (number-one (g .cols) (omega (arith, k .within .cols-few, greatest-few press)))
     (cells-few (length (g .colours)) (omega (arith, k .colours-ok .few)) (g .cells) (k .cells-fit))))) .bytes
 
-abbrev pub longestLength : ℕ
-longestLength = 2630 + greatest * greatest
+abbrev pub longestLength : ℕ → ℕ
+longestLength press = 2630 + greatestOf press * greatestOf press
 
-pub sheet-longest : (s : List ℕ) → Bytes s → sheetOf s .fault .number ≡ 0 → length s ≤ longestLength
-sheet-longest s bytes z =
-    let a = sheet-accepted s bytes z in
-    let g = gridIn s (sheetOf s .sheet) in
+pub sheet-longest : (press : ℕ) (s : List ℕ) → Bytes s → sheetOf press s .fault .number ≡ 0 → length s ≤ longestLength press
+sheet-longest press s bytes z =
+    let a = sheet-accepted press s bytes z in
+    let g = gridIn s (sheetOf press s .sheet) in
     omega (
       arith,
       ap (λ (x : List ℕ). length x) (a .spelled),
-      sheet-length g (a .keeps),
+      sheet-length press g (a .keeps),
       spell-few (g .ticket),
       colours-longest (g .colours) (a .keeps .colours-ok),
       within-area (a .keeps .within),
     )
 
 -- and one is as long: its ticket is the greatest, and every cell has the first of 64 colours
-pub longest : Grid
-longest = record { colours = longestNames; ticket = greatestNumber; rows = greatest; cols = greatest; cells = replicate (greatest * greatest) 0 }
+pub longest : ℕ → Grid
+longest press =
+    record {
+      colours = longestNames;
+      ticket = greatestNumber;
+      rows = greatestOf press;
+      cols = greatestOf press;
+      cells = replicate (greatestOf press * greatestOf press) 0;
+    }
 
-pub longest-keeps : GridKeeps longest
+pub longest-keeps : (press : ℕ) → IsPress press → GridKeeps press (longest press)
 unfolding longest
-longest-keeps =
+longest-keeps press there =
+    let some = greatest-some press .0 there in
     let names = longest-names .some in
+    let all = length-replicate {A = ℕ} (greatestOf press * greatestOf press) 0 in
     record {
       colours-ok = longest-names;
       ticket-few = omega arith;
       within = record { rows-some = omega arith; rows-few = omega arith; cols-some = omega arith; cols-few = omega arith };
-      cells-all = refl;
-      cells-fit = λ i h. rw (getD-replicate {A = ℕ} (greatest * greatest) i 0 0 h) names;
+      cells-all = all;
+      cells-fit = λ i h. rw (getD-replicate {A = ℕ} (greatestOf press * greatestOf press) i 0 0 (omega (arith, all))) names;
     }
 
-pub longest-spelling : length (spellSheet longest) ≡ longestLength
+pub longest-spelling : (press : ℕ) → IsPress press → length (spellSheet (longest press)) ≡ longestLength press
 unfolding longest
-longest-spelling = omega (arith, sheet-length longest longest-keeps, spell-longest greatestNumber (omega arith) (omega arith), longest-length)
+longest-spelling press there = omega (arith, sheet-length press (longest press) (longest-keeps press there), spell-longest greatestNumber (omega arith) (omega arith), longest-length)

@@ -15,7 +15,7 @@ use Rattle.books.specs.ContentsIn.{gridIn}
 use Rattle.books.specs.Keeps.{BodyFits, RuleFits, mostRules}
 use Rattle.books.specs.Rules.{noRule}
 use Rattle.books.specs.Book.{bookOf}
-use Rattle.books.specs.Size.{greatest}
+use Rattle.books.specs.Press.{greatestOf}
 use Rattle.books.specs.Sheet.{sheetOf}
 use Rattle.books.specs.Lookups.{ruleWith, ruleOf, sizeIn, sizeOf, packedRule, packedFound, packedSize, ruleShown, sizeShown, version}
 use Rattle.books.specs.RuleNumbers.{kindOf, firstHeld, secondHeld}
@@ -25,6 +25,7 @@ use Rattle.books.specs.declared.rule.Body.the-variants.{Colour, Across, 
 use Rattle.books.specs.declared.lookups.RuleFound.{RuleFound}
 use Rattle.books.specs.declared.lookups.RuleFound.the-variants.{There, Missing}
 use Rattle.books.specs.declared.size.Size.{Size}
+use Rattle.books.proofs.Presses.{greatest-few}
 use Rattle.books.proofs.ReadingBooks.{book-lies, book-refused, book-size}
 use Rattle.books.proofs.ReadingSheets.{sheet-lies, sheet-refused}
 use Rattle.books.proofs.Settled.{settled}
@@ -148,25 +149,25 @@ module _ (s : List ℕ) where
 
 -- ── The size of a sheet ──
 
-module _ (s : List ℕ) where
-  pub size-few : (sizeOf s .rows ≤ greatest) × (sizeOf s .cols ≤ greatest)
+module _ (press : ℕ) (s : List ℕ) where
+  pub size-few : (sizeOf press s .rows ≤ greatestOf press) × (sizeOf press s .cols ≤ greatestOf press)
   size-few =
       ⊎-elim
-      (λ z. let lies = sheet-lies s z in (lies .within .rows-few, lies .within .cols-few))
-      (λ p. rw (sheet-refused s (λ z. omega arith) .none) (omega arith, omega arith))
-      (eq-zero-or-pos (sheetOf s .fault .number))
+      (λ z. let lies = sheet-lies press s z in (lies .within .rows-few, lies .within .cols-few))
+      (λ p. rw (sheet-refused press s (λ z. omega arith) .none) (omega arith, omega arith))
+      (eq-zero-or-pos (sheetOf press s .fault .number))
 
   -- the number shown of a sheet, taken apart, is the size of the contents
-  pub size-shown : SizeApart (sizeIn (gridIn s (sheetOf s .sheet))) (sizeShown s)
-  size-shown = size-apart (sizeOf s) (omega (arith, size-few))
+  pub size-shown : SizeApart (sizeIn (gridIn s (sheetOf press s .sheet))) (sizeShown press s)
+  size-shown = size-apart (sizeOf press s) (omega (arith, size-few, greatest-few press))
 
   -- it is 0 exactly where the sheet is refused, and not 0 exactly where it is accepted
-  pub no-size-exactly : (sizeShown s ≡ 0) ↔ (sheetOf s .fault .number ≡ 0 → ⊥)
-  no-size-exactly = (λ e z. omega (arith, sheet-lies s z .within .rows-some), λ d. rw (sheet-refused s d .none))
+  pub no-size-exactly : (sizeShown press s ≡ 0) ↔ (sheetOf press s .fault .number ≡ 0 → ⊥)
+  no-size-exactly = (λ e z. omega (arith, sheet-lies press s z .within .rows-some), λ d. rw (sheet-refused press s d .none))
 
-  pub size-exactly : (sizeShown s ≡ 0 → ⊥) ↔ (sheetOf s .fault .number ≡ 0)
+  pub size-exactly : (sizeShown press s ≡ 0 → ⊥) ↔ (sheetOf press s .fault .number ≡ 0)
   size-exactly = (
-    λ d. ⊎-elim (λ z. z) (λ p. absurd (d (no-size-exactly .1 (λ z. omega arith)))) (eq-zero-or-pos (sheetOf s .fault .number)),
+    λ d. ⊎-elim (λ z. z) (λ p. absurd (d (no-size-exactly .1 (λ z. omega arith)))) (eq-zero-or-pos (sheetOf press s .fault .number)),
     λ z e. no-size-exactly .0 e z,
   )
 
@@ -175,8 +176,8 @@ module _ (s : List ℕ) where
 pub rule-settled : (s : List ℕ) (k : ℕ) (r q : RuleFound) → r ≡ ruleOf s k → q ≡ ruleOf s k → r ≡ q
 rule-settled s k r q = settled
 
-pub sheet-size-settled : (s : List ℕ) (r q : Size) → r ≡ sizeOf s → q ≡ sizeOf s → r ≡ q
-sheet-size-settled s r q = settled
+pub sheet-size-settled : (press : ℕ) (s : List ℕ) (r q : Size) → r ≡ sizeOf press s → q ≡ sizeOf press s → r ≡ q
+sheet-size-settled press s r q = settled
 
 pub pack-rule-settled : (rule : Rule) (r q : ℕ) → r ≡ packedRule rule → q ≡ packedRule rule → r ≡ q
 pack-rule-settled rule r q = settled
@@ -184,8 +185,8 @@ pack-rule-settled rule r q = settled
 pub dv-rule-settled : (s : List ℕ) (k r q : ℕ) → r ≡ ruleShown s k → q ≡ ruleShown s k → r ≡ q
 dv-rule-settled s k r q = settled
 
-pub dv-sheet-size-settled : (s : List ℕ) (r q : ℕ) → r ≡ sizeShown s → q ≡ sizeShown s → r ≡ q
-dv-sheet-size-settled s r q = settled
+pub dv-sheet-size-settled : (press : ℕ) (s : List ℕ) (r q : ℕ) → r ≡ sizeShown press s → q ≡ sizeShown press s → r ≡ q
+dv-sheet-size-settled press s r q = settled
 
 pub dv-version-settled : (r q : ℕ) → r ≡ version → q ≡ version → r ≡ q
 dv-version-settled r q = settled

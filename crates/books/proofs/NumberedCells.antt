@@ -22,6 +22,7 @@ use Rattle.books.specs.Sheet.{sheetOf}
 use Rattle.books.specs.Size.{room}
 use Rattle.books.specs.declared.sheet.Sheet.{Sheet}
 use Rattle.books.specs.inner.Key.{Key, numbered}
+use Rattle.books.proofs.ReadingCells.{no-cells}
 use Rattle.books.proofs.ReadingSheets.{sheet-lies, sheet-refused}
 
 -- ── What is read, refused or not ──
@@ -34,15 +35,15 @@ pub record SheetFits (g : Sheet) : Type 0 where
   pub cells-fit : (i : ℕ) → i < g .size .rows * g .size .cols → getD (g .cells) i 0 < g .colours .count
   pub cells-end : drop (g .size .rows * g .size .cols) (g .cells) ≡ drop (g .size .rows * g .size .cols) noCells
 
-pub sheet-cells : (s : List ℕ) → SheetFits (sheetOf s .sheet)
-sheet-cells s =
+pub sheet-cells : (press : ℕ) (s : List ℕ) → SheetFits (sheetOf press s .sheet)
+sheet-cells press s =
     ⊎-elim
     (λ t.
-    let l = sheet-lies s (eqb-true _ 0 t) in
+    let l = sheet-lies press s (eqb-true _ 0 t) in
     record { colours-few = l .places .few; area-few = l .area-few; cells-all = l .cells-all; cells-fit = l .cells-fit; cells-end = l .cells-end })
-    (λ t. subst SheetFits (sym (sheet-refused s (eqb-false _ 0 t) .none))
-    (record { colours-few = omega arith; area-few = omega arith; cells-all = refl; cells-fit = λ i h. absurd (omega arith); cells-end = refl }))
-    (true-or-false (eqb (sheetOf s .fault .number) 0))
+    (λ t. subst SheetFits (sym (sheet-refused press s (eqb-false _ 0 t) .none))
+    (record { colours-few = omega arith; area-few = omega arith; cells-all = no-cells; cells-fit = λ i h. absurd (omega arith); cells-end = refl }))
+    (true-or-false (eqb (sheetOf press s .fault .number) 0))
 
 -- ── The first cells numbered, over what stands after them ──
 
@@ -90,7 +91,7 @@ number-at book c sheet g i h few = begun-at (numberOf book c sheet (g .colours))
 pub numbers-all : (book : List ℕ) (c : Colours) (sheet : List ℕ) (g : Sheet) → g .size .rows * g .size .cols ≤ room → length (g .cells) ≡ room
     → length (numbersOf book c sheet g) ≡ room
 numbers-all book c sheet g few all =
-    begun-size (numberOf book c sheet (g .colours)) (g .cells) noCells (g .size .rows * g .size .cols) (omega arith) (omega arith)
+    begun-size (numberOf book c sheet (g .colours)) (g .cells) noCells (g .size .rows * g .size .cols) (omega arith) (omega (arith, no-cells)) ∙ no-cells
 
 -- by at most 64 colours the cells are numbered
 pub numbers-for : (book : List ℕ) (c : Colours) (sheet : List ℕ) (g : Sheet) → c .count ≤ mostColours → numbersFor book c sheet g ≡ numbersOf book c sheet g
@@ -107,20 +108,21 @@ key-numbers book c sheet g key fit k =
     ap₂ (λ (x y : List ℕ). x ++ y)
     (same-numbers (λ (v : ℕ). getD key v 0) (numberOf book c sheet (g .colours)) (take n (g .cells)) (λ i h. k .numbers _ (low i h))) (fit .cells-end)
 
-module _ (book : List ℕ) (c : Colours) (sheet : List ℕ) where
-  pub numbers-room : length (numbersFor book c sheet (sheetOf sheet .sheet)) ≡ room
+module _ (press : ℕ) (book : List ℕ) (c : Colours) (sheet : List ℕ) where
+  pub numbers-room : length (numbersFor book c sheet (sheetOf press sheet .sheet)) ≡ room
   numbers-room =
-      let fit = sheet-cells sheet in
-      pick-ind (λ (l : List ℕ). length l ≡ room) (ltb mostColours (c .count)) noCells (numbersOf book c sheet (sheetOf sheet .sheet))
-      (λ _. refl)
-      (λ _. numbers-all book c sheet (sheetOf sheet .sheet) (fit .area-few) (fit .cells-all))
+      let fit = sheet-cells press sheet in
+      pick-ind (λ (l : List ℕ). length l ≡ room) (ltb mostColours (c .count)) noCells (numbersOf book c sheet (sheetOf press sheet .sheet))
+      (λ _. no-cells)
+      (λ _. numbers-all book c sheet (sheetOf press sheet .sheet) (fit .area-few) (fit .cells-all))
 
   -- a cell's number is at most 64
-  pub numbers-few : (i : ℕ) → i < sheetOf sheet .sheet .size .rows * sheetOf sheet .sheet .size .cols
-      → getD (numbersFor book c sheet (sheetOf sheet .sheet)) i 0 ≤ mostColours
+  pub numbers-few : (i : ℕ) → i < sheetOf press sheet .sheet .size .rows * sheetOf press sheet .sheet .size .cols
+      → getD (numbersFor book c sheet (sheetOf press sheet .sheet)) i 0 ≤ mostColours
+  unfolding noCells
   numbers-few i h =
-      let g = sheetOf sheet .sheet in
-      let fit = sheet-cells sheet in
+      let g = sheetOf press sheet .sheet in
+      let fit = sheet-cells press sheet in
       pick-ind (λ (l : List ℕ). getD l i 0 ≤ mostColours) (ltb mostColours (c .count)) noCells (numbersOf book c sheet g)
       (λ _. omega (arith, getD-replicate {A = ℕ} room i 0 0 (omega (arith, fit .area-few))))
       (λ e. omega (

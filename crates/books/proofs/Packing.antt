@@ -18,7 +18,8 @@ use Rattle.books.specs.Sheet.{sheetOf}
 use Rattle.books.specs.Calls.{sheetAnswer, ticketOf}
 use Rattle.books.specs.declared.answer.Answer.{Answer}
 use Rattle.books.proofs.ReadingBooks.{farthestBook, book-refused-by}
-use Rattle.books.proofs.ReadingSheets.{sheet-refused, sheet-ticket}
+use Rattle.books.proofs.Area.{room-enough}
+use Rattle.books.proofs.ReadingSheets.{farthest, sheet-refused, sheet-ticket}
 
 -- the parts of a packed answer
 pub record Apart (a : Answer) (count n : ℕ) : Type 0 where
@@ -69,9 +70,9 @@ book-placed = book-placed-by true
 pub packs-with : {a : Answer} {n : ℕ} (count : ℕ) → Packs a n → count < 2 ^ 32 → Packs a count
 packs-with count p h = record { number-fits = p .number-fits; blamed-fits = p .blamed-fits; place-fits = p .place-fits; count-fits = h }
 
-pub sheet-placed : (s : List ℕ) (input : ℕ) → input < 2 ^ 4 → Placed s (blaming input (sheetOf s .fault))
-sheet-placed s input h = fault-placed s input _ (sheetOf s .fault) (λ n l. omega arith) h (omega arith) (λ n. sheet-refused s n .blamed)
+pub sheet-placed : (press : ℕ) (s : List ℕ) (input : ℕ) → input < 2 ^ 4 → Placed s (blaming input (sheetOf press s .fault))
+sheet-placed press s input h = fault-placed s input (farthest press) (sheetOf press s .fault) (λ n l. omega arith) h (omega (arith, room-enough press)) (λ n. sheet-refused press s n .blamed)
 
 -- a sheet's ticket fits the count
-pub ticket-packs : (s : List ℕ) → Packs (sheetAnswer s) (ticketOf s)
-ticket-packs s = packs-with (ticketOf s) (sheet-placed s 1 (omega arith) .packs) (omega (arith, sheet-ticket s))
+pub ticket-packs : (press : ℕ) (s : List ℕ) → Packs (sheetAnswer press s) (ticketOf press s)
+ticket-packs press s = packs-with (ticketOf press s) (sheet-placed press s 1 (omega arith) .packs) (omega (arith, sheet-ticket press s))

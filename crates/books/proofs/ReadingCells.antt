@@ -7,7 +7,7 @@ use mathlib.Core.Logic.{_⊎_, inl, inr, ⊎-elim}
 use native.Mathlib.Omega.{arith}
 use native.Mathlib.Nat.{zero-add}
 use native.Mathlib.Numerals.{add-one}
-use lib.ListN.{length, getD, take, drop, set}
+use lib.ListN.{length, length-replicate, getD, take, drop, set}
 use lib.Seq.{sets, sets-eq, take-append-seam, drop-append-seam}
 use Rattle.names.specs.Pick.{fault}
 use Rattle.names.specs.Number.{numberBelow}
@@ -17,6 +17,7 @@ use Rattle.names.proofs.Onwards.{onward-ind}
 use Rattle.names.proofs.ReadingNumbers.{Blamed, blamed-later, number-below, number-below-there, number-below-refused}
 use Rattle.names.specs.Bytes.{Bytes}
 use Rattle.names.proofs.SpellingNumbers.{number-spelled}
+use Rattle.books.specs.Size.{room}
 use Rattle.books.specs.Cells.{CellsRead, noCells, refusedCells, cellsOnward, cellsAt}
 use Rattle.books.specs.SpellSheet.{spellCells}
 
@@ -27,6 +28,11 @@ Fit colours vs = (i : ℕ) → i < length vs → getD vs i 0 < colours
 pub fit-cons : (colours v : ℕ) (vs : List ℕ) → v < colours → Fit colours vs → Fit colours (v ∷ vs)
 fit-cons colours v vs h f zero l = h
 fit-cons colours v vs h f (suc i) l = f i (omega arith)
+
+-- as many as the room has
+pub no-cells : length noCells ≡ room
+unfolding noCells
+no-cells = length-replicate {A = ℕ} room 0
 
 -- numbers that are stored from the front on stand first, and what they do not reach stands after them
 module _ (l new : List ℕ) (h : length new ≤ length l) where

@@ -46,21 +46,21 @@ no-family-settled = settles _
 pub read-book-settled : (s : List ℕ) → Settles (bookOf s)
 read-book-settled s = settles _
 
-pub read-sheet-settled : (s : List ℕ) → Settles (sheetOf s)
-read-sheet-settled s = settles _
+pub read-sheet-settled : (press : ℕ) (s : List ℕ) → Settles (sheetOf press s)
+read-sheet-settled press s = settles _
 
-pub sheet-figures-settled : (s : List ℕ) → Settles (sheetFigures (sheetOf s))
-sheet-figures-settled s = settles _
+pub sheet-figures-settled : (press : ℕ) (s : List ℕ) → Settles (sheetFigures (sheetOf press s))
+sheet-figures-settled press s = settles _
 
-pub read-sheet-into-settled : (s : List ℕ) (r q : SheetFigures) (starts lens cells places sizes numbers : List ℕ)
-    → SheetInto (sheetOf s) r starts lens cells → SheetInto (sheetOf s) q places sizes numbers
+pub read-sheet-into-settled : (press : ℕ) (s : List ℕ) (r q : SheetFigures) (starts lens cells places sizes numbers : List ℕ)
+    → SheetInto (sheetOf press s) r starts lens cells → SheetInto (sheetOf press s) q places sizes numbers
     → (r ≡ q) × (starts ≡ places) × (lens ≡ sizes) × (cells ≡ numbers)
-read-sheet-into-settled s r q starts lens cells places sizes numbers x y =
+read-sheet-into-settled press s r q starts lens cells places sizes numbers x y =
     (settled (x .figures) (y .figures), settled (x .starts) (y .starts), settled (x .lens) (y .lens), settled (x .cells) (y .cells))
 
-pub number-sheet-settled : (book : List ℕ) (c : Colours) (sheet : List ℕ) (r q : SheetFigures) (cells numbers : List ℕ)
-    → Numbers book c sheet r cells → Numbers book c sheet q numbers → (r ≡ q) × (cells ≡ numbers)
-number-sheet-settled book c sheet r q cells numbers x y = (settled (x .figures) (y .figures), settled (x .cells) (y .cells))
+pub number-sheet-settled : (press : ℕ) (book : List ℕ) (c : Colours) (sheet : List ℕ) (r q : SheetFigures) (cells numbers : List ℕ)
+    → Numbers press book c sheet r cells → Numbers press book c sheet q numbers → (r ≡ q) × (cells ≡ numbers)
+number-sheet-settled press book c sheet r q cells numbers x y = (settled (x .figures) (y .figures), settled (x .cells) (y .cells))
 
 pub lend-settled : (rules : List Rule) (count : ℕ) → Settles (lentRules rules count)
 lend-settled rules count = settles _
@@ -76,8 +76,8 @@ direction-settled kind = settles _
 pub dv-read-book-settled : (s : List ℕ) → Settles (packed (bookAnswer s) 0)
 dv-read-book-settled s = settles _
 
-pub dv-read-sheet-settled : (s : List ℕ) → Settles (packed (sheetAnswer s) (ticketOf s))
-dv-read-sheet-settled s = settles _
+pub dv-read-sheet-settled : (press : ℕ) (s : List ℕ) → Settles (packed (sheetAnswer press s) (ticketOf press s))
+dv-read-sheet-settled press s = settles _
 
 pub colour-settled : (book : RefT (List ℕ)) (k : ℕ) → SettlesPart (Part book (shownStart (now book) k) (shown (now book) k))
 colour-settled book k = part-settles book _ _

@@ -17,7 +17,7 @@ abbrev pub together : SheetFigures → List ℕ → List ℕ → List ℕ → Sh
 together r places sizes numbers =
     record {
       fault = r .fault;
-      sheet = record { colours = listOf (r .colours) places sizes; ticket = r .ticket; size = r .size; cells = numbers };
+      sheet = record { colours = listOf (r .colours) places sizes; ticket = r .ticket; most = r .most; size = r .size; cells = numbers };
     }
 
 pub sheet-whole : {g : SheetRead} {r : SheetFigures} {places sizes numbers : List ℕ} → SheetInto g r places sizes numbers

@@ -23,33 +23,35 @@ use Rattle.names.proofs.ReadingColours.{names-count}
 use Rattle.names.proofs.SpellingColours.{colours-accepted, colours-read-back, drop-past, past-inside}
 use Rattle.books.specs.Grid.{Grid, GridKeeps}
 use Rattle.books.specs.ContentsIn.{gridIn}
-use Rattle.books.specs.Size.{greatest, sizeBy, Within, sizeAt}
+use Rattle.books.specs.Press.{greatestOf}
+use Rattle.books.specs.Size.{sizeBy, Within, sizeAt}
 use Rattle.books.specs.Cells.{noCells, cellsOnward, cellsAt}
 use Rattle.books.specs.Sheet.{filledAt, sheetOf}
 use Rattle.books.specs.SpellSheet.{spellCells, spellSheet}
 use Rattle.books.specs.declared.size.SizeRead.the-variants.{By}
 use Rattle.books.specs.declared.sheet.Sheet.{Sheet}
+use Rattle.books.proofs.Presses.{greatest-few}
 use Rattle.books.proofs.Area.{within-room}
-use Rattle.books.proofs.ReadingCells.{Fit, stored-first}
+use Rattle.books.proofs.ReadingCells.{Fit, no-cells, stored-first}
 use Rattle.books.proofs.ReadingSheets.{sheet-staged, staged-cells}
 
 -- ── What is accepted is a spelling ──
 
 -- an accepted sheet has contents that keep the rules, and is their spelling
-pub record SheetSpelled (s : List ℕ) (h : Sheet) : Type 0 where
-  pub keeps : GridKeeps (gridIn s h)
+pub record SheetSpelled (press : ℕ) (s : List ℕ) (h : Sheet) : Type 0 where
+  pub keeps : GridKeeps press (gridIn s h)
   pub spelled : s ≡ spellSheet (gridIn s h)
 
-module _ (s : List ℕ) (bytes : Bytes s) (z : sheetOf s .fault .number ≡ 0) where
-  pub sheet-accepted : SheetSpelled s (sheetOf s .sheet)
+module _ (press : ℕ) (s : List ℕ) (bytes : Bytes s) (z : sheetOf press s .fault .number ≡ 0) where
+  pub sheet-accepted : SheetSpelled press s (sheetOf press s .sheet)
   sheet-accepted =
-      let g = sheet-staged s z in
+      let g = sheet-staged press s z in
       let c = colours-accepted s bytes (ap (λ (f : Fault). f .number) (g .listed .fine)) in
       let size = g .sized in
-      let stand = staged-cells s (sheetOf s) g in
+      let stand = staged-cells press s (sheetOf press s) g in
       let ticket = number-spelled s bytes _ _ _ (g .ticketed) in
-      let rows = number-spelled s bytes _ _ _ (number-there s _ 1 greatest _ _ (size .rows-there)) in
-      let cols = number-spelled s bytes _ _ _ (number-there s _ 1 greatest _ _ (size .cols-there)) in
+      let rows = number-spelled s bytes _ _ _ (number-there s _ 1 (greatestOf press) _ _ (size .rows-there)) in
+      let cols = number-spelled s bytes _ _ _ (number-there s _ 1 (greatestOf press) _ _ (size .cols-there)) in
       let cells : drop (g .at) s ≡ spellCells (g .filled .new) = g .filled .spelled bytes ∙ (rw (drop-of-length-le s (g .ended)) (append-nil _)) in
       record {
         keeps = record {
@@ -63,9 +65,9 @@ module _ (s : List ℕ) (bytes : Bytes s) (z : sheetOf s .fault .number ≡ 0) w
       }
 
 -- two accepted inputs with the same contents are the same input
-pub one-spelling : (s t : List ℕ) → Bytes s → Bytes t → sheetOf s .fault .number ≡ 0 → sheetOf t .fault .number ≡ 0
-    → gridIn s (sheetOf s .sheet) ≡ gridIn t (sheetOf t .sheet) → s ≡ t
-one-spelling s t bs bt zs zt e = sheet-accepted s bs zs .spelled ∙ (ap spellSheet e ∙ sym (sheet-accepted t bt zt .spelled))
+pub one-spelling : (press : ℕ) (s t : List ℕ) → Bytes s → Bytes t → sheetOf press s .fault .number ≡ 0 → sheetOf press t .fault .number ≡ 0
+    → gridIn s (sheetOf press s .sheet) ≡ gridIn t (sheetOf press t .sheet) → s ≡ t
+one-spelling press s t bs bt zs zt e = sheet-accepted press s bs zs .spelled ∙ (ap spellSheet e ∙ sym (sheet-accepted press t bt zt .spelled))
 
 -- ── A spelling is accepted ──
 
@@ -104,11 +106,18 @@ module _ (s : List ℕ) where
       simp first (others ∙ rw (add-one, end))
 
 -- the sheet that contents are read back as
-abbrev pub sheetFor : Grid → Sheet
-sheetFor g = record { colours = coloursOf (spellSheet g) .colours; ticket = g .ticket; size = sizeBy (g .rows) (g .cols); cells = sets noCells 0 (g .cells) }
+abbrev pub sheetFor : ℕ → Grid → Sheet
+sheetFor press g =
+    record {
+      colours = coloursOf (spellSheet g) .colours;
+      ticket = g .ticket;
+      most = greatestOf press;
+      size = sizeBy (g .rows) (g .cols);
+      cells = sets noCells 0 (g .cells);
+    }
 
-module _ (g : Grid) (k : GridKeeps g) where
-  sheet-read : sheetOf (spellSheet g) ≡ record { fault = fault 0 0; sheet = sheetFor g }
+module _ (press : ℕ) (g : Grid) (k : GridKeeps press g) where
+  sheet-read : sheetOf press (spellSheet g) ≡ record { fault = fault 0 0; sheet = sheetFor press g }
   unfolding sheetOf filledAt cellsAt
   sheet-read =
       let s = spellSheet g in
@@ -133,19 +142,19 @@ module _ (g : Grid) (k : GridKeeps g) where
       let cols-inside = past-inside s rows (cols ++ cells) at-rows rows-inside rows-there in
       let cells-inside = past-inside s cols cells at-cols cols-inside cols-there in
       let job = number-reads-at s (rows ++ (cols ++ cells)) at-ticket (g .ticket) ticket-inside (k .ticket-few) ticket-there in
-      let size = size-read s greatest at-rows (g .rows) (g .cols) cells (omega arith) rows-inside (k .within) rows-there in
+      let size = size-read s (greatestOf press) at-rows (g .rows) (g .cols) cells (omega (arith, greatest-few press)) rows-inside (k .within) rows-there in
       let filled = cells-read s (length (g .colours)) few (g .cells) noCells 0 at-cells [] cells-inside (k .cells-fit) cells-there in
       let end : length s ≤ at-cells + length cells =
       omega (arith, length-drop (at-cells + length cells) s, ap (λ (x : List ℕ). length x) (drop-past s cells [] at-cells cells-there)) in
       simp (names .fine, names .next, job, size, count, ← k .cells-all, filled, le-ltb (at-cells + length cells) (length s) end)
 
   -- its contents
-  sheet-contents : gridIn (spellSheet g) (sheetFor g) ≡ g
+  sheet-contents : gridIn (spellSheet g) (sheetFor press g) ≡ g
   sheet-contents =
       let names = colours-read-back (g .colours) (spellNumber (g .ticket) ++ (spellNumber (g .rows) ++ (spellNumber (g .cols) ++ spellCells (g .cells)))) (k .colours-ok) in
-      let few : length (g .cells) ≤ length noCells = omega (arith, k .cells-all, within-room (k .within)) in
+      let few : length (g .cells) ≤ length noCells = omega (arith, k .cells-all, within-room press (k .within), no-cells) in
       ap₂ (λ (x : List Name) (y : List ℕ). record { colours = x; ticket = g .ticket; rows = g .rows; cols = g .cols; cells = y })
       (names .names) (rw (← k .cells-all) (stored-first noCells (g .cells) few))
 
-  pub sheet-read-back : (sheetOf (spellSheet g) .fault ≡ fault 0 0) × (gridIn (spellSheet g) (sheetOf (spellSheet g) .sheet) ≡ g)
+  pub sheet-read-back : (sheetOf press (spellSheet g) .fault ≡ fault 0 0) × (gridIn (spellSheet g) (sheetOf press (spellSheet g) .sheet) ≡ g)
   sheet-read-back = rw sheet-read (refl, sheet-contents)

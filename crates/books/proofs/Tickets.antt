@@ -21,8 +21,8 @@ same-picture n g = refl
 pub ticket-derives : (b : Contents) (a n : ℕ) (g : Grid) → Derives b a (picture (withTicket n g)) ↔ Derives b a (picture g)
 ticket-derives b a n g = same-derives (same-refl (picture g))
 
-pub ticket-keeps : (n : ℕ) (g : Grid) → n ≤ greatestNumber → GridKeeps g → GridKeeps (withTicket n g)
-ticket-keeps n g h k =
+pub ticket-keeps : (press n : ℕ) (g : Grid) → n ≤ greatestNumber → GridKeeps press g → GridKeeps press (withTicket n g)
+ticket-keeps press n g h k =
     record {
       colours-ok = k .colours-ok;
       ticket-few = h;
@@ -34,14 +34,14 @@ ticket-keeps n g h k =
 -- ── As bytes ──
 
 -- what a call makes of a book and an accepted sheet, it makes of the sheet's picture
-by-picture : {A : Type 0} (book sheet : List ℕ) (refuse : Answer → A) (go : Contents → Picture → A) → sheetOf sheet .fault .number ≡ 0
-    → lentBoth book sheet refuse go ≡ lentBook 1 book refuse (λ b. go b (pictureOf sheet))
-by-picture book sheet refuse go z = simp (eq-eqb (sheetOf sheet .fault .number) 0 z)
+by-picture : {A : Type 0} (press : ℕ) (book sheet : List ℕ) (refuse : Answer → A) (go : Contents → Picture → A) → sheetOf press sheet .fault .number ≡ 0
+    → lentBoth press book sheet refuse go ≡ lentBook 1 book refuse (λ b. go b (pictureOf press sheet))
+by-picture press book sheet refuse go z = simp (eq-eqb (sheetOf press sheet .fault .number) 0 z)
 
 -- so every call does the same with both, whatever the book
-pub ticket-alike : {A : Type 0} (book s t : List ℕ) (refuse : Answer → A) (go : Contents → Picture → A) → SameButTicket s t
-    → lentBoth book t refuse go ≡ lentBoth book s refuse go
-ticket-alike book s t refuse go x =
-    by-picture book t refuse go (x .second-fine)
+pub ticket-alike : {A : Type 0} (press : ℕ) (book s t : List ℕ) (refuse : Answer → A) (go : Contents → Picture → A) → SameButTicket press s t
+    → lentBoth press book t refuse go ≡ lentBoth press book s refuse go
+ticket-alike press book s t refuse go x =
+    by-picture press book t refuse go (x .second-fine)
     ∙ ap (λ (p : Picture). lentBook 1 book refuse (λ b. go b p)) (ap picture (x .else-same))
-    ∙ sym (by-picture book s refuse go (x .first-fine))
+    ∙ sym (by-picture press book s refuse go (x .first-fine))

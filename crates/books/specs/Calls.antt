@@ -1,4 +1,4 @@
--- What the calls on one book or one sheet answer.
+-- What the calls on one book or one sheet of a press answer.
 use Prim.Native.Nat.{ℕ, _+_, _*_, _^_}
 use mathlib.Core.List.{List}
 use lib.Dec.{ltb}
@@ -15,12 +15,12 @@ use Rattle.books.specs.declared.answer.Answer.{Answer}
 abbrev pub bookAnswer : List ℕ → Answer
 bookAnswer s = blaming 1 (bookOf s .fault)
 
-abbrev pub sheetAnswer : List ℕ → Answer
-sheetAnswer s = blaming 1 (sheetOf s .fault)
+abbrev pub sheetAnswer : ℕ → List ℕ → Answer
+sheetAnswer press s = blaming 1 (sheetOf press s .fault)
 
 -- the ticket of a sheet: a refused one has 0
-abbrev pub ticketOf : List ℕ → ℕ
-ticketOf s = sheetOf s .sheet .ticket
+abbrev pub ticketOf : ℕ → List ℕ → ℕ
+ticketOf press s = sheetOf press s .sheet .ticket
 
 -- the name of a colour of the book, and nothing where there is no such colour: a refused book has none
 abbrev pub shown : List ℕ → ℕ → Name

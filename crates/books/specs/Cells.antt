@@ -15,7 +15,7 @@ pub record CellsRead : Type 0 where
   pub next : ℕ
 
 -- no cells, and refused ones
-abbrev pub noCells : List ℕ
+unfoldable pub noCells : List ℕ
 noCells = replicate room 0
 
 abbrev pub refusedCells : Fault → CellsRead

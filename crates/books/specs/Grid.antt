@@ -7,7 +7,8 @@ use Rattle.names.specs.Number.{greatestNumber}
 use Rattle.names.specs.Name.{Name}
 use Rattle.names.specs.Spelling.{ColoursOk}
 use Rattle.books.specs.Picture.{Picture}
-use Rattle.books.specs.Size.{greatest, Within}
+use Rattle.books.specs.Press.{greatestOf}
+use Rattle.books.specs.Size.{Within}
 
 -- colour names in order, the job ticket, rows, columns, and a colour number for each cell, row by row
 pub record Grid : Type 0 where
@@ -17,10 +18,11 @@ pub record Grid : Type 0 where
   pub cols : ℕ
   pub cells : List ℕ
 
-pub record GridKeeps (g : Grid) : Type 0 where
+-- what they must keep on a press
+pub record GridKeeps (press : ℕ) (g : Grid) : Type 0 where
   pub colours-ok : ColoursOk (g .colours)
   pub ticket-few : g .ticket ≤ greatestNumber
-  pub within : Within greatest (g .rows) (g .cols)
+  pub within : Within (greatestOf press) (g .rows) (g .cols)
   pub cells-all : length (g .cells) ≡ g .rows * g .cols
   pub cells-fit : (i : ℕ) → i < length (g .cells) → getD (g .cells) i 0 < length (g .colours)
 

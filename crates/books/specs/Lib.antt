@@ -18,6 +18,7 @@ pub mod ReadsBook
 pub mod ReadsSheet
 pub mod Book
 pub mod SpellBook
+pub mod Press
 pub mod Size
 pub mod Cells
 pub mod Sheet

@@ -30,9 +30,9 @@ ruleOf s k = ruleWith (contentsOf s) k
 abbrev pub sizeIn : Grid → Size
 sizeIn g = sizeBy (g .rows) (g .cols)
 
--- that of a lent sheet; a refused one has no rows and no columns
-abbrev pub sizeOf : List ℕ → Size
-sizeOf s = sizeIn (gridIn s (sheetOf s .sheet))
+-- that of a lent sheet of a press; a refused one has no rows and no columns
+abbrev pub sizeOf : ℕ → List ℕ → Size
+sizeOf press s = sizeIn (gridIn s (sheetOf press s .sheet))
 
 -- ── The one number that a C host gets ──
 
@@ -51,8 +51,8 @@ packedSize z = z .rows + 2 ^ 32 * z .cols
 abbrev pub ruleShown : List ℕ → ℕ → ℕ
 ruleShown s k = packedFound (ruleOf s k)
 
-abbrev pub sizeShown : List ℕ → ℕ
-sizeShown s = packedSize (sizeOf s)
+abbrev pub sizeShown : ℕ → List ℕ → ℕ
+sizeShown press s = packedSize (sizeOf press s)
 
 -- how many of the customer's requests have landed
 abbrev pub version : ℕ

@@ -27,6 +27,6 @@ abbrev pub numbersFor : List ℕ → Colours → List ℕ → Sheet → List ℕ
 numbersFor book c sheet g = pick (ltb mostColours (c .count)) noCells (numbersOf book c sheet g)
 
 -- a sheet that is read for a book, told in parts: its figures, and the numbers of its cells, which are in an array
-pub record Numbers (book : List ℕ) (c : Colours) (sheet : List ℕ) (r : SheetFigures) (numbers : List ℕ) : Type 0 where
-  pub figures : r ≡ sheetFigures (sheetOf sheet)
-  pub cells : numbers ≡ numbersFor book c sheet (sheetOf sheet .sheet)
+pub record Numbers (press : ℕ) (book : List ℕ) (c : Colours) (sheet : List ℕ) (r : SheetFigures) (numbers : List ℕ) : Type 0 where
+  pub figures : r ≡ sheetFigures (sheetOf press sheet)
+  pub cells : numbers ≡ numbersFor book c sheet (sheetOf press sheet .sheet)

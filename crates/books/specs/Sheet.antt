@@ -1,4 +1,4 @@
--- What reading a sheet finds: a colour list, the job ticket, rows and columns, one colour number per cell, and nothing after them.
+-- What reading a sheet of a press finds: a colour list, the job ticket, rows and columns, one colour number per cell, and nothing after them.
 use Prim.Native.Nat.{ℕ, _*_}
 use mathlib.Core.Path.{_≡_}
 use mathlib.Core.List.{List}
@@ -8,7 +8,8 @@ use Rattle.names.specs.Number.{numberAt}
 use Rattle.names.specs.Colours.{noColours, coloursOf, afterColours}
 use Rattle.names.specs.declared.number.Fault.{Fault}
 use Rattle.names.specs.declared.colours.Colours.{Colours}
-use Rattle.books.specs.Size.{greatest, sizeBy, sizeAt, afterSize}
+use Rattle.books.specs.Press.{greatestOf}
+use Rattle.books.specs.Size.{sizeBy, sizeAt, afterSize}
 use Rattle.books.specs.Cells.{CellsRead, noCells, cellsAt, afterCells}
 use Rattle.books.specs.declared.size.Size.{Size}
 use Rattle.books.specs.declared.sheet.Sheet.{Sheet}
@@ -17,28 +18,28 @@ use Rattle.books.specs.declared.sheet.SheetRead.{SheetRead}
 
 -- no sheet, and a refused one
 abbrev pub noSheet : Sheet
-noSheet = record { colours = noColours; ticket = 0; size = sizeBy 0 0; cells = noCells }
+noSheet = record { colours = noColours; ticket = 0; most = 0; size = sizeBy 0 0; cells = noCells }
 
 abbrev pub refusedSheet : Fault → SheetRead
 refusedSheet f = record { fault = f; sheet = noSheet }
 
--- the sheet ends with its cells
-unfoldable pub filledAt : List ℕ → Colours → ℕ → Size → CellsRead → SheetRead
-filledAt s c ticket size r =
+-- the sheet ends with its cells; its press has at most so many rows and columns
+unfoldable pub filledAt : List ℕ → ℕ → Colours → ℕ → Size → CellsRead → SheetRead
+filledAt s most c ticket size r =
     afterCells refusedSheet r (λ cells next.
-    ending refusedSheet s next (record { fault = fault 0 0; sheet = record { colours = c; ticket = ticket; size = size; cells = cells } }))
+    ending refusedSheet s next (record { fault = fault 0 0; sheet = record { colours = c; ticket = ticket; most = most; size = size; cells = cells } }))
 
--- colours, then the ticket, which may be any number, then rows and columns, then a cell for each of both
-unfoldable pub sheetOf : List ℕ → SheetRead
-sheetOf s =
+-- colours, then the ticket, which may be any number, then rows and columns, as many as the press has at most, then a cell for each of both
+unfoldable pub sheetOf : ℕ → List ℕ → SheetRead
+sheetOf press s =
     afterColours refusedSheet (coloursOf s) (λ c at.
     onward refusedSheet (numberAt s at) (λ ticket then.
-    afterSize refusedSheet (sizeAt s then greatest) (λ size next.
-    filledAt s c ticket size (cellsAt s (c .count) next (size .rows * size .cols)))))
+    afterSize refusedSheet (sizeAt s then (greatestOf press)) (λ size next.
+    filledAt s (greatestOf press) c ticket size (cellsAt s (c .count) next (size .rows * size .cols)))))
 
 -- what is told of a sheet that was read, beside its names and cells
 abbrev pub sheetFigures : SheetRead → SheetFigures
-sheetFigures g = record { fault = g .fault; colours = g .sheet .colours .count; ticket = g .sheet .ticket; size = g .sheet .size }
+sheetFigures g = record { fault = g .fault; colours = g .sheet .colours .count; ticket = g .sheet .ticket; most = g .sheet .most; size = g .sheet .size }
 
 -- a sheet that was read, told in parts: its figures, and its colours' places and lengths and its cells, which are in three arrays
 pub record SheetInto (g : SheetRead) (r : SheetFigures) (places sizes numbers : List ℕ) : Type 0 where

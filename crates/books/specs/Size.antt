@@ -1,5 +1,5 @@
 -- The size of a sheet, and what reading it finds: rows, then columns, each from 1 to the most that a sheet may have.
-use Prim.Native.Nat.{ℕ, _≤_}
+use Prim.Native.Nat.{ℕ, _*_, _≤_}
 use mathlib.Core.Bool.{Bool}
 use mathlib.Core.List.{List}
 use lib.Dec.{ltb, leb}
@@ -7,17 +7,14 @@ use Rattle.names.specs.Pick.{andThen}
 use Rattle.names.specs.Onward.{onward}
 use Rattle.names.specs.Number.{numberIn}
 use Rattle.names.specs.declared.number.Fault.{Fault}
+use Rattle.books.specs.Press.{widest}
 use Rattle.books.specs.declared.size.Size.{Size}
 use Rattle.books.specs.declared.size.SizeRead.{SizeRead}
 use Rattle.books.specs.declared.size.SizeRead.the-variants.{By, Refused as RefusedSize}
 
--- the greatest number of rows, and of columns
-abbrev pub greatest : ℕ
-greatest = 12
-
--- the cells that an array has room for: at least those of a sheet with the greatest number of both
+-- the cells that an array has room for: those of a sheet with the greatest number of rows and columns of any press
 abbrev pub room : ℕ
-room = 144
+room = widest * widest
 
 abbrev pub sizeBy : ℕ → ℕ → Size
 sizeBy rows cols = record { rows = rows; cols = cols }

@@ -12,7 +12,7 @@ abbrev pub withTicket : ℕ → Grid → Grid
 withTicket n g = record { colours = g .colours; ticket = n; rows = g .rows; cols = g .cols; cells = g .cells }
 
 -- two sheets as bytes, both accepted, whose contents are the same but for the ticket
-pub record SameButTicket (s t : List ℕ) : Type 0 where
-  pub first-fine : sheetOf s .fault .number ≡ 0
-  pub second-fine : sheetOf t .fault .number ≡ 0
-  pub else-same : gridIn t (sheetOf t .sheet) ≡ withTicket (ticketOf t) (gridIn s (sheetOf s .sheet))
+pub record SameButTicket (press : ℕ) (s t : List ℕ) : Type 0 where
+  pub first-fine : sheetOf press s .fault .number ≡ 0
+  pub second-fine : sheetOf press t .fault .number ≡ 0
+  pub else-same : gridIn t (sheetOf press t .sheet) ≡ withTicket (ticketOf press t) (gridIn s (sheetOf press s .sheet))

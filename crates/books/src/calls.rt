@@ -20,9 +20,9 @@ pub extern "C" fn dv_read_book(book: &[u8]) -> u64
 // Whether these bytes are a sheet; the answer blames input 1, and its count is the sheet's ticket.
 #[no_mangle]
 pub extern "C" fn dv_read_sheet(sheet: &[u8]) -> u64
-    ensures { λ r. ⌜ r ≡ packed (sheetAnswer (now (sheet .entry))) (ticketOf (now (sheet .entry))) ⌝ }
+    ensures { λ r. ⌜ r ≡ packed (sheetAnswer 0 (now (sheet .entry))) (ticketOf 0 (now (sheet .entry))) ⌝ }
 {
-    let g = sheet::sheet_figures(sheet);
+    let g = sheet::sheet_figures(0, sheet);
     answer::pack(answer::blame(1, g.fault), g.ticket)
 }
 

@@ -11,6 +11,7 @@ pub mod lent;
 pub mod lookups;
 mod measuring;
 pub mod numbering;
+pub mod press;
 pub mod rule;
 mod rules;
 pub mod sheet;

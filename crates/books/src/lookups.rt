@@ -28,9 +28,9 @@ pub fn rule(book: &[u8], number: usize) -> RuleFound
 
 // Rows and columns of a sheet. A refused one has none.
 pub fn sheet_size(sheet: &[u8]) -> Size
-    ensures { λ r. ⌜ r ≡ sizeOf (now (sheet .entry)) ⌝ }
+    ensures { λ r. ⌜ r ≡ sizeOf 0 (now (sheet .entry)) ⌝ }
 {
-    let g = sheet_figures(sheet);
+    let g = sheet_figures(0, sheet);
     g.size
 }
 
@@ -56,7 +56,7 @@ pub extern "C" fn dv_rule(book: &[u8], number: usize) -> u64
 // Rows and columns of a sheet, for the C host: in one number, or 0.
 #[no_mangle]
 pub extern "C" fn dv_sheet_size(sheet: &[u8]) -> u64
-    ensures { λ r. ⌜ r ≡ sizeShown (now (sheet .entry)) ⌝ }
+    ensures { λ r. ⌜ r ≡ sizeShown 0 (now (sheet .entry)) ⌝ }
 {
     let size = sheet_size(sheet);
     size.rows as u64 + 4294967296 * (size.cols as u64)

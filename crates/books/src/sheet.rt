@@ -1,7 +1,7 @@
 // A sheet as it is read: a colour list, the job ticket, rows and columns, then one colour number per cell, row by row.
 use crate::cells;
+use crate::press::greatest;
 use crate::size;
-use crate::size::GREATEST;
 use crate::size::ROOM;
 use crate::size::Size;
 use crate::size::SizeRead;
@@ -20,15 +20,16 @@ ghost use Rattle.books.specs.Sheet.{refusedSheet, filledAt, sheetOf, she
 ghost use Rattle.books.specs.inner.Parts.{Fillable};
 
 // The colours are places in the lent sheet; the ticket has no part in what is derived; the first rows times columns cells stand, row by row, and
-// the others are 0.
+// the others are 0. Its press has at most so many rows and columns.
 pub struct Sheet {
     pub colours: Colours,
     pub ticket: usize,
+    pub most: usize,
     pub size: Size,
     pub cells: [u8; ROOM],
 }
 
-// A sheet that was read; a refused one has no colours, the ticket 0, no rows, no columns, and cells 0.
+// A sheet that was read; a refused one has no colours, no rows, no columns, cells 0, and every other number 0.
 pub struct SheetRead {
     pub fault: Fault,
     pub sheet: Sheet,
@@ -39,6 +40,7 @@ pub struct SheetFigures {
     pub fault: Fault,
     pub colours: usize,
     pub ticket: usize,
+    pub most: usize,
     pub size: Size,
 }
 
@@ -58,6 +60,7 @@ fn refuse_sheet(
         fault: f,
         colours: 0,
         ticket: 0,
+        most: 0,
         size: Size { rows: 0, cols: 0 },
     }
 }
@@ -72,7 +75,7 @@ fn fill_sheet(
     cells: &mut [u8; ROOM],
 ) -> SheetFigures
     requires { ⌜ Fillable g ⌝ }
-    ensures { λ r. ⌜ SheetInto (filledAt (now (s .entry)) (listOf (g .colours) (now (starts .entry)) (now (lens .entry))) (g .ticket) (g .size)
+    ensures { λ r. ⌜ SheetInto (filledAt (now (s .entry)) (g .most) (listOf (g .colours) (now (starts .entry)) (now (lens .entry))) (g .ticket) (g .size)
         (cellsAt (now (s .entry)) (g .colours) from (g .size .rows * g .size .cols))) r (now (starts .exit)) (now (lens .exit)) (now (cells .exit)) ⌝ }
 {
     let end = cells::read_cells(s, from, g.colours, g.size.rows * g.size.cols, cells);
@@ -86,15 +89,16 @@ fn fill_sheet(
     g
 }
 
-// The sheet that the input is, read into lent arrays: whatever they held, they end with the places and lengths of its colours' names and with its
+// The sheet of a press that the input is, read into lent arrays: whatever they held, they end with the places and lengths of its colours' names and with its
 // cells, and 0 past them.
 pub fn read_sheet_into(
+    press: usize,
     s: &[u8],
     starts: &mut [u16; MOST_COLOURS],
     lens: &mut [u8; MOST_COLOURS],
     cells: &mut [u8; ROOM],
 ) -> SheetFigures
-    ensures { λ r. ⌜ SheetInto (sheetOf (now (s .entry))) r (now (starts .exit)) (now (lens .exit)) (now (cells .exit)) ⌝ }
+    ensures { λ r. ⌜ SheetInto (sheetOf press (now (s .entry))) r (now (starts .exit)) (now (lens .exit)) (now (cells .exit)) ⌝ }
 {
     let list = colours::read_list(s, starts, lens);
     let f = list.fault;
@@ -105,7 +109,8 @@ pub fn read_sheet_into(
     match job {
         Read::Refused(e) => refuse_sheet(e, starts, lens, cells),
         Read::Value(ticket, then) => {
-            let read = size::read_size(s, then, GREATEST);
+            let most = greatest(press);
+            let read = size::read_size(s, then, most);
             match read {
                 SizeRead::Refused(e) => refuse_sheet(e, starts, lens, cells),
                 SizeRead::By { size, next } => {
@@ -113,6 +118,7 @@ pub fn read_sheet_into(
                         fault: f,
                         colours: list.count,
                         ticket,
+                        most,
                         size,
                     };
                     fill_sheet(s, g, next, starts, lens, cells)
@@ -123,23 +129,23 @@ pub fn read_sheet_into(
 }
 
 // The figures alone.
-pub fn sheet_figures(s: &[u8]) -> SheetFigures
-    ensures { λ r. ⌜ r ≡ sheetFigures (sheetOf (now (s .entry))) ⌝ }
+pub fn sheet_figures(press: usize, s: &[u8]) -> SheetFigures
+    ensures { λ r. ⌜ r ≡ sheetFigures (sheetOf press (now (s .entry))) ⌝ }
 {
     let mut starts = [0u16; MOST_COLOURS];
     let mut lens = [0u8; MOST_COLOURS];
     let mut cells = [0u8; ROOM];
-    read_sheet_into(s, &mut starts, &mut lens, &mut cells)
+    read_sheet_into(press, s, &mut starts, &mut lens, &mut cells)
 }
 
 // The same sheet as a value.
-pub fn read_sheet(s: &[u8]) -> SheetRead
-    ensures { λ r. ⌜ r ≡ sheetOf (now (s .entry)) ⌝ }
+pub fn read_sheet(press: usize, s: &[u8]) -> SheetRead
+    ensures { λ r. ⌜ r ≡ sheetOf press (now (s .entry)) ⌝ }
 {
     let mut starts = [0u16; MOST_COLOURS];
     let mut lens = [0u8; MOST_COLOURS];
     let mut cells = [0u8; ROOM];
-    let g = read_sheet_into(s, &mut starts, &mut lens, &mut cells);
+    let g = read_sheet_into(press, s, &mut starts, &mut lens, &mut cells);
     let fault = g.fault;
     let size = g.size;
     SheetRead {
@@ -151,6 +157,7 @@ pub fn read_sheet(s: &[u8]) -> SheetRead
                 lens,
             },
             ticket: g.ticket,
+            most: g.most,
             size,
             cells,
         },

@@ -1,15 +1,13 @@
 // How many rows and columns a sheet has.
+use crate::press::WIDEST;
 use names::number;
 use names::number::Fault;
 use names::number::Read;
 ghost use mathlib.Core.Path.{_≡_};
 ghost use Rattle.books.specs.Size.{sizeAt, oneTo?, within?};
 
-// The greatest number of rows, and of columns.
-pub const GREATEST: usize = 12;
-
-// The cells that an array has room for: at least those of a sheet with the greatest number of both.
-pub const ROOM: usize = 144;
+// The cells that an array has room for: those of a sheet with the greatest number of rows and columns of any press.
+pub const ROOM: usize = WIDEST * WIDEST;
 
 // Rows and columns.
 pub struct Size {

@@ -29,23 +29,23 @@ use Rattle.pieces.specs.Recolour.{has?, sheetWith, ruled, refilled, Recolouring
 use Rattle.pieces.proofs.Demand1.{InBook, InSheet, not-input}
 use Rattle.pieces.proofs.Recolouring.{Has, has-it, it-has}
 
-module _ (book sheet entries : List ℕ) (row column colour : ℕ) where
+module _ (press : ℕ) (book sheet entries : List ℕ) (row column colour : ℕ) where
   -- the sheet has the cell and the colour
   abbrev pub Found : Type 0
-  Found = Has (sheetOf sheet .sheet .size) (sheetOf sheet .sheet .colours .count) row column colour
+  Found = Has (sheetOf press sheet .sheet .size) (sheetOf press sheet .sheet .colours .count) row column colour
 
   abbrev pub Short : Type 0
-  Short = length entries < entriesNeeded (pictureOf sheet)
+  Short = length entries < entriesNeeded (pictureOf press sheet)
 
   -- ── The five ways in which it ends ──
 
   pub record Cases (P : Recolouring → Type 0) : Type 0 where
     pub in-book : (bookOf book .fault .number ≡ 0 → ⊥) → P (untouched (answer (bookOf book .fault .number) 1 (bookOf book .fault .place)) sheet entries)
-    pub in-sheet : bookOf book .fault .number ≡ 0 → (sheetOf sheet .fault .number ≡ 0 → ⊥)
-        → P (untouched (answer (sheetOf sheet .fault .number) 2 (sheetOf sheet .fault .place)) sheet entries)
-    pub no-cell : Accepted book sheet → (Found → ⊥) → P (untouched (plain 19) sheet entries)
-    pub short-work : Accepted book sheet → Found → Short → P (untouched (plain 9) sheet entries)
-    pub recoloured : Accepted book sheet → Found → (Short → ⊥) → (n : ℕ) → (n ≡ 0) ⊎ (n ≡ 11) → (bytes work : List ℕ)
+    pub in-sheet : bookOf book .fault .number ≡ 0 → (sheetOf press sheet .fault .number ≡ 0 → ⊥)
+        → P (untouched (answer (sheetOf press sheet .fault .number) 2 (sheetOf press sheet .fault .place)) sheet entries)
+    pub no-cell : Accepted press book sheet → (Found → ⊥) → P (untouched (plain 19) sheet entries)
+    pub short-work : Accepted press book sheet → Found → Short → P (untouched (plain 9) sheet entries)
+    pub recoloured : Accepted press book sheet → Found → (Short → ⊥) → (n : ℕ) → (n ≡ 0) ⊎ (n ≡ 11) → (bytes work : List ℕ)
         → P (record { answer = plain n; bytes = bytes; entries = work })
 
   zero-or-eleven : (m n : ℕ) (t : List ℕ) (start : ℕ) → (startAnswer m n t start ≡ 0) ⊎ (startAnswer m n t start ≡ 11)
@@ -53,30 +53,30 @@ module _ (book sheet entries : List ℕ) (row column colour : ℕ) where
   zero-or-eleven m n t start = pick-ind (λ (x : ℕ). (x ≡ 0) ⊎ (x ≡ 11)) (marked m n t start (whole m n)) 0 11 (λ _. inl refl) (λ _. inr refl)
 
   module _ (P : Recolouring → Type 0) (cases : Cases P) where
-    by-room : Accepted book sheet → Found → (b : Contents)
-        → P (pick (ltb (length entries) (entriesNeeded (pictureOf sheet))) (untouched (plain 9) sheet entries) (recast b (sheetWith sheet row column colour) row column entries))
+    by-room : Accepted press book sheet → Found → (b : Contents)
+        → P (pick (ltb (length entries) (entriesNeeded (pictureOf press sheet))) (untouched (plain 9) sheet entries) (recast press b (sheetWith press sheet row column colour) row column entries))
     unfolding recast
     by-room fine found b =
-        pick-ind P (ltb (length entries) (entriesNeeded (pictureOf sheet))) (untouched (plain 9) sheet entries) (recast b (sheetWith sheet row column colour) row column entries)
+        pick-ind P (ltb (length entries) (entriesNeeded (pictureOf press sheet))) (untouched (plain 9) sheet entries) (recast press b (sheetWith press sheet row column colour) row column entries)
         (λ e. cases .short-work fine found (ltb-true _ _ e))
         (λ e.
-        let p = pictureOf (sheetWith sheet row column colour) in
+        let p = pictureOf press (sheetWith press sheet row column colour) in
         let work = refilled (ruled b p) (p .rows) (p .cols) row column entries in
-        cases .recoloured fine found (λ s. let long = ltb-false (length entries) (entriesNeeded (pictureOf sheet)) e in omega arith)
-        (startAnswer (p .rows) (p .cols) work (b .start)) (zero-or-eleven (p .rows) (p .cols) work (b .start)) (sheetWith sheet row column colour) work)
+        cases .recoloured fine found (λ s. let long = ltb-false (length entries) (entriesNeeded (pictureOf press sheet)) e in omega arith)
+        (startAnswer (p .rows) (p .cols) work (b .start)) (zero-or-eleven (p .rows) (p .cols) work (b .start)) (sheetWith press sheet row column colour) work)
 
-    pub recolouring-ends : P (recolouring book sheet entries row column colour)
+    pub recolouring-ends : P (recolouring press book sheet entries row column colour)
     unfolding recolouring
     recolouring-ends =
-        both-end P (λ a. untouched a sheet entries) book sheet
-        (λ b p. pick (has? (sheetOf sheet .sheet .size) (sheetOf sheet .sheet .colours .count) row column colour)
-        (pick (ltb (length entries) (entriesNeeded p)) (untouched (plain 9) sheet entries) (recast b (sheetWith sheet row column colour) row column entries))
+        both-end P (λ a. untouched a sheet entries) press book sheet
+        (λ b p. pick (has? (sheetOf press sheet .sheet .size) (sheetOf press sheet .sheet .colours .count) row column colour)
+        (pick (ltb (length entries) (entriesNeeded p)) (untouched (plain 9) sheet entries) (recast press b (sheetWith press sheet row column colour) row column entries))
         (untouched (plain 19) sheet entries))
         (record {
           in-book = cases .in-book;
           in-sheet = cases .in-sheet;
           in-neither = λ fine.
-              pick-ind P (has? (sheetOf sheet .sheet .size) (sheetOf sheet .sheet .colours .count) row column colour) _ (untouched (plain 19) sheet entries)
+              pick-ind P (has? (sheetOf press sheet .sheet .size) (sheetOf press sheet .sheet .colours .count) row column colour) _ (untouched (plain 19) sheet entries)
               (λ h. by-room fine (has-it _ _ row column colour h) (contentsOf book))
               (λ h. cases .no-cell fine (λ found. true≢false (sym (it-has _ _ row column colour found) ∙ h)));
         })
@@ -84,11 +84,11 @@ module _ (book sheet entries : List ℕ) (row column colour : ℕ) where
   -- ── What each answer says ──
 
   pub record Answered (number blamed place : ℕ) (sheet-left work-left : List ℕ) : Type 0 where
-    pub faulty : ((1 ≤ number) × InputsNumber number) ↔ (Accepted book sheet → ⊥)
-    pub faults : 1 ≤ number → InputsNumber number → InBook book number blamed place ⊎ InSheet book sheet number blamed place
-    pub nineteen : (number ≡ 19) ↔ (Accepted book sheet × (Found → ⊥))
-    pub nine : (number ≡ 9) ↔ (Accepted book sheet × Found × Short)
-    pub done : ((number ≡ 0) ⊎ (number ≡ 11)) ↔ (Accepted book sheet × Found × (Short → ⊥))
+    pub faulty : ((1 ≤ number) × InputsNumber number) ↔ (Accepted press book sheet → ⊥)
+    pub faults : 1 ≤ number → InputsNumber number → InBook book number blamed place ⊎ InSheet press book sheet number blamed place
+    pub nineteen : (number ≡ 19) ↔ (Accepted press book sheet × (Found → ⊥))
+    pub nine : (number ≡ 9) ↔ (Accepted press book sheet × Found × Short)
+    pub done : ((number ≡ 0) ⊎ (number ≡ 11)) ↔ (Accepted press book sheet × Found × (Short → ⊥))
     pub unblamed : ((1 ≤ number) × InputsNumber number → ⊥) → (blamed ≡ 0) × (place ≡ 0)
     pub unwritten : ((number ≡ 0) ⊎ (number ≡ 11) → ⊥) → (sheet-left ≡ sheet) × (work-left ≡ entries)
 
@@ -101,7 +101,7 @@ module _ (book sheet entries : List ℕ) (row column colour : ℕ) where
   done-unlisted h g (inr e) = not-input 11 (subst InputsNumber e g) (omega arith) (λ u. omega arith)
 
   -- a fault in an input
-  faulted : (n blamed place : ℕ) → 1 ≤ n → InputsNumber n → (Accepted book sheet → ⊥) → InBook book n blamed place ⊎ InSheet book sheet n blamed place
+  faulted : (n blamed place : ℕ) → 1 ≤ n → InputsNumber n → (Accepted press book sheet → ⊥) → InBook book n blamed place ⊎ InSheet press book sheet n blamed place
       → Answered n blamed place sheet entries
   faulted n blamed place some known bad where-is =
       record {
@@ -114,13 +114,13 @@ module _ (book sheet entries : List ℕ) (row column colour : ℕ) where
         unwritten = λ _. (refl, refl);
       }
 
-  obeys : Obeys (recolouring book sheet entries row column colour)
+  obeys : Obeys (recolouring press book sheet entries row column colour)
   obeys =
       recolouring-ends Obeys
       (record {
         in-book = λ n. let f = book-refused book n .blamed in
             faulted _ 1 _ (f .some) (f .known) (λ fine. n (fine .book-fine)) (inl (record { number-is = refl; place-is = refl; first = refl; inside = f .inside }));
-        in-sheet = λ z n. let f = sheet-refused sheet n .blamed in
+        in-sheet = λ z n. let f = sheet-refused press sheet n .blamed in
             faulted _ 2 _ (f .some) (inl (f .known)) (λ fine. n (fine .sheet-fine))
             (inr (record { book-fine = z; number-is = refl; place-is = refl; second = refl; inside = f .inside }));
         no-cell = λ fine none.
@@ -155,12 +155,12 @@ module _ (book sheet entries : List ℕ) (row column colour : ℕ) where
             };
       })
 
-  packs : Packs (recolouring book sheet entries row column colour .answer) 0
+  packs : Packs (recolouring press book sheet entries row column colour .answer) 0
   packs =
       recolouring-ends (λ d. Packs (d .answer) 0)
       (record {
         in-book = λ n. rw (ne-eqb (bookOf book .fault .number) 0 n) at (book-placed book 1 (omega arith) .packs);
-        in-sheet = λ z n. rw (ne-eqb (sheetOf sheet .fault .number) 0 n) at (sheet-placed sheet 2 (omega arith) .packs);
+        in-sheet = λ z n. rw (ne-eqb (sheetOf press sheet .fault .number) 0 n) at (sheet-placed press sheet 2 (omega arith) .packs);
         no-cell = λ fine none. plain-packs 19 0 (omega arith) (omega arith);
         short-work = λ fine found short. plain-packs 9 0 (omega arith) (omega arith);
         recoloured = λ fine found long n told bytes work. plain-packs n 0 (⊎-elim (λ e. omega arith) (λ e. omega arith) told) (omega arith);
@@ -172,9 +172,9 @@ module _ (book sheet entries : List ℕ) (row column colour : ℕ) where
     pub answered : Answered (r % 2 ^ 8) (r / 2 ^ 8 % 2 ^ 4) (r / 2 ^ 12 % 2 ^ 20) sheet-left work-left
     pub counted : r / 2 ^ 32 ≡ 0
 
-  pub dv-recolour-called : {r : ℕ} {sheet-left work-left : List ℕ} → RecoloursPacked (recolouring book sheet entries row column colour) r sheet-left work-left
+  pub dv-recolour-called : {r : ℕ} {sheet-left work-left : List ℕ} → RecoloursPacked (recolouring press book sheet entries row column colour) r sheet-left work-left
       → Called r sheet-left work-left
   dv-recolour-called left =
-      let parts = apart (recolouring book sheet entries row column colour .answer) 0 packs in
+      let parts = apart (recolouring press book sheet entries row column colour .answer) 0 packs in
       rw (left .answers, left .leaves-sheet, left .leaves-work)
       (record { answered = rw (parts .number-is, parts .blamed-is, parts .place-is) obeys; counted = parts .count-is })

@@ -30,26 +30,26 @@ use Rattle.pieces.proofs.Ruled.{ruled-local}
 use Rattle.pieces.proofs.Slots.{slot-lt, slot-inj}
 
 -- the book and the sheet are accepted, the sheet has the cell and the colour, and the slice is long enough
-pub record Taken (book sheet entries : List ℕ) (row column colour : ℕ) : Type 0 where
+pub record Taken (press : ℕ) (book sheet entries : List ℕ) (row column colour : ℕ) : Type 0 where
   pub bytes-book : Bytes book
   pub bytes-sheet : Bytes sheet
-  pub fine : Accepted book sheet
-  pub has : Has (sheetOf sheet .sheet .size) (sheetOf sheet .sheet .colours .count) row column colour
-  pub room : entriesNeeded (pictureOf sheet) ≤ length entries
+  pub fine : Accepted press book sheet
+  pub has : Has (sheetOf press sheet .sheet .size) (sheetOf press sheet .sheet .colours .count) row column colour
+  pub room : entriesNeeded (pictureOf press sheet) ≤ length entries
 
-module _ (book sheet entries : List ℕ) (row column colour : ℕ) (t : Taken book sheet entries row column colour) where
+module _ (press : ℕ) (book sheet entries : List ℕ) (row column colour : ℕ) (t : Taken press book sheet entries row column colour) where
   abbrev pub left : Recolouring
-  left = recolouring book sheet entries row column colour
+  left = recolouring press book sheet entries row column colour
 
   abbrev b : Contents
   b = contentsOf book
 
   -- the sheet as it is left, and what it shows
   abbrev changed : List ℕ
-  changed = sheetWith sheet row column colour
+  changed = sheetWith press sheet row column colour
 
   abbrev p : Picture
-  p = pictureOf changed
+  p = pictureOf press changed
 
   pub sound : Sound b
   sound = book-accepted book (t .bytes-book) (t .fine .book-fine) .keeps .sound
@@ -57,22 +57,22 @@ module _ (book sheet entries : List ℕ) (row column colour : ℕ) (t : Taken bo
   is : left ≡ judgedSheet b p changed (refilled (ruled b p) (p .rows) (p .cols) row column entries)
   unfolding recast
   is =
-      recast-last book sheet entries row column colour (t .fine .book-fine) (t .fine .sheet-fine) (it-has _ _ row column colour (t .has))
-      (le-ltb (length entries) (entriesNeeded (pictureOf sheet)) (t .room))
+      recast-last press book sheet entries row column colour (t .fine .book-fine) (t .fine .sheet-fine) (it-has _ _ row column colour (t .has))
+      (le-ltb (length entries) (entriesNeeded (pictureOf press sheet)) (t .room))
 
   -- ── The sheet ──
 
   pub sheet-left : left .bytes ≡ changed
   sheet-left = ap (λ (x : Recolouring). x .bytes) is
 
-  pub still-accepted : sheetOf changed .fault .number ≡ 0
-  still-accepted = left-fine book sheet (t .bytes-book) (t .bytes-sheet) (t .fine .book-fine) (t .fine .sheet-fine) row column colour (t .has)
+  pub still-accepted : sheetOf press changed .fault .number ≡ 0
+  still-accepted = left-fine press book sheet (t .bytes-book) (t .bytes-sheet) (t .fine .book-fine) (t .fine .sheet-fine) row column colour (t .has)
 
   -- it is read as the old contents with that cell, ticket and all
-  pub read-with : gridIn changed (sheetOf changed .sheet) ≡ gridWith (gridIn sheet (sheetOf sheet .sheet)) row column colour
-  read-with = contents-with sheet (t .bytes-sheet) (t .fine .sheet-fine) row column colour (t .has .row-on) (t .has .column-on) (t .has .colour-in)
+  pub read-with : gridIn changed (sheetOf press changed .sheet) ≡ gridWith (gridIn sheet (sheetOf press sheet .sheet)) row column colour
+  read-with = contents-with press sheet (t .bytes-sheet) (t .fine .sheet-fine) row column colour (t .has .row-on) (t .has .column-on) (t .has .colour-in)
 
-  pub other-bytes : (i : ℕ) → (i ≡ cellPlace (length sheet) (sheetOf sheet .sheet .size) row column → ⊥) → getD changed i 0 ≡ getD sheet i 0
+  pub other-bytes : (i : ℕ) → (i ≡ cellPlace (length sheet) (sheetOf press sheet .sheet .size) row column → ⊥) → getD changed i 0 ≡ getD sheet i 0
   other-bytes i ne = getD-set-other sheet _ i colour 0 ne
 
   pub as-many-bytes : length changed ≡ length sheet
@@ -80,11 +80,11 @@ module _ (book sheet entries : List ℕ) (row column colour : ℕ) (t : Taken bo
 
   -- ── The entries ──
 
-  pub rows-same : p .rows ≡ pictureOf sheet .rows
-  rows-same = same-rows book sheet (t .bytes-book) (t .bytes-sheet) (t .fine .book-fine) (t .fine .sheet-fine) row column colour (t .has)
+  pub rows-same : p .rows ≡ pictureOf press sheet .rows
+  rows-same = same-rows press book sheet (t .bytes-book) (t .bytes-sheet) (t .fine .book-fine) (t .fine .sheet-fine) row column colour (t .has)
 
-  pub cols-same : p .cols ≡ pictureOf sheet .cols
-  cols-same = same-cols book sheet (t .bytes-book) (t .bytes-sheet) (t .fine .book-fine) (t .fine .sheet-fine) row column colour (t .has)
+  pub cols-same : p .cols ≡ pictureOf press sheet .cols
+  cols-same = same-cols press book sheet (t .bytes-book) (t .bytes-sheet) (t .fine .book-fine) (t .fine .sheet-fine) row column colour (t .has)
 
   long-enough : entriesNeeded p ≤ length entries
   long-enough = rw (rows-same, cols-same) (t .room)

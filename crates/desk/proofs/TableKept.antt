@@ -53,18 +53,18 @@ entries-hold b p t long right = record {
       ∙ ap (λ (k : ℕ). getD t k 0) (sym here) ∙ right q inq ∙ sym (table-at b p q inq) ∙ ap (λ (k : ℕ). getD (table b p) k 0) here);
 }
 
-module _ (book sheet entries : List ℕ) (row column colour : ℕ) (t : Taken book sheet entries row column colour) where
+module _ (press : ℕ) (book sheet entries : List ℕ) (row column colour : ℕ) (t : Taken press book sheet entries row column colour) where
   abbrev b : Contents
   b = contentsOf book
 
   abbrev old : Picture
-  old = pictureOf sheet
+  old = pictureOf press sheet
 
   abbrev p : Picture
-  p = pictureOf (sheetWith sheet row column colour)
+  p = pictureOf press (sheetWith press sheet row column colour)
 
   abbrev after : List ℕ
-  after = left book sheet entries row column colour t .entries
+  after = left press book sheet entries row column colour t .entries
 
   -- some masks serve the rules
   abbrev fire : Dir → ℕ → ℕ → ℕ
@@ -74,7 +74,7 @@ module _ (book sheet entries : List ℕ) (row column colour : ℕ) (t : Taken bo
   fires = split-serves (b .rules) (replicate allMasks 0) (rules-read book (t .fine .book-fine) .few) refl .fires
 
   was-inside : (q : Piece) → Inside (p .rows) (p .cols) q → Inside (old .rows) (old .cols) q
-  was-inside q inq = rw (rows-same book sheet entries row column colour t, cols-same book sheet entries row column colour t) at inq
+  was-inside q inq = rw (rows-same press book sheet entries row column colour t, cols-same press book sheet entries row column colour t) at inq
 
   module _ (held : Holds b old entries) where
     right : (k : ℕ) (q : Piece) → Inside (p .rows) (p .cols) q → slotOf (p .rows) (p .cols) q < k → at (p .rows) (p .cols) after q ≡ entry b (cut p q)
@@ -82,22 +82,22 @@ module _ (book sheet entries : List ℕ) (row column colour : ℕ) (t : Taken bo
     right (suc k) q inq l =
         ⊎-elim
         (λ h.
-        each-refilled book sheet entries row column colour t q inq (has-cell row column q .0 h)
+        each-refilled press book sheet entries row column colour t q inq (has-cell row column q .0 h)
         ∙ ⊎-elim
-        (λ large. large-right b (sound book sheet entries row column colour t) p q fire fires after large inq (λ x inx less. right k x inx (omega arith)))
-        (λ e. sym (cell-ruled b (sound book sheet entries row column colour t) p q after (ap (λ (x : Piece). x .height) (sym e)) (ap (λ (x : Piece). x .width) (sym e))))
+        (λ large. large-right b (sound press book sheet entries row column colour t) p q fire fires after large inq (λ x inx less. right k x inx (omega arith)))
+        (λ e. sym (cell-ruled b (sound press book sheet entries row column colour t) p q after (ap (λ (x : Piece). x .height) (sym e)) (ap (λ (x : Piece). x .width) (sym e))))
         (cell-or-larger (p .rows) (p .cols) q inq))
         (λ h.
         let far : HasCell row column q → ⊥ = λ y. true≢false (sym (has-cell row column q .1 y) ∙ h) in
         let was = was-inside q inq in
-        piece-kept book sheet entries row column colour t q inq far
-        ∙ rw (rows-same book sheet entries row column colour t, cols-same book sheet entries row column colour t) (held-entry b old entries held q was)
-        ∙ entry-same b (same-elsewhere sheet (t .bytes-sheet) (t .fine .sheet-fine) row column colour (t .has .row-on) (t .has .column-on) (t .has .colour-in) q was far))
+        piece-kept press book sheet entries row column colour t q inq far
+        ∙ rw (rows-same press book sheet entries row column colour t, cols-same press book sheet entries row column colour t) (held-entry b old entries held q was)
+        ∙ entry-same b (same-elsewhere press sheet (t .bytes-sheet) (t .fine .sheet-fine) row column colour (t .has .row-on) (t .has .column-on) (t .has .colour-in) q was far))
         (true-or-false (hasCell? row column q))
 
     -- the table of the old sheet becomes that of the new one
     pub table-kept : Holds b p after
     table-kept =
         entries-hold b p after
-        (rw (rows-same book sheet entries row column colour t, cols-same book sheet entries row column colour t, as-many-entries book sheet entries row column colour t) (t .room))
+        (rw (rows-same press book sheet entries row column colour t, cols-same press book sheet entries row column colour t, as-many-entries press book sheet entries row column colour t) (t .room))
         (λ q inq. right (slotOf (p .rows) (p .cols) q + 1) q inq (omega arith))

@@ -33,25 +33,25 @@ use Rattle.pieces.proofs.Judging.{Holds, held-entry}
 use Rattle.desk.proofs.Recast.{Taken, left, sound, sheet-left, still-accepted, beyond-kept, answered-by-bit}
 use Rattle.desk.proofs.TableKept.{table-kept}
 
-module _ (book sheet entries : List ℕ) (row column colour : ℕ) (t : Taken book sheet entries row column colour) where
+module _ (press : ℕ) (book sheet entries : List ℕ) (row column colour : ℕ) (t : Taken press book sheet entries row column colour) where
   abbrev b : Contents
   b = contentsOf book
 
   abbrev p : Picture
-  p = pictureOf (sheetWith sheet row column colour)
+  p = pictureOf press (sheetWith press sheet row column colour)
 
   abbrev outcome : Recolouring
-  outcome = left book sheet entries row column colour t
+  outcome = left press book sheet entries row column colour t
 
-  module _ (held : Holds b (pictureOf sheet) entries) where
+  module _ (held : Holds b (pictureOf press sheet) entries) where
     by-derivation : outcome .answer ≡ plain (pick (derives? b (b .start) p) 0 11)
     unfolding startAnswer marked
     by-derivation =
-        let k = sheet-lies (sheetWith sheet row column colour) (still-accepted book sheet entries row column colour t) .within in
-        let entry = held-entry b p (outcome .entries) (table-kept book sheet entries row column colour t held) (whole (p .rows) (p .cols))
+        let k = sheet-lies press (sheetWith press sheet row column colour) (still-accepted press book sheet entries row column colour t) .within in
+        let entry = held-entry b p (outcome .entries) (table-kept press book sheet entries row column colour t held) (whole (p .rows) (p .cols))
         (whole-inside (p .rows) (p .cols) (k .rows-some) (k .cols-some)) in
-        answered-by-bit book sheet entries row column colour t
-        ∙ rw (entry, cut-whole p, entry-tests b p (b .start) (sound book sheet entries row column colour t .start-fits)) refl
+        answered-by-bit press book sheet entries row column colour t
+        ∙ rw (entry, cut-whole p, entry-tests b p (b .start) (sound press book sheet entries row column colour t .start-fits)) refl
 
     told : {d : Bool} → derives? b (b .start) p ≡ d → outcome .answer ≡ plain (pick d 0 11)
     told e = by-derivation ∙ ap (λ (d : Bool). plain (pick d 0 11)) e
@@ -70,18 +70,18 @@ module _ (book sheet entries : List ℕ) (row column colour : ℕ) (t : Taken bo
 
   -- ── The colour that the cell has ──
 
-  module _ (own : getD sheet (cellPlace (length sheet) (sheetOf sheet .sheet .size) row column) 0 ≡ colour) where
-    same-bytes : sheetWith sheet row column colour ≡ sheet
-    same-bytes = rw (← own) (set-getD sheet (cellPlace (length sheet) (sheetOf sheet .sheet .size) row column) 0)
+  module _ (own : getD sheet (cellPlace (length sheet) (sheetOf press sheet .sheet .size) row column) 0 ≡ colour) where
+    same-bytes : sheetWith press sheet row column colour ≡ sheet
+    same-bytes = rw (← own) (set-getD sheet (cellPlace (length sheet) (sheetOf press sheet .sheet .size) row column) 0)
 
     pub sheet-unchanged : outcome .bytes ≡ sheet
-    sheet-unchanged = sheet-left book sheet entries row column colour t ∙ same-bytes
+    sheet-unchanged = sheet-left press book sheet entries row column colour t ∙ same-bytes
 
-    pub table-unchanged : Holds b (pictureOf sheet) entries → outcome .entries ≡ entries
+    pub table-unchanged : Holds b (pictureOf press sheet) entries → outcome .entries ≡ entries
     table-unchanged held =
-        let shows : p ≡ pictureOf sheet = ap pictureOf same-bytes in
-        let now = table-kept book sheet entries row column colour t held .held in
-        let beyond = beyond-kept book sheet entries row column colour t in
+        let shows : p ≡ pictureOf press sheet = ap (λ (x : List ℕ). pictureOf press x) same-bytes in
+        let now = table-kept press book sheet entries row column colour t held .held in
+        let beyond = beyond-kept press book sheet entries row column colour t in
         sym (take-append-drop (entriesNeeded p) (outcome .entries))
         ∙ ap₂ (λ (x y : List ℕ). x ++ y) (now ∙ ap (table b) shows ∙ sym (held .held) ∙ ap (λ (q : Picture). take (entriesNeeded q) entries) (sym shows)) beyond
         ∙ take-append-drop (entriesNeeded p) entries

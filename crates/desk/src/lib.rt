@@ -14,7 +14,7 @@ pub extern "C" fn dv_recolour(
     column: usize,
     colour: usize,
 ) -> u64
-    ensures { λ r. ⌜ RecoloursPacked (recolouring (now (book .entry)) (now (sheet .entry)) (now (work .entry)) row column colour)
+    ensures { λ r. ⌜ RecoloursPacked (recolouring 0 (now (book .entry)) (now (sheet .entry)) (now (work .entry)) row column colour)
         r (now (sheet .exit)) (now (work .exit)) ⌝ }
 {
     answer::pack(recolour(book, sheet, work, row, column, colour), 0)

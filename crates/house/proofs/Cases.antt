@@ -15,8 +15,9 @@ use Rattle.books.specs.Answer.{plain}
 use Rattle.books.specs.Equal.{sameRule, stands, firsts, withoutCopies}
 use Rattle.books.specs.Rules.{colourNumberAt, joinAt, bodyAt, ruleAt, repeats, rulesAt}
 use Rattle.books.specs.Book.{figuresAt, ruledAt, figuredAt, bookBy}
+use Rattle.books.specs.Press.{greatestOf}
 use Rattle.books.specs.Size.{sizeAt}
-use Rattle.books.specs.Cells.{cellsAt}
+use Rattle.books.specs.Cells.{noCells, cellsAt}
 use Rattle.books.specs.Sheet.{filledAt, sheetOf}
 use Rattle.books.specs.Search.{anyCut, fitsBody, anyRule, givesIn}
 use Rattle.books.specs.Decide.{called?, derives?}
@@ -69,7 +70,7 @@ pub record Cases : Type 0 where
 
 pub cases : Cases
 unfolding numberAt longerAt lastGroup numberIn numberBelow spellNumber leastByte nameOf sameName listed findName colourAt coloursOf put
-    colourNumberAt joinAt bodyAt ruleAt rulesAt figuresAt ruledAt figuredAt bookBy sizeAt cellsAt filledAt sheetOf
+    colourNumberAt joinAt bodyAt ruleAt rulesAt figuresAt ruledAt figuredAt bookBy greatestOf sizeAt noCells cellsAt filledAt sheetOf
     repeats stands sameRule firsts withoutCopies andThen orElse called? anyCut fitsBody anyRule givesIn derives?
     each pieces bits entry table least works cutOf covers fits takes taken lowest chosen choose treeWithin treeOf
     judged roomed derivation

@@ -10,7 +10,7 @@ use Rattle.families.specs.Outcome.{onOne, onTwo}
 
 -- the outcome of `derive`; the slices are just long enough for sheet A
 abbrev pub asked : List ℕ → List ℕ → Derivation
-asked book sheet = derivation book sheet (replicate 18 7) (replicate 22 7)
+asked book sheet = derivation 0 book sheet (replicate 18 7) (replicate 22 7)
 
 -- the outcome of a combination of one book, and of a book with itself
 abbrev pub changed : (Contents → Contents) → List ℕ → Outcome

@@ -50,17 +50,17 @@ module _ (book : List ℕ) (book-fine : bookOf book .fault .number ≡ 0) where
             });
       }
 
-  module _ (sheet : List ℕ) (sheet-fine : sheetOf sheet .fault .number ≡ 0) where
+  module _ (press : ℕ) (sheet : List ℕ) (sheet-fine : sheetOf press sheet .fault .number ≡ 0) where
     abbrev g : Sheet
-    g = sheetOf sheet .sheet
+    g = sheetOf press sheet .sheet
 
-    pub as-read : Bytes book → Bytes sheet → AsRead book f sheet g
+    pub as-read : Bytes book → Bytes sheet → AsRead press book f sheet g
     as-read bytes-book bytes-sheet =
-        record { book-keeps = book-accepted book bytes-book book-fine .keeps; sheet-keeps = sheet-accepted sheet bytes-sheet sheet-fine .keeps }
+        record { book-keeps = book-accepted book bytes-book book-fine .keeps; sheet-keeps = sheet-accepted press sheet bytes-sheet sheet-fine .keeps }
 
     pub cells-numbered : Numbered book f sheet g (numbersOf book (f .colours) sheet g)
     cells-numbered =
-        let s = sheet-lies sheet sheet-fine in
+        let s = sheet-lies press sheet sheet-fine in
         record {
           all = omega (arith, s .area-few, numbers-all book (f .colours) sheet g (s .area-few) (s .cells-all));
           each = λ i h. number-at book (f .colours) sheet g i h (omega (arith, s .area-few, s .cells-all));

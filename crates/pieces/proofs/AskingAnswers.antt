@@ -40,19 +40,19 @@ use Rattle.pieces.proofs.Endings.{derivation-ends}
 
 -- ── The order of the answers ──
 
-module _ (book sheet entries : List ℕ) where
-  pub sheet-first : (sheetOf sheet .fault .number ≡ 0 → ⊥) → asking book sheet entries ≡ unwritten (blaming 2 (sheetOf sheet .fault)) entries
+module _ (press : ℕ) (book sheet entries : List ℕ) where
+  pub sheet-first : (sheetOf press sheet .fault .number ≡ 0 → ⊥) → asking press book sheet entries ≡ unwritten (blaming 2 (sheetOf press sheet .fault)) entries
   unfolding asking
-  sheet-first n = simp (ne-eqb (sheetOf sheet .fault .number) 0 n)
+  sheet-first n = simp (ne-eqb (sheetOf press sheet .fault .number) 0 n)
 
-  pub room-second : sheetOf sheet .fault .number ≡ 0 → length entries < entriesNeeded (pictureOf sheet) → asking book sheet entries ≡ unwritten (plain 9) entries
+  pub room-second : sheetOf press sheet .fault .number ≡ 0 → length entries < entriesNeeded (pictureOf press sheet) → asking press book sheet entries ≡ unwritten (plain 9) entries
   unfolding asking
-  room-second z short = simp (eq-eqb (sheetOf sheet .fault .number) 0 z, lt-ltb (length entries) (entriesNeeded (pictureOf sheet)) short)
+  room-second z short = simp (eq-eqb (sheetOf press sheet .fault .number) 0 z, lt-ltb (length entries) (entriesNeeded (pictureOf press sheet)) short)
 
-  pub table-last : sheetOf sheet .fault .number ≡ 0 → entriesNeeded (pictureOf sheet) ≤ length entries
-      → asking book sheet entries ≡ tabled (contentsOf book) (pictureOf sheet) entries
+  pub table-last : sheetOf press sheet .fault .number ≡ 0 → entriesNeeded (pictureOf press sheet) ≤ length entries
+      → asking press book sheet entries ≡ tabled (contentsOf book) (pictureOf press sheet) entries
   unfolding asking
-  table-last z enough = simp (eq-eqb (sheetOf sheet .fault .number) 0 z, le-ltb (length entries) (entriesNeeded (pictureOf sheet)) enough)
+  table-last z enough = simp (eq-eqb (sheetOf press sheet .fault .number) 0 z, le-ltb (length entries) (entriesNeeded (pictureOf press sheet)) enough)
 
 -- ── With the table written ──
 
@@ -67,21 +67,21 @@ module _ (b : Contents) (p : Picture) (entries : List ℕ) where
 
 -- ── An accepted book and sheet, with room for the table ──
 
-module _ (book sheet entries : List ℕ) (fine : Accepted book sheet) (room : entriesNeeded (pictureOf sheet) ≤ length entries) where
+module _ (press : ℕ) (book sheet entries : List ℕ) (fine : Accepted press book sheet) (room : entriesNeeded (pictureOf press sheet) ≤ length entries) where
   abbrev b : Contents
   b = contentsOf book
 
   abbrev p : Picture
-  p = pictureOf sheet
+  p = pictureOf press sheet
 
-  pub derived-asked : Member b p → asking book sheet entries ≡ unwritten (plain 0) (filled b p entries)
-  derived-asked x = table-last book sheet entries (fine .sheet-fine) room ∙ tabled-derived b p entries x
+  pub derived-asked : Member b p → asking press book sheet entries ≡ unwritten (plain 0) (filled b p entries)
+  derived-asked x = table-last press book sheet entries (fine .sheet-fine) room ∙ tabled-derived b p entries x
 
-  pub other-asked : (Member b p → ⊥) → asking book sheet entries ≡ unwritten (plain 11) (filled b p entries)
-  other-asked n = table-last book sheet entries (fine .sheet-fine) room ∙ tabled-other b p entries n
+  pub other-asked : (Member b p → ⊥) → asking press book sheet entries ≡ unwritten (plain 11) (filled b p entries)
+  other-asked n = table-last press book sheet entries (fine .sheet-fine) room ∙ tabled-other b p entries n
 
   -- accepted exactly when the rules derive it
-  pub asked-exactly : (asking book sheet entries .answer ≡ plain 0) ↔ Member b p
+  pub asked-exactly : (asking press book sheet entries .answer ≡ plain 0) ↔ Member b p
   asked-exactly = (
     λ e. ⊎-elim
         (λ (t : derives? b (b .start) p ≡ true). decided b (b .start) p .0 t)
@@ -94,13 +94,13 @@ module _ (book sheet entries : List ℕ) (fine : Accepted book sheet) (room : en
   )
 
   -- the work slice holds the table, and the slice beyond is as it was
-  pub asked-table : asking book sheet entries .entries ≡ filled b p entries
+  pub asked-table : asking press book sheet entries .entries ≡ filled b p entries
   unfolding tabled
-  asked-table = ap (λ (a : Asking). a .entries) (table-last book sheet entries (fine .sheet-fine) room)
+  asked-table = ap (λ (a : Asking). a .entries) (table-last press book sheet entries (fine .sheet-fine) room)
 
   -- whose bit a at a piece is set exactly when motif a derives the piece
   pub asked-bit : Bytes book → (a : ℕ) (q : Piece) → Inside (p .rows) (p .cols) q
-      → (bit (getD (asking book sheet entries .entries) (slotOf (p .rows) (p .cols) q) 0) a ≡ 1) ↔ Derives b a (cut p q)
+      → (bit (getD (asking press book sheet entries .entries) (slotOf (p .rows) (p .cols) q) 0) a ≡ 1) ↔ Derives b a (cut p q)
   asked-bit bytes a q inq =
       let sound = book-accepted book bytes (fine .book-fine) .keeps .sound in
       rw (asked-table, held-entry b p (filled b p entries) (filled-holds b p entries) q inq)
@@ -108,24 +108,24 @@ module _ (book sheet entries : List ℕ) (fine : Accepted book sheet) (room : en
 
 -- ── Asking says what a derivation says ──
 
-module _ (book sheet entries numbers : List ℕ) (fine : bookOf book .fault .number ≡ 0) (long : numbersNeeded (pictureOf sheet) ≤ length numbers) where
+module _ (press : ℕ) (book sheet entries numbers : List ℕ) (fine : bookOf book .fault .number ≡ 0) (long : numbersNeeded (pictureOf press sheet) ≤ length numbers) where
   pub record Says (d : Derivation) : Type 0 where
-    pub same-answer : d .answer ≡ asking book sheet entries .answer
-    pub same-entries : d .entries ≡ asking book sheet entries .entries
+    pub same-answer : d .answer ≡ asking press book sheet entries .answer
+    pub same-entries : d .entries ≡ asking press book sheet entries .entries
 
-  says : {d : Derivation} → asking book sheet entries ≡ unwritten (d .answer) (d .entries) → Says d
+  says : {d : Derivation} → asking press book sheet entries ≡ unwritten (d .answer) (d .entries) → Says d
   says e = record { same-answer = sym (ap (λ (a : Asking). a .answer) e); same-entries = sym (ap (λ (a : Asking). a .entries) e) }
 
-  pub as-derived : Says (derivation book sheet entries numbers)
+  pub as-derived : Says (derivation press book sheet entries numbers)
   as-derived =
-      derivation-ends book sheet entries numbers Says
+      derivation-ends press book sheet entries numbers Says
       (record {
         in-book = λ n. absurd (n fine);
-        in-sheet = λ z n. says (rw (ne-eqb (sheetOf sheet .fault .number) 0 n) at (sheet-first book sheet entries n));
-        short-work = λ f short. says (room-second book sheet entries (f .sheet-fine) short);
+        in-sheet = λ z n. says (rw (ne-eqb (sheetOf press sheet .fault .number) 0 n) at (sheet-first press book sheet entries n));
+        short-work = λ f short. says (room-second press book sheet entries (f .sheet-fine) short);
         short-tree = λ f enough short. absurd (omega arith);
-        declined = λ f r none. says (other-asked book sheet entries f (r .work-long) none);
-        derived = λ f r x nodes given. says (derived-asked book sheet entries f (r .work-long) x);
+        declined = λ f r none. says (other-asked press book sheet entries f (r .work-long) none);
+        derived = λ f r x nodes given. says (derived-asked press book sheet entries f (r .work-long) x);
       })
 
 -- ── Two outcomes that a contract allows are equal ──
@@ -133,10 +133,10 @@ module _ (book sheet entries numbers : List ℕ) (fine : bookOf book .fault .num
 pub split-book-settled : (book masks : List ℕ) → SettlesBoth (λ (r : Split) (left : List ℕ). keptWith r left ≡ splitBook book masks)
 split-book-settled book masks r q x y e f = let same = settled e f in (ap (λ (s : SplitBook). s .split) same, ap (λ (s : SplitBook). s .masks) same)
 
-pub ask-sheet-settled : (book : List ℕ) (split : Split) (masks sheet entries : List ℕ) (r q : Asked) (cells numbers left after : List ℕ)
-    → askedWith r cells left ≡ askSheet book split masks sheet entries → askedWith q numbers after ≡ askSheet book split masks sheet entries
+pub ask-sheet-settled : (press : ℕ) (book : List ℕ) (split : Split) (masks sheet entries : List ℕ) (r q : Asked) (cells numbers left after : List ℕ)
+    → askedWith r cells left ≡ askSheet press book split masks sheet entries → askedWith q numbers after ≡ askSheet press book split masks sheet entries
     → (r ≡ q) × (cells ≡ numbers) × (left ≡ after)
-ask-sheet-settled book split masks sheet entries r q cells numbers left after e f =
+ask-sheet-settled press book split masks sheet entries r q cells numbers left after e f =
     let same = settled e f in (ap (λ (s : AskedSheet). s .asked) same, ap (λ (s : AskedSheet). s .cells) same, ap (λ (s : AskedSheet). s .entries) same)
 
 pub fire-settled : (masks : List ℕ) (j : Joins) (d : Dir) (l r : ℕ) → Settles (fireOf masks j d l r)

@@ -19,6 +19,7 @@ use Rattle.books.specs.declared.family.Family.{Family}
 use Rattle.books.specs.declared.sheet.SheetFigures.{SheetFigures}
 use Rattle.books.specs.declared.sheet.Sheet.{Sheet}
 use Rattle.books.proofs.NumberedCells.{numbers-for, numbers-room, numbers-few}
+use Rattle.books.proofs.Presses.{greatest-few}
 use Rattle.books.proofs.SizesWithin.{within-more}
 use Rattle.books.proofs.LentRules.{rows-back}
 use Rattle.books.specs.RuleBytes.{BookInto, rulesIn}
@@ -51,17 +52,17 @@ pub read-split : (book before : List ℕ) {b : BookFigures} {rows : List (List �
 unfolding splitBook
 read-split book before read is = rw (is, rows-back book read, read .figures)
 
-pub read-shows : (book : List ℕ) (c : Colours) (sheet : List ℕ) {g : SheetFigures} {cells : List ℕ} → Numbers book c sheet g cells → g .fault .number ≡ 0 → Shows g cells
-read-shows book c sheet n = rw (n .figures, n .cells) shows
+pub read-shows : (press : ℕ) (book : List ℕ) (c : Colours) (sheet : List ℕ) {g : SheetFigures} {cells : List ℕ} → Numbers press book c sheet g cells → g .fault .number ≡ 0 → Shows g cells
+read-shows press book c sheet n = rw (n .figures, n .cells) shows
   where
-    shows : sheetOf sheet .fault .number ≡ 0 → Shows (sheetFigures (sheetOf sheet)) (numbersFor book c sheet (sheetOf sheet .sheet))
+    shows : sheetOf press sheet .fault .number ≡ 0 → Shows (sheetFigures (sheetOf press sheet)) (numbersFor book c sheet (sheetOf press sheet .sheet))
     shows z =
-        let k = sheet-lies sheet z in
-        let all = numbers-room book c sheet in
+        let k = sheet-lies press sheet z in
+        let all = numbers-room press book c sheet in
         record {
-          sizes = within-more (omega arith) (k .within);
+          sizes = within-more (greatest-few press) (k .within);
           cells-room = all;
-          painted = record { all = omega (arith, k .area-few, all); low = λ i h. omega (arith, numbers-few book c sheet i h) };
+          painted = record { all = omega (arith, k .area-few, all); low = λ i h. omega (arith, numbers-few press book c sheet i h) };
         }
 
 -- ── What is kept of a book ──
@@ -108,19 +109,19 @@ start-tells b p entries rows-some cols-some low =
 
 -- ── What is told ──
 
-module _ (book sheet : List ℕ) (bytes-book : Bytes book) (bytes-sheet : Bytes sheet) (split : Split) (masks : List ℕ) (from : SplitFrom book split masks)
+module _ (press : ℕ) (book sheet : List ℕ) (bytes-book : Bytes book) (bytes-sheet : Bytes sheet) (split : Split) (masks : List ℕ) (from : SplitFrom book split masks)
     (entries : List ℕ) where
   abbrev f : Family
   f = bookOf book .family
 
   abbrev g : Sheet
-  g = sheetOf sheet .sheet
+  g = sheetOf press sheet .sheet
 
   abbrev p : Picture
-  p = pictureOf sheet
+  p = pictureOf press sheet
 
   abbrev figures : SheetFigures
-  figures = sheetFigures (sheetOf sheet)
+  figures = sheetFigures (sheetOf press sheet)
 
   abbrev numbers : List ℕ
   numbers = numbersFor book (f .colours) sheet g
@@ -128,29 +129,29 @@ module _ (book sheet : List ℕ) (bytes-book : Bytes book) (bytes-sheet : Bytes 
   serves : Serves (contentsOf book .rules) masks (split .joins)
   serves = book-serves book split masks from
 
-  by-table : sheetOf sheet .fault .number ≡ 0 → entriesNeeded p ≤ length entries
+  by-table : sheetOf press sheet .fault .number ≡ 0 → entriesNeeded p ≤ length entries
       → judgedBy (g .size .rows) (g .size .cols) (f .start) (filledBy masks (split .joins) (numbersOf book (f .colours) sheet g) (g .size .rows) (g .size .cols) entries)
       ≡ tabled (contentsOf book) p entries
   by-table fine enough =
-      let read = as-read book (from .accepted) sheet fine bytes-book bytes-sheet in
+      let read = as-read book (from .accepted) press sheet fine bytes-book bytes-sheet in
       let k = read .sheet-keeps .within in
-      ap (judgedBy (g .size .rows) (g .size .cols) (f .start)) (whole-table read _ (cells-numbered book (from .accepted) sheet fine) masks (split .joins) serves entries enough)
+      ap (judgedBy (g .size .rows) (g .size .cols) (f .start)) (whole-table read _ (cells-numbered book (from .accepted) press sheet fine) masks (split .joins) serves entries enough)
       ∙ start-tells (contentsOf book) p entries (k .rows-some) (k .cols-some) (read .book-keeps .sound .start-fits)
 
-  told : toldBy figures numbers (f .start) (split .joins) masks entries ≡ asking book sheet entries
+  told : toldBy figures numbers (f .start) (split .joins) masks entries ≡ asking press book sheet entries
   unfolding toldBy asking
-  told = go (ℕ-discrete (sheetOf sheet .fault .number) 0) (decLt (length entries) (entriesNeeded p))
+  told = go (ℕ-discrete (sheetOf press sheet .fault .number) 0) (decLt (length entries) (entriesNeeded p))
     where
-      go : Dec (sheetOf sheet .fault .number ≡ 0) → Dec (length entries < entriesNeeded p) → toldBy figures numbers (f .start) (split .joins) masks entries ≡ asking book sheet entries
-      go (no n) d = rw (ne-eqb (sheetOf sheet .fault .number) 0 n)
-      go (yes z) (yes l) = rw (eq-eqb (sheetOf sheet .fault .number) 0 z, lt-ltb (length entries) (entriesNeeded p) l)
+      go : Dec (sheetOf press sheet .fault .number ≡ 0) → Dec (length entries < entriesNeeded p) → toldBy figures numbers (f .start) (split .joins) masks entries ≡ asking press book sheet entries
+      go (no n) d = rw (ne-eqb (sheetOf press sheet .fault .number) 0 n)
+      go (yes z) (yes l) = rw (eq-eqb (sheetOf press sheet .fault .number) 0 z, lt-ltb (length entries) (entriesNeeded p) l)
       go (yes z) (no l) =
           let enough : entriesNeeded p ≤ length entries = omega arith in
-          rw (eq-eqb (sheetOf sheet .fault .number) 0 z, le-ltb (length entries) (entriesNeeded p) enough, serves .fits, numbers-for book (f .colours) sheet g (book-places book .few))
+          rw (eq-eqb (sheetOf press sheet .fault .number) 0 z, le-ltb (length entries) (entriesNeeded p) enough, serves .fits, numbers-for book (f .colours) sheet g (book-places book .few))
           (by-table z enough)
 
   -- the whole outcome of ask_sheet, by the book alone
-  pub asked-of-book : askSheet book split masks sheet entries ≡ sheetTold figures numbers (asking book sheet entries)
+  pub asked-of-book : askSheet press book split masks sheet entries ≡ sheetTold figures numbers (asking press book sheet entries)
   unfolding askSheet
   asked-of-book =
       ap (λ (x : SplitBook).
@@ -159,7 +160,7 @@ module _ (book sheet : List ℕ) (bytes-book : Bytes book) (bytes-sheet : Bytes 
       (is-split book split masks from)
       ∙ ap (sheetTold figures numbers) told
 
-  pub book-asks : (r : Asked) (cells left : List ℕ) → askedWith r cells left ≡ askSheet book split masks sheet entries → Asks book sheet entries r cells left
+  pub book-asks : (r : Asked) (cells left : List ℕ) → askedWith r cells left ≡ askSheet press book split masks sheet entries → Asks press book sheet entries r cells left
   book-asks r cells left e =
       let is = e ∙ asked-of-book in
       record {

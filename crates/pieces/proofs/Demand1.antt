@@ -26,10 +26,10 @@ pub record InBook (book : List ℕ) (number blamed place : ℕ) : Type 0 where
   pub inside : place ≤ length book
 
 -- The fault stands in the sheet, and the book has none.
-pub record InSheet (book sheet : List ℕ) (number blamed place : ℕ) : Type 0 where
+pub record InSheet (press : ℕ) (book sheet : List ℕ) (number blamed place : ℕ) : Type 0 where
   pub book-fine : bookOf book .fault .number ≡ 0
-  pub number-is : number ≡ sheetOf sheet .fault .number
-  pub place-is : place ≡ sheetOf sheet .fault .place
+  pub number-is : number ≡ sheetOf press sheet .fault .number
+  pub place-is : place ≡ sheetOf press sheet .fault .place
   pub second : blamed ≡ 2
   pub inside : place ≤ length sheet
 
@@ -39,20 +39,20 @@ not-input n (inl few) h other = omega arith
 not-input n (inr e) h other = other e
 
 -- A call that was lent a book, a sheet and two slices answers so, and leaves the slices so.
-pub record Answered (book sheet work tree : List ℕ) (number blamed place : ℕ) (work-left tree-left : List ℕ) : Type 0 where
+pub record Answered (press : ℕ) (book sheet work tree : List ℕ) (number blamed place : ℕ) (work-left tree-left : List ℕ) : Type 0 where
   pub listed : (number ≤ 11) ⊎ (number ≡ 18)
-  pub faults : 1 ≤ number → InputsNumber number → InBook book number blamed place ⊎ InSheet book sheet number blamed place
+  pub faults : 1 ≤ number → InputsNumber number → InBook book number blamed place ⊎ InSheet press book sheet number blamed place
   pub others : (number ≡ 0) ⊎ (InputsNumber number → ⊥) → (blamed ≡ 0) × (place ≡ 0)
   pub unwritten : 1 ≤ number → (number ≡ 11 → ⊥) → (work-left ≡ work) × (tree-left ≡ tree)
-  pub eleven : number ≡ 11 → (work-left ≡ table (contentsOf book) (pictureOf sheet) ++ drop (entriesNeeded (pictureOf sheet)) work) × (tree-left ≡ tree)
+  pub eleven : number ≡ 11 → (work-left ≡ table (contentsOf book) (pictureOf press sheet) ++ drop (entriesNeeded (pictureOf press sheet)) work) × (tree-left ≡ tree)
 
-module _ (book sheet work tree : List ℕ) where
+module _ (press : ℕ) (book sheet work tree : List ℕ) where
   abbrev Obeys : Derivation → Type 0
-  Obeys d = Answered book sheet work tree (d .answer .number) (d .answer .blamed) (d .answer .place) (d .entries) (d .numbers)
+  Obeys d = Answered press book sheet work tree (d .answer .number) (d .answer .blamed) (d .answer .place) (d .entries) (d .numbers)
 
-  obeys : Obeys (derivation book sheet work tree)
+  obeys : Obeys (derivation press book sheet work tree)
   obeys =
-      derivation-ends book sheet work tree Obeys
+      derivation-ends press book sheet work tree Obeys
       (record {
         in-book = λ n. let f = book-refused book n .blamed in
             record {
@@ -62,7 +62,7 @@ module _ (book sheet work tree : List ℕ) where
               unwritten = λ h g. (refl, refl);
               eleven = λ e. absurd (not-input 11 (subst InputsNumber e (f .known)) (omega arith) (λ u. omega arith));
             };
-        in-sheet = λ z n. let f = sheet-refused sheet n .blamed in
+        in-sheet = λ z n. let f = sheet-refused press sheet n .blamed in
             record {
               listed = inl (omega (arith, f .known));
               faults = λ h g. inr (record { book-fine = z; number-is = refl; place-is = refl; second = refl; inside = f .inside });
@@ -94,7 +94,7 @@ module _ (book sheet work tree : List ℕ) where
       unlisted n h g (inl e) = omega arith
       unlisted n h g (inr other) = other g
 
-      still : (n : ℕ) → 9 ≤ n → n ≤ 10 → Answered book sheet work tree n 0 0 work tree
+      still : (n : ℕ) → 9 ≤ n → n ≤ 10 → Answered press book sheet work tree n 0 0 work tree
       still n h g =
           record {
             listed = inl (omega arith);
@@ -107,12 +107,12 @@ module _ (book sheet work tree : List ℕ) where
   -- ── The theorem ──
 
   pub record Called (r : ℕ) (work-left tree-left : List ℕ) : Type 0 where
-    pub answered : Answered book sheet work tree (r % 2 ^ 8) (r / 2 ^ 8 % 2 ^ 4) (r / 2 ^ 12 % 2 ^ 20) work-left tree-left
+    pub answered : Answered press book sheet work tree (r % 2 ^ 8) (r / 2 ^ 8 % 2 ^ 4) (r / 2 ^ 12 % 2 ^ 20) work-left tree-left
     pub counted : r / 2 ^ 32 ≡ 0
 
-  pub dv-derive-called : {r : ℕ} {work-left tree-left : List ℕ} → LeavesPacked (derivation book sheet work tree) r work-left tree-left → Called r work-left tree-left
+  pub dv-derive-called : {r : ℕ} {work-left tree-left : List ℕ} → LeavesPacked (derivation press book sheet work tree) r work-left tree-left → Called r work-left tree-left
   dv-derive-called left =
-      let d = derivation book sheet work tree in
-      let parts = apart (d .answer) 0 (derivation-packs book sheet work tree) in
+      let d = derivation press book sheet work tree in
+      let parts = apart (d .answer) 0 (derivation-packs press book sheet work tree) in
       rw (left .answers, left .leaves-work, left .leaves-tree)
       (record { answered = rw (parts .number-is, parts .blamed-is, parts .place-is) obeys; counted = parts .count-is })

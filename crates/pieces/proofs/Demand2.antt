@@ -44,15 +44,15 @@ pub record Declines (numbers : List ℕ) (d : Derivation) : Type 0 where
 
 -- ── The theorems, from bytes ──
 
-module _ (book sheet entries numbers : List ℕ) (fine : Accepted book sheet) (room : Roomy (pictureOf sheet) entries numbers) where
+module _ (press : ℕ) (book sheet entries numbers : List ℕ) (fine : Accepted press book sheet) (room : Roomy (pictureOf press sheet) entries numbers) where
   abbrev b : Contents
   b = contentsOf book
 
   abbrev p : Picture
-  p = pictureOf sheet
+  p = pictureOf press sheet
 
   abbrev outcome-of : Derivation
-  outcome-of = derivation book sheet entries numbers
+  outcome-of = derivation press book sheet entries numbers
 
   record Told (d : Derivation) : Type 0 where
     accepts : Member b p → Accepts b p numbers d
@@ -61,7 +61,7 @@ module _ (book sheet entries numbers : List ℕ) (fine : Accepted book sheet) (r
 
   told : Told outcome-of
   told =
-      derivation-ends book sheet entries numbers Told
+      derivation-ends press book sheet entries numbers Told
       (record {
         in-book = λ n. absurd (n (fine .book-fine));
         in-sheet = λ z n. absurd (n (fine .sheet-fine));
@@ -110,11 +110,11 @@ module _ {A : Type 0} {told : Answer → A} {d : Derivation} {r q : A} {w v t u 
   settled : Left told d r w t → Left told d q v u → (r ≡ q) × (w ≡ v) × (t ≡ u)
   settled x y = (x .answers ∙ sym (y .answers), x .leaves-work ∙ sym (y .leaves-work), x .leaves-tree ∙ sym (y .leaves-tree))
 
-module _ (book sheet entries numbers : List ℕ) where
-  pub derive-settled : {r q : Answer} {w v t u : List ℕ} → let d = derivation book sheet entries numbers in
+module _ (press : ℕ) (book sheet entries numbers : List ℕ) where
+  pub derive-settled : {r q : Answer} {w v t u : List ℕ} → let d = derivation press book sheet entries numbers in
       Leaves d r w t → Leaves d q v u → (r ≡ q) × (w ≡ v) × (t ≡ u)
   derive-settled x y = settled x y
 
-  pub dv-derive-settled : {r q : ℕ} {w v t u : List ℕ} → let d = derivation book sheet entries numbers in
+  pub dv-derive-settled : {r q : ℕ} {w v t u : List ℕ} → let d = derivation press book sheet entries numbers in
       LeavesPacked d r w t → LeavesPacked d q v u → (r ≡ q) × (w ≡ v) × (t ≡ u)
   dv-derive-settled x y = settled x y

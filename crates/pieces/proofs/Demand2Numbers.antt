@@ -21,24 +21,24 @@ use Rattle.pieces.proofs.DerivationAnswers.{derivation-packs}
 use Rattle.books.specs.Lent.{contentsOf, pictureOf, Accepted}
 use Rattle.pieces.proofs.Endings.{derivation-ends}
 
-module _ (book sheet entries numbers : List ℕ) where
+module _ (press : ℕ) (book sheet entries numbers : List ℕ) where
   abbrev b : Contents
   b = contentsOf book
 
   abbrev p : Picture
-  p = pictureOf sheet
+  p = pictureOf press sheet
 
   pub record Numbers (n : ℕ) : Type 0 where
-    pub faulty : ((1 ≤ n) × InputsNumber n) ↔ (Accepted book sheet → ⊥)
-    pub nine : (n ≡ 9) ↔ (Accepted book sheet × (length entries < entriesNeeded p))
-    pub ten : (n ≡ 10) ↔ (Accepted book sheet × (entriesNeeded p ≤ length entries) × (length numbers < numbersNeeded p))
-    pub eleven : (n ≡ 11) ↔ (Accepted book sheet × Roomy p entries numbers × (Member b p → ⊥))
-    pub zero : (n ≡ 0) ↔ (Accepted book sheet × Roomy p entries numbers × Member b p)
+    pub faulty : ((1 ≤ n) × InputsNumber n) ↔ (Accepted press book sheet → ⊥)
+    pub nine : (n ≡ 9) ↔ (Accepted press book sheet × (length entries < entriesNeeded p))
+    pub ten : (n ≡ 10) ↔ (Accepted press book sheet × (entriesNeeded p ≤ length entries) × (length numbers < numbersNeeded p))
+    pub eleven : (n ≡ 11) ↔ (Accepted press book sheet × Roomy p entries numbers × (Member b p → ⊥))
+    pub zero : (n ≡ 0) ↔ (Accepted press book sheet × Roomy p entries numbers × Member b p)
 
   abbrev Numbered : Derivation → Type 0
   Numbered d = Numbers (d .answer .number)
 
-  in-input : (n : ℕ) → 1 ≤ n → InputsNumber n → (Accepted book sheet → ⊥) → Numbers n
+  in-input : (n : ℕ) → 1 ≤ n → InputsNumber n → (Accepted press book sheet → ⊥) → Numbers n
   in-input n h g bad =
       record {
         faulty = together (h, g) bad;
@@ -48,12 +48,12 @@ module _ (book sheet entries numbers : List ℕ) where
         zero = neither (λ e. omega arith) (λ x. bad (x .0));
       }
 
-  numbered : Numbered (derivation book sheet entries numbers)
+  numbered : Numbered (derivation press book sheet entries numbers)
   numbered =
-      derivation-ends book sheet entries numbers Numbered
+      derivation-ends press book sheet entries numbers Numbered
       (record {
         in-book = λ n. let f = book-refused book n .blamed in in-input _ (f .some) (f .known) (λ fine. n (fine .book-fine));
-        in-sheet = λ z n. let f = sheet-refused sheet n .blamed in in-input _ (f .some) (inl (f .known)) (λ fine. n (fine .sheet-fine));
+        in-sheet = λ z n. let f = sheet-refused press sheet n .blamed in in-input _ (f .some) (inl (f .known)) (λ fine. n (fine .sheet-fine));
         short-work = λ fine short.
             record {
               faulty = neither (λ e. not-input _ (e .1) (omega arith) (λ u. omega arith)) (λ bad. bad fine);
@@ -92,15 +92,15 @@ module _ (book sheet entries numbers : List ℕ) where
 
   -- 1 to 8 or 18 exactly where an input is refused, 9 exactly where both are accepted and the work slice is too short, 10 where only the tree slice is, 11 exactly where both are
   -- long enough and the family has not the sheet, and 0 exactly where it has it
-  pub derive-numbers : {r : Answer} {w t : List ℕ} → Leaves (derivation book sheet entries numbers) r w t → Numbers (r .number)
+  pub derive-numbers : {r : Answer} {w t : List ℕ} → Leaves (derivation press book sheet entries numbers) r w t → Numbers (r .number)
   derive-numbers left = rw (left .answers) numbered
 
-  pub dv-derive-numbers : {r : ℕ} {w t : List ℕ} → LeavesPacked (derivation book sheet entries numbers) r w t → Numbers (r % 2 ^ 8)
+  pub dv-derive-numbers : {r : ℕ} {w t : List ℕ} → LeavesPacked (derivation press book sheet entries numbers) r w t → Numbers (r % 2 ^ 8)
   dv-derive-numbers left =
-      rw (left .answers, apart (derivation book sheet entries numbers .answer) 0 (derivation-packs book sheet entries numbers) .number-is) numbered
+      rw (left .answers, apart (derivation press book sheet entries numbers .answer) 0 (derivation-packs press book sheet entries numbers) .number-is) numbered
 
   -- the two calls do the same
-  pub alike : {a : Answer} {r : ℕ} {w v t u : List ℕ} → let d = derivation book sheet entries numbers in
+  pub alike : {a : Answer} {r : ℕ} {w v t u : List ℕ} → let d = derivation press book sheet entries numbers in
       Leaves d a w t → LeavesPacked d r v u → (r ≡ packed a 0) × (v ≡ w) × (u ≡ t)
   alike x y = (
     y .answers ∙ ap (λ (a : Answer). packed a 0) (sym (x .answers)),

@@ -14,20 +14,20 @@ use Rattle.pieces.proofs.Endings.{derivation-ends}
 
 -- ── The order of the answers ──
 
-module _ (book sheet entries numbers : List ℕ) where
-  pub book-first : (bookOf book .fault .number ≡ 0 → ⊥) → derivation book sheet entries numbers ≡ leaving (blaming 1 (bookOf book .fault)) entries numbers
+module _ (press : ℕ) (book sheet entries numbers : List ℕ) where
+  pub book-first : (bookOf book .fault .number ≡ 0 → ⊥) → derivation press book sheet entries numbers ≡ leaving (blaming 1 (bookOf book .fault)) entries numbers
   unfolding derivation
   book-first n = simp (ne-eqb (bookOf book .fault .number) 0 n)
 
-  pub sheet-second : bookOf book .fault .number ≡ 0 → (sheetOf sheet .fault .number ≡ 0 → ⊥)
-      → derivation book sheet entries numbers ≡ leaving (blaming 2 (sheetOf sheet .fault)) entries numbers
+  pub sheet-second : bookOf book .fault .number ≡ 0 → (sheetOf press sheet .fault .number ≡ 0 → ⊥)
+      → derivation press book sheet entries numbers ≡ leaving (blaming 2 (sheetOf press sheet .fault)) entries numbers
   unfolding derivation
-  sheet-second z n = simp (eq-eqb (bookOf book .fault .number) 0 z, ne-eqb (sheetOf sheet .fault .number) 0 n)
+  sheet-second z n = simp (eq-eqb (bookOf book .fault .number) 0 z, ne-eqb (sheetOf press sheet .fault .number) 0 n)
 
-  pub then-room : bookOf book .fault .number ≡ 0 → sheetOf sheet .fault .number ≡ 0
-      → derivation book sheet entries numbers ≡ roomed (contentsOf book) (pictureOf sheet) entries numbers
+  pub then-room : bookOf book .fault .number ≡ 0 → sheetOf press sheet .fault .number ≡ 0
+      → derivation press book sheet entries numbers ≡ roomed (contentsOf book) (pictureOf press sheet) entries numbers
   unfolding derivation
-  then-room z y = simp (eq-eqb (bookOf book .fault .number) 0 z, eq-eqb (sheetOf sheet .fault .number) 0 y)
+  then-room z y = simp (eq-eqb (bookOf book .fault .number) 0 z, eq-eqb (sheetOf press sheet .fault .number) 0 y)
 
 -- ── Every answer packs ──
 
@@ -37,12 +37,12 @@ Packed d = Packs (d .answer) 0
 plainly : (n : ℕ) → n < 2 ^ 8 → Packs (plain n) 0
 plainly n h = plain-packs n 0 h (omega arith)
 
-pub derivation-packs : (book sheet entries numbers : List ℕ) → Packs (derivation book sheet entries numbers .answer) 0
-derivation-packs book sheet entries numbers =
-    derivation-ends book sheet entries numbers Packed
+pub derivation-packs : (press : ℕ) (book sheet entries numbers : List ℕ) → Packs (derivation press book sheet entries numbers .answer) 0
+derivation-packs press book sheet entries numbers =
+    derivation-ends press book sheet entries numbers Packed
     (record {
       in-book = λ n. rw (ne-eqb (bookOf book .fault .number) 0 n) at (book-placed book 1 (omega arith) .packs);
-      in-sheet = λ z n. rw (ne-eqb (sheetOf sheet .fault .number) 0 n) at (sheet-placed sheet 2 (omega arith) .packs);
+      in-sheet = λ z n. rw (ne-eqb (sheetOf press sheet .fault .number) 0 n) at (sheet-placed press sheet 2 (omega arith) .packs);
       short-work = λ f short. plainly 9 (omega arith);
       short-tree = λ f enough short. plainly 10 (omega arith);
       declined = λ f room none. plainly 11 (omega arith);

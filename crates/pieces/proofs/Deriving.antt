@@ -43,9 +43,9 @@ module _ (book : List ℕ) {b : BookFigures} {rows : List (List ℕ)} (read : Bo
   abbrev rules : List Rule
   rules = rulesIn (take (b .rules) rows)
 
-  pub book-blamed : (sheet entries numbers : List ℕ) → (b .fault .number ≡ 0 → ⊥)
-      → derivation book sheet entries numbers ≡ leaving (blaming 1 (b .fault)) entries numbers
-  book-blamed sheet entries numbers n = rw (read .figures) (book-first book sheet entries numbers (rw (read .figures) at n))
+  pub book-blamed : (press : ℕ) (sheet entries numbers : List ℕ) → (b .fault .number ≡ 0 → ⊥)
+      → derivation press book sheet entries numbers ≡ leaving (blaming 1 (b .fault)) entries numbers
+  book-blamed press sheet entries numbers n = rw (read .figures) (book-first press book sheet entries numbers (rw (read .figures) at n))
 
   pub rows-small : b .fault .number ≡ 0 → SmallRules rules
   rows-small z = rw (rows-back book read) (rules-read book (rw (read .figures) at z))
@@ -61,20 +61,20 @@ module _ (book : List ℕ) {b : BookFigures} {rows : List (List ℕ)} (read : Bo
 
 -- ── The book and the sheet ──
 
-module _ (book sheet : List ℕ) {b : BookFigures} {rows : List (List ℕ)} (read : BookInto book b rows) {s : SheetFigures} {cells : List ℕ}
-    (shown : Numbers book (b .colours) sheet s cells) (z : b .fault .number ≡ 0) (entries numbers : List ℕ) where
-  pub sheet-blamed : (s .fault .number ≡ 0 → ⊥) → derivation book sheet entries numbers ≡ leaving (blaming 2 (s .fault)) entries numbers
-  sheet-blamed n = rw (shown .figures) (sheet-second book sheet entries numbers (rw (read .figures) at z) (rw (shown .figures) at n))
+module _ (press : ℕ) (book sheet : List ℕ) {b : BookFigures} {rows : List (List ℕ)} (read : BookInto book b rows) {s : SheetFigures} {cells : List ℕ}
+    (shown : Numbers press book (b .colours) sheet s cells) (z : b .fault .number ≡ 0) (entries numbers : List ℕ) where
+  pub sheet-blamed : (s .fault .number ≡ 0 → ⊥) → derivation press book sheet entries numbers ≡ leaving (blaming 2 (s .fault)) entries numbers
+  sheet-blamed n = rw (shown .figures) (sheet-second press book sheet entries numbers (rw (read .figures) at z) (rw (shown .figures) at n))
 
   module _ (y : s .fault .number ≡ 0) where
     abbrev lack : ℕ
     lack = lacking (s .size .rows) (s .size .cols) (length entries) (length numbers)
 
-    pub room-lacks : (lack ≡ 0 → ⊥) → derivation book sheet entries numbers ≡ leaving (plain lack) entries numbers
+    pub room-lacks : (lack ≡ 0 → ⊥) → derivation press book sheet entries numbers ≡ leaving (plain lack) entries numbers
     room-lacks n =
         rw (shown .figures)
-        (then-room book sheet entries numbers (rw (read .figures) at z) (rw (shown .figures) at y)
-        ∙ roomed-short (contentsOf book) (pictureOf sheet) entries numbers (rw (shown .figures) at n))
+        (then-room press book sheet entries numbers (rw (read .figures) at z) (rw (shown .figures) at y)
+        ∙ roomed-short (contentsOf book) (pictureOf press sheet) entries numbers (rw (shown .figures) at n))
 
     module _ (bytes-book : Bytes book) (bytes-sheet : Bytes sheet) (enough : lack ≡ 0) {masks : List ℕ} {j : Joins}
         (split : masked masks j ≡ splitOf (rulesIn (take (b .rules) rows)) (replicate allMasks 0)) where
@@ -82,22 +82,22 @@ module _ (book sheet : List ℕ) {b : BookFigures} {rows : List (List ℕ)} (rea
       f = bookOf book .family
 
       abbrev g : Sheet
-      g = sheetOf sheet .sheet
+      g = sheetOf press sheet .sheet
 
       book-fine : bookOf book .fault .number ≡ 0
       book-fine = rw (read .figures) at z
 
-      sheet-fine : sheetOf sheet .fault .number ≡ 0
+      sheet-fine : sheetOf press sheet .fault .number ≡ 0
       sheet-fine = rw (shown .figures) at y
 
-      given : AsRead book f sheet g
-      given = as-read book book-fine sheet sheet-fine bytes-book bytes-sheet
+      given : AsRead press book f sheet g
+      given = as-read book book-fine press sheet sheet-fine bytes-book bytes-sheet
 
       numbered : Numbered book f sheet g cells
       numbered =
           let is : cells ≡ numbersOf book (f .colours) sheet g =
           shown .cells ∙ ap (λ (x : BookFigures). numbersFor book (x .colours) sheet g) (read .figures) ∙ numbers-for book (f .colours) sheet g (book-places book .few) in
-          rw is (cells-numbered book book-fine sheet sheet-fine)
+          rw is (cells-numbered book book-fine press sheet sheet-fine)
 
       abbrev pub made : List ℕ
       made = filledBy masks j cells (s .size .rows) (s .size .cols) entries
@@ -111,8 +111,8 @@ module _ (book sheet : List ℕ) {b : BookFigures} {rows : List (List ℕ)} (rea
           rw (shown .figures, rows-back book read, read .figures)
           (made-fits given cells numbered masks j (masks-serve book read z split) entries (nothing-lacks _ _ _ _ (rw (shown .figures) at enough) .0))
 
-      pub derived-as : derivation book sheet entries numbers ≡ record { answer = plain (tells .number); entries = made; numbers = tells .numbers }
+      pub derived-as : derivation press book sheet entries numbers ≡ record { answer = plain (tells .number); entries = made; numbers = tells .numbers }
       derived-as =
           rw (shown .figures, rows-back book read, read .figures)
-          (then-room book sheet entries numbers book-fine sheet-fine ∙ roomed-enough (contentsOf book) (pictureOf sheet) entries numbers (rw (shown .figures) at enough)
+          (then-room press book sheet entries numbers book-fine sheet-fine ∙ roomed-enough (contentsOf book) (pictureOf press sheet) entries numbers (rw (shown .figures) at enough)
           ∙ judged-made given cells numbered masks j (masks-serve book read z split) entries (nothing-lacks _ _ _ _ (rw (shown .figures) at enough) .0) numbers)

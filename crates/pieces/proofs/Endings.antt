@@ -21,32 +21,32 @@ use Rattle.pieces.specs.Tree.{tree}
 use Rattle.pieces.specs.Derivation.{Derivation, leaving, entriesNeeded, numbersNeeded, Roomy, filled, judged, roomed, derivation}
 use Rattle.pieces.proofs.TheTree.{tree-given}
 
-module _ (book sheet entries numbers : List ℕ) where
+module _ (press : ℕ) (book sheet entries numbers : List ℕ) where
   abbrev b : Contents
   b = contentsOf book
 
   abbrev p : Picture
-  p = pictureOf sheet
+  p = pictureOf press sheet
 
   pub record Cases (P : Derivation → Type 0) : Type 0 where
     pub in-book : (bookOf book .fault .number ≡ 0 → ⊥) → P (leaving (answer (bookOf book .fault .number) 1 (bookOf book .fault .place)) entries numbers)
-    pub in-sheet : bookOf book .fault .number ≡ 0 → (sheetOf sheet .fault .number ≡ 0 → ⊥)
-        → P (leaving (answer (sheetOf sheet .fault .number) 2 (sheetOf sheet .fault .place)) entries numbers)
-    pub short-work : Accepted book sheet → length entries < entriesNeeded p → P (leaving (plain 9) entries numbers)
-    pub short-tree : Accepted book sheet → entriesNeeded p ≤ length entries → length numbers < numbersNeeded p → P (leaving (plain 10) entries numbers)
-    pub declined : Accepted book sheet → Roomy p entries numbers → (Member b p → ⊥) → P (leaving (plain 11) (filled b p entries) numbers)
-    pub derived : Accepted book sheet → Roomy p entries numbers → Member b p → (nodes : List ℕ) → Given b (b .start) p nodes
+    pub in-sheet : bookOf book .fault .number ≡ 0 → (sheetOf press sheet .fault .number ≡ 0 → ⊥)
+        → P (leaving (answer (sheetOf press sheet .fault .number) 2 (sheetOf press sheet .fault .place)) entries numbers)
+    pub short-work : Accepted press book sheet → length entries < entriesNeeded p → P (leaving (plain 9) entries numbers)
+    pub short-tree : Accepted press book sheet → entriesNeeded p ≤ length entries → length numbers < numbersNeeded p → P (leaving (plain 10) entries numbers)
+    pub declined : Accepted press book sheet → Roomy p entries numbers → (Member b p → ⊥) → P (leaving (plain 11) (filled b p entries) numbers)
+    pub derived : Accepted press book sheet → Roomy p entries numbers → Member b p → (nodes : List ℕ) → Given b (b .start) p nodes
         → P (record { answer = plain 0; entries = filled b p entries; numbers = nodes ++ drop (length nodes) numbers })
 
   module _ (P : Derivation → Type 0) (cases : Cases P) where
-    by-judging : Accepted book sheet → Roomy p entries numbers → P (judged b p (filled b p entries) numbers)
+    by-judging : Accepted press book sheet → Roomy p entries numbers → P (judged b p (filled b p entries) numbers)
     unfolding judged
     by-judging fine room =
         pick-ind P (derives? b (b .start) p) _ _
         (λ e. let x = decided b (b .start) p .0 e in cases .derived fine room x (tree b p) (tree-given b p x))
         (λ e. cases .declined fine room (refused b (b .start) p .0 e))
 
-    by-room : Accepted book sheet → P (roomed b p entries numbers)
+    by-room : Accepted press book sheet → P (roomed b p entries numbers)
     unfolding roomed
     by-room fine =
         pick-ind P (ltb (length entries) (entriesNeeded p)) _ _
@@ -56,8 +56,8 @@ module _ (book sheet entries numbers : List ℕ) where
         (λ f. cases .short-tree fine work (ltb-true _ _ f))
         (λ f. by-judging fine (record { work-long = work; tree-long = ltb-false (length numbers) (numbersNeeded p) f })))
 
-    pub derivation-ends : P (derivation book sheet entries numbers)
+    pub derivation-ends : P (derivation press book sheet entries numbers)
     unfolding derivation
     derivation-ends =
-        both-end P (λ a. leaving a entries numbers) book sheet (λ b p. roomed b p entries numbers)
+        both-end P (λ a. leaving a entries numbers) press book sheet (λ b p. roomed b p entries numbers)
         (record { in-book = cases .in-book; in-sheet = cases .in-sheet; in-neither = by-room })

@@ -83,7 +83,7 @@ module _ (b : Contents) (p : Picture) (work : List ℕ) (h : Holds b p work) whe
 
 -- ── The tests that the code makes ──
 
-module _ {book : List ℕ} {f : Family} {bytes : List ℕ} {g : Sheet} (given : AsRead book f bytes g) (work : List ℕ)
+module _ {press : ℕ} {book : List ℕ} {f : Family} {bytes : List ℕ} {g : Sheet} (given : AsRead press book f bytes g) (work : List ℕ)
     (holds : Holds (contentsIn book f) (picture (gridIn bytes g)) work) where
   abbrev b : Contents
   b = contentsIn book f
@@ -149,7 +149,7 @@ module _ {book : List ℕ} {f : Family} {bytes : List ℕ} {g : Sheet} (given : 
       (λ e. judged-none entries tree-slice e)
 
 -- A table that was filled by masks that serve the book's rules is judged as the definition has it.
-module _ {book : List ℕ} {f : Family} {bytes : List ℕ} {g : Sheet} (given : AsRead book f bytes g) (cells : List ℕ) (numbered : Numbered book f bytes g cells)
+module _ {press : ℕ} {book : List ℕ} {f : Family} {bytes : List ℕ} {g : Sheet} (given : AsRead press book f bytes g) (cells : List ℕ) (numbered : Numbered book f bytes g cells)
     (masks : List ℕ) (j : Joins) (serves : Serves (contentsIn book f .rules) masks j) (before : List ℕ)
     (enough : total (g .size .rows) (g .size .cols) ≤ length before) where
   abbrev contents : Contents

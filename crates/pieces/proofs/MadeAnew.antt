@@ -39,48 +39,48 @@ use Rattle.pieces.proofs.Ruled.{joined-ruled, cell-ruled}
 use Rattle.pieces.proofs.WholeTable.{AsRead, painted-entry}
 use Rattle.pieces.proofs.Recolouring.{Has}
 
-module _ (book sheet : List ℕ) (bytes-book : Bytes book) (bytes-sheet : Bytes sheet) (book-fine : bookOf book .fault .number ≡ 0)
-    (sheet-fine : sheetOf sheet .fault .number ≡ 0) (row column colour : ℕ)
-    (has : Has (sheetOf sheet .sheet .size) (sheetOf sheet .sheet .colours .count) row column colour) where
+module _ (press : ℕ) (book sheet : List ℕ) (bytes-book : Bytes book) (bytes-sheet : Bytes sheet) (book-fine : bookOf book .fault .number ≡ 0)
+    (sheet-fine : sheetOf press sheet .fault .number ≡ 0) (row column colour : ℕ)
+    (has : Has (sheetOf press sheet .sheet .size) (sheetOf press sheet .sheet .colours .count) row column colour) where
   abbrev left-sheet : List ℕ
-  left-sheet = sheetWith sheet row column colour
+  left-sheet = sheetWith press sheet row column colour
 
   abbrev b : Contents
   b = contentsOf book
 
   abbrev p : Picture
-  p = pictureOf left-sheet
+  p = pictureOf press left-sheet
 
-  pub left-fine : sheetOf left-sheet .fault .number ≡ 0
-  left-fine = still-fine sheet bytes-sheet sheet-fine row column colour (has .row-on) (has .column-on) (has .colour-in)
+  pub left-fine : sheetOf press left-sheet .fault .number ≡ 0
+  left-fine = still-fine press sheet bytes-sheet sheet-fine row column colour (has .row-on) (has .column-on) (has .colour-in)
 
   -- it has the rows and the columns that it had
-  pub same-rows : sheetOf left-sheet .sheet .size .rows ≡ sheetOf sheet .sheet .size .rows
-  same-rows = ap (λ (g : Grid). g .rows) (contents-with sheet bytes-sheet sheet-fine row column colour (has .row-on) (has .column-on) (has .colour-in))
+  pub same-rows : sheetOf press left-sheet .sheet .size .rows ≡ sheetOf press sheet .sheet .size .rows
+  same-rows = ap (λ (g : Grid). g .rows) (contents-with press sheet bytes-sheet sheet-fine row column colour (has .row-on) (has .column-on) (has .colour-in))
 
-  pub same-cols : sheetOf left-sheet .sheet .size .cols ≡ sheetOf sheet .sheet .size .cols
-  same-cols = ap (λ (g : Grid). g .cols) (contents-with sheet bytes-sheet sheet-fine row column colour (has .row-on) (has .column-on) (has .colour-in))
+  pub same-cols : sheetOf press left-sheet .sheet .size .cols ≡ sheetOf press sheet .sheet .size .cols
+  same-cols = ap (λ (g : Grid). g .cols) (contents-with press sheet bytes-sheet sheet-fine row column colour (has .row-on) (has .column-on) (has .colour-in))
 
-  given : AsRead book (bookOf book .family) left-sheet (sheetOf left-sheet .sheet)
+  given : AsRead press book (bookOf book .family) left-sheet (sheetOf press left-sheet .sheet)
   given =
-      as-read book book-fine left-sheet left-fine bytes-book
-      (still-bytes sheet bytes-sheet sheet-fine row column colour (has .row-on) (has .column-on) (has .colour-in))
+      as-read book book-fine press left-sheet left-fine bytes-book
+      (still-bytes press sheet bytes-sheet sheet-fine row column colour (has .row-on) (has .column-on) (has .colour-in))
 
   module _ (split : Split) (masks : List ℕ) (from : SplitFrom book split masks) (kept : split .colours ≡ bookOf book .family .colours) where
     serves : Serves (b .rules) masks (split .joins)
     serves = book-serves book split masks from
 
     abbrev pub paint : ℕ
-    paint = paintersOf book (split .colours) masks left-sheet (row * sheetOf sheet .sheet .size .cols + column)
+    paint = paintersOf press book (split .colours) masks left-sheet (row * sheetOf press sheet .sheet .size .cols + column)
 
     -- the painters of the cell are the motifs that derive it
     paint-entry : paint ≡ entry b (cut p (piece 1 1 row column))
     unfolding paintersOf
     paint-entry =
-        let is : numbersFor book (split .colours) left-sheet (sheetOf left-sheet .sheet) ≡ numbersOf book (bookOf book .family .colours) left-sheet (sheetOf left-sheet .sheet) =
-        rw kept (numbers-for book (bookOf book .family .colours) left-sheet (sheetOf left-sheet .sheet) (book-places book .few)) in
+        let is : numbersFor book (split .colours) left-sheet (sheetOf press left-sheet .sheet) ≡ numbersOf book (bookOf book .family .colours) left-sheet (sheetOf press left-sheet .sheet) =
+        rw kept (numbers-for book (bookOf book .family .colours) left-sheet (sheetOf press left-sheet .sheet) (book-places book .few)) in
         ap₂ (λ (l : List ℕ) (n : ℕ). getD masks (paintersFrom + getD l (row * n + column) 0) 0) is (sym same-cols)
-        ∙ painted-entry given _ (cells-numbered book book-fine left-sheet left-fine) masks (split .joins) serves row column
+        ∙ painted-entry given _ (cells-numbered book book-fine press left-sheet left-fine) masks (split .joins) serves row column
         (omega (arith, has .row-on, same-rows)) (omega (arith, has .column-on, same-cols))
 
     -- what is due by the masks is what the rules give
@@ -105,7 +105,7 @@ module _ (book sheet : List ℕ) (bytes-book : Bytes book) (bytes-sheet : Bytes 
         more : (q : Piece) → Inside (p .rows) (p .cols) q → (q .height + q .width ≡ 2 → ⊥) → 2 < q .height + q .width
         more q inq ne = ⊎-elim (λ (h : 2 < q .height + q .width). h) (λ h. absurd (ne (omega (arith, inq .tall, inq .wide)))) (lt-or-le 2 (q .height + q .width))
 
-    pub made : (entries : List ℕ) → let s = sheetOf sheet .sheet .size in
+    pub made : (entries : List ℕ) → let s = sheetOf press sheet .sheet .size in
         refilled (dueBy (joinsFired masks (split .joins)) paint (s .rows) (s .cols)) (s .rows) (s .cols) row column entries
         ≡ refilled (ruled b p) (p .rows) (p .cols) row column entries
     made entries =

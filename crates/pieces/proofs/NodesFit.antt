@@ -27,19 +27,19 @@ use Rattle.pieces.proofs.Demand2.{table-written, bit-exactly}
 use Rattle.pieces.proofs.Demand2Numbers.{derive-numbers}
 use Rattle.pieces.proofs.Judging.{Holds, filled-holds, every-node-fits}
 
-module _ (book sheet work tree : List ℕ) (book-bytes : Bytes book) (sheet-bytes : Bytes sheet) where
+module _ (press : ℕ) (book sheet work tree : List ℕ) (book-bytes : Bytes book) (sheet-bytes : Bytes sheet) where
   abbrev b : Contents
   b = contentsOf book
 
   abbrev p : Picture
-  p = pictureOf sheet
+  p = pictureOf press sheet
 
   abbrev left : Derivation
-  left = derivation book sheet work tree
+  left = derivation press book sheet work tree
 
   -- the number that each cell's colour has in the book
   abbrev numbers : List ℕ
-  numbers = numbersOf book (bookOf book .family .colours) sheet (sheetOf sheet .sheet)
+  numbers = numbersOf book (bookOf book .family .colours) sheet (sheetOf press sheet .sheet)
 
   -- what the tree writer goes by: the bits of the table that is left, and those numbers
   abbrev pub view : View
@@ -48,13 +48,13 @@ module _ (book sheet work tree : List ℕ) (book-bytes : Bytes book) (sheet-byte
   pub nodes-fit : left .answer .number ≡ 0 → Fitted view (b .rules) (b .start) (whole (p .rows) (p .cols))
   unfolding hasBit marked isSet
   nodes-fit zero =
-      let (fine, room, member) = derive-numbers book sheet work tree {r = left .answer} {w = left .entries} {t = left .numbers}
+      let (fine, room, member) = derive-numbers press book sheet work tree {r = left .answer} {w = left .entries} {t = left .numbers}
       (record { answers = refl; leaves-work = refl; leaves-tree = refl }) .zero .0 zero in
-      let given = as-read book (fine .book-fine) sheet (fine .sheet-fine) book-bytes sheet-bytes in
-      let numbered = cells-numbered book (fine .book-fine) sheet (fine .sheet-fine) in
-      let holds = subst (Holds b p) (sym (table-written book sheet work tree fine room)) (filled-holds b p work) in
+      let given = as-read book (fine .book-fine) press sheet (fine .sheet-fine) book-bytes sheet-bytes in
+      let numbered = cells-numbered book (fine .book-fine) press sheet (fine .sheet-fine) in
+      let holds = subst (Holds b p) (sym (table-written press book sheet work tree fine room)) (filled-holds b p work) in
       let k = given .sheet-keeps .within in
       let inside = whole-inside (p .rows) (p .cols) (k .rows-some) (k .cols-some) in
-      let set = bit-exactly book sheet work tree fine room book-bytes (b .start) (whole (p .rows) (p .cols)) inside .1 (rw (cut-whole p) member) in
+      let set = bit-exactly press book sheet work tree fine room book-bytes (b .start) (whole (p .rows) (p .cols)) inside .1 (rw (cut-whole p) member) in
       every-node-fits given (left .entries) holds numbers numbered
       (eq-eqb (bit (getD (left .entries) (slotOf (p .rows) (p .cols) (whole (p .rows) (p .cols))) 0) (b .start)) 1 set)

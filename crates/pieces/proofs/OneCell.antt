@@ -45,8 +45,8 @@ regroup : (a b c d e : List ℕ) → a ++ (b ++ (c ++ (d ++ e))) ≡ (a ++ (b ++
 regroup a b c d e =
     sym (append-assoc a (b ++ (c ++ d)) e ∙ ap (λ (l : List ℕ). a ++ l) (append-assoc b (c ++ d) e ∙ ap (λ (l : List ℕ). b ++ l) (append-assoc c d e)))
 
-ends-with-cells : (g : Grid) → GridKeeps g → spellSheet g ≡ front g ++ g .cells
-ends-with-cells g keeps =
+ends-with-cells : (press : ℕ) (g : Grid) → GridKeeps press g → spellSheet g ≡ front g ++ g .cells
+ends-with-cells press g keeps =
     let bytes = cells-bytes (g .cells) (λ i h. omega (arith, keeps .cells-fit i h, keeps .colours-ok .few)) in
     rw bytes (regroup (spellColours (g .colours)) (spellNumber (g .ticket)) (spellNumber (g .rows)) (spellNumber (g .cols)) (g .cells))
 
@@ -78,14 +78,14 @@ abbrev pub gridWith : Grid → ℕ → ℕ → ℕ → Grid
 gridWith g row column colour =
     record { colours = g .colours; ticket = g .ticket; rows = g .rows; cols = g .cols; cells = set (g .cells) (row * g .cols + column) colour }
 
-module _ (g : Grid) (keeps : GridKeeps g) (row column colour : ℕ) (row-on : row < g .rows) (column-on : column < g .cols) (colour-in : colour < length (g .colours)) where
+module _ (press : ℕ) (g : Grid) (keeps : GridKeeps press g) (row column colour : ℕ) (row-on : row < g .rows) (column-on : column < g .cols) (colour-in : colour < length (g .colours)) where
   abbrev i : ℕ
   i = row * g .cols + column
 
   there : i < length (g .cells)
   there = omega (arith, keeps .cells-all, cell-before (g .rows) (g .cols) row column row-on column-on)
 
-  still-keeps : GridKeeps (gridWith g row column colour)
+  still-keeps : GridKeeps press (gridWith g row column colour)
   still-keeps = record {
     colours-ok = keeps .colours-ok;
     ticket-few = keeps .ticket-few;
@@ -100,10 +100,10 @@ module _ (g : Grid) (keeps : GridKeeps g) (row column colour : ℕ) (row-on : ro
 
   spelled-with : withCell (spellSheet g) (sizeBy (g .rows) (g .cols)) row column colour ≡ spellSheet (gridWith g row column colour)
   spelled-with =
-      let is = ends-with-cells g keeps in
+      let is = ends-with-cells press g keeps in
       let place : length (spellSheet g) - g .rows * g .cols + i ≡ length (front g) + i =
       omega (arith, ap length is, length-append (front g) (g .cells), keeps .cells-all) in
-      ap₂ (λ (l : List ℕ) (k : ℕ). set l k colour) is place ∙ set-past (front g) (g .cells) i colour ∙ sym (ends-with-cells (gridWith g row column colour) still-keeps)
+      ap₂ (λ (l : List ℕ) (k : ℕ). set l k colour) is place ∙ set-past (front g) (g .cells) i colour ∙ sym (ends-with-cells press (gridWith g row column colour) still-keeps)
 
   -- the picture shows another name at that cell alone
   other-cells : (r c : ℕ) → r < g .rows → c < g .cols → ((r ≡ row) × (c ≡ column) → ⊥) → picture (gridWith g row column colour) .cell r c ≡ picture g .cell r c
@@ -122,43 +122,43 @@ module _ (g : Grid) (keeps : GridKeeps g) (row column colour : ℕ) (row-on : ro
 
 -- ── From the bytes ──
 
-pub cells-inside : (sheet : List ℕ) → Bytes sheet → sheetOf sheet .fault .number ≡ 0 → sheetOf sheet .sheet .size .rows * sheetOf sheet .sheet .size .cols ≤ length sheet
-cells-inside sheet bytes fine =
-    let a = sheet-accepted sheet bytes fine in
-    let g = gridIn sheet (sheetOf sheet .sheet) in
-    omega (arith, ap length (a .spelled ∙ ends-with-cells g (a .keeps)), length-append (front g) (g .cells), a .keeps .cells-all)
+pub cells-inside : (press : ℕ) (sheet : List ℕ) → Bytes sheet → sheetOf press sheet .fault .number ≡ 0 → sheetOf press sheet .sheet .size .rows * sheetOf press sheet .sheet .size .cols ≤ length sheet
+cells-inside press sheet bytes fine =
+    let a = sheet-accepted press sheet bytes fine in
+    let g = gridIn sheet (sheetOf press sheet .sheet) in
+    omega (arith, ap length (a .spelled ∙ ends-with-cells press g (a .keeps)), length-append (front g) (g .cells), a .keeps .cells-all)
 
-module _ (sheet : List ℕ) (bytes : Bytes sheet) (fine : sheetOf sheet .fault .number ≡ 0) (row column colour : ℕ)
-    (row-on : row < sheetOf sheet .sheet .size .rows) (column-on : column < sheetOf sheet .sheet .size .cols)
-    (colour-in : colour < sheetOf sheet .sheet .colours .count) where
+module _ (press : ℕ) (sheet : List ℕ) (bytes : Bytes sheet) (fine : sheetOf press sheet .fault .number ≡ 0) (row column colour : ℕ)
+    (row-on : row < sheetOf press sheet .sheet .size .rows) (column-on : column < sheetOf press sheet .sheet .size .cols)
+    (colour-in : colour < sheetOf press sheet .sheet .colours .count) where
   abbrev g : Grid
-  g = gridIn sheet (sheetOf sheet .sheet)
+  g = gridIn sheet (sheetOf press sheet .sheet)
 
   abbrev changed : List ℕ
-  changed = sheetWith sheet row column colour
+  changed = sheetWith press sheet row column colour
 
   named : colour < length (g .colours)
-  named = omega (arith, names-count sheet (sheetOf sheet .sheet .colours))
+  named = omega (arith, names-count sheet (sheetOf press sheet .sheet .colours))
 
-  pub keeps : GridKeeps g
-  keeps = sheet-accepted sheet bytes fine .keeps
+  pub keeps : GridKeeps press g
+  keeps = sheet-accepted press sheet bytes fine .keeps
 
   pub still-bytes : Bytes changed
   still-bytes = bytes-set sheet _ colour bytes (omega (arith, keeps .colours-ok .few, named))
 
-  read-back : (sheetOf changed .fault ≡ fault 0 0) × (gridIn changed (sheetOf changed .sheet) ≡ gridWith g row column colour)
+  read-back : (sheetOf press changed .fault ≡ fault 0 0) × (gridIn changed (sheetOf press changed .sheet) ≡ gridWith g row column colour)
   read-back =
-      let spelled = ap (λ (s : List ℕ). withCell s (sheetOf sheet .sheet .size) row column colour) (sheet-accepted sheet bytes fine .spelled)
-      ∙ spelled-with g keeps row column colour row-on column-on named in
-      rw spelled (sheet-read-back (gridWith g row column colour) (still-keeps g keeps row column colour row-on column-on named))
+      let spelled = ap (λ (s : List ℕ). withCell s (sheetOf press sheet .sheet .size) row column colour) (sheet-accepted press sheet bytes fine .spelled)
+      ∙ spelled-with press g keeps row column colour row-on column-on named in
+      rw spelled (sheet-read-back press (gridWith g row column colour) (still-keeps press g keeps row column colour row-on column-on named))
 
-  pub still-fine : sheetOf changed .fault .number ≡ 0
+  pub still-fine : sheetOf press changed .fault .number ≡ 0
   still-fine = ap (λ (f : Fault). f .number) (read-back .0)
 
-  pub contents-with : gridIn changed (sheetOf changed .sheet) ≡ gridWith g row column colour
+  pub contents-with : gridIn changed (sheetOf press changed .sheet) ≡ gridWith g row column colour
   contents-with = read-back .1
 
   -- the pieces without the cell show what they showed
-  pub same-elsewhere : (q : Piece) → Inside (g .rows) (g .cols) q → (HasCell row column q → ⊥) → Same (cut (pictureOf sheet) q) (cut (pictureOf changed) q)
+  pub same-elsewhere : (q : Piece) → Inside (g .rows) (g .cols) q → (HasCell row column q → ⊥) → Same (cut (pictureOf press sheet) q) (cut (pictureOf press changed) q)
   same-elsewhere q inq far =
-      subst (λ (x : Grid). Same (cut (picture g) q) (cut (picture x) q)) (sym contents-with) (same-piece g keeps row column colour row-on column-on named q inq far)
+      subst (λ (x : Grid). Same (cut (picture g) q) (cut (picture x) q)) (sym contents-with) (same-piece press g keeps row column colour row-on column-on named q inq far)

@@ -28,6 +28,7 @@ use Rattle.books.specs.declared.sheet.Sheet.{Sheet}
 use Rattle.books.specs.declared.size.Size.{Size}
 use Rattle.books.proofs.AlikeSearches.{Alike}
 use Rattle.books.proofs.Deciding.{pictures-lessen}
+use Rattle.books.proofs.Presses.{greatest-few}
 use Rattle.books.proofs.ReadingSheets.{sheet-lies}
 use Rattle.books.proofs.Searches.{one-cell}
 use Rattle.pieces.specs.Area.{whole}
@@ -91,23 +92,23 @@ module _ (b : Contents) (p : Picture) (cells : List ℕ) (given : NumberedBy b p
 
 -- ── A book and a sheet that are accepted ──
 
-module _ (book sheet : List ℕ) (bytes-book : Bytes book) (bytes-sheet : Bytes sheet) (fine : Accepted book sheet) where
+module _ (press : ℕ) (book sheet : List ℕ) (bytes-book : Bytes book) (bytes-sheet : Bytes sheet) (fine : Accepted press book sheet) where
   abbrev f : Family
   f = bookOf book .family
 
   abbrev g : Sheet
-  g = sheetOf sheet .sheet
+  g = sheetOf press sheet .sheet
 
-  pub sheet-numbered : NumberedBy (contentsOf book) (pictureOf sheet) (numbersOf book (f .colours) sheet g)
+  pub sheet-numbered : NumberedBy (contentsOf book) (pictureOf press sheet) (numbersOf book (f .colours) sheet g)
   sheet-numbered =
-      let read = as-read book (fine .book-fine) sheet (fine .sheet-fine) bytes-book bytes-sheet in
-      let numbers = cells-numbered book (fine .book-fine) sheet (fine .sheet-fine) in
-      let s = sheet-lies sheet (fine .sheet-fine) .within in
+      let read = as-read book (fine .book-fine) press sheet (fine .sheet-fine) bytes-book bytes-sheet in
+      let numbers = cells-numbered book (fine .book-fine) press sheet (fine .sheet-fine) in
+      let s = sheet-lies press sheet (fine .sheet-fine) .within in
       record {
         sound = read .book-keeps .sound;
         apart = read .book-keeps .colours-ok .distinct;
-        rows-few = omega (arith, s .rows-few);
-        cols-few = omega (arith, s .cols-few);
+        rows-few = omega (arith, s .rows-few, greatest-few press);
+        cols-few = omega (arith, s .cols-few, greatest-few press);
         all = numbers .all;
         each = λ i j hi hj. numbers .each (i * g .size .cols + j) (cell-before (g .size .rows) (g .size .cols) i j hi hj)
             ∙ (find-listed book (f .colours) _ (book-colours read) ∙ ap (listed (namesIn book (f .colours))) (sym (cell-name read i j hi hj)));

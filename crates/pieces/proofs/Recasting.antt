@@ -15,6 +15,7 @@ use Rattle.books.specs.Sheet.{sheetOf, sheetFigures}
 use Rattle.books.specs.Size.{Within}
 use Rattle.books.specs.declared.answer.Answer.{Answer}
 use Rattle.books.specs.declared.sheet.SheetFigures.{SheetFigures}
+use Rattle.books.proofs.Presses.{greatest-few}
 use Rattle.books.proofs.ReadingSheets.{sheet-lies}
 use Rattle.books.proofs.SizesWithin.{within-more}
 use Rattle.pieces.specs.Asking.{keptWith, splitBook, startAnswer, SplitFrom}
@@ -35,36 +36,36 @@ use Rattle.pieces.proofs.Recolouring.{Has, it-has, nothing-lacks, recas
 use Rattle.pieces.proofs.ServingMasks.{fitting-fit}
 
 -- what is known where the book was split and the sheet read, and nothing lacks
-pub record Known (book sheet entries : List ℕ) (row column colour : ℕ) (split : Split) (masks : List ℕ) (g : SheetFigures) : Type 0 where
+pub record Known (press : ℕ) (book sheet entries : List ℕ) (row column colour : ℕ) (split : Split) (masks : List ℕ) (g : SheetFigures) : Type 0 where
   pub bytes-book : Bytes book
   pub bytes-sheet : Bytes sheet
   pub kept : keptWith split masks ≡ splitBook book (replicate allMasks 0)
   pub book-ok : split .fault .number ≡ 0
-  pub is : g ≡ sheetFigures (sheetOf sheet)
+  pub is : g ≡ sheetFigures (sheetOf press sheet)
   pub sheet-ok : g .fault .number ≡ 0
   pub none : lackingFor (g .size) (g .colours) row column colour (length entries) ≡ 0
 
-module _ {book sheet entries : List ℕ} {row column colour : ℕ} {split : Split} {masks : List ℕ} {g : SheetFigures}
-    (known : Known book sheet entries row column colour split masks g) where
+module _ {press : ℕ} {book sheet entries : List ℕ} {row column colour : ℕ} {split : Split} {masks : List ℕ} {g : SheetFigures}
+    (known : Known press book sheet entries row column colour split masks g) where
   book-fine : bookOf book .fault .number ≡ 0
   book-fine = ap (λ (f : Fault). f .number) (sym (kept-fault book _ (known .kept))) ∙ known .book-ok
 
-  is : g ≡ sheetFigures (sheetOf sheet)
+  is : g ≡ sheetFigures (sheetOf press sheet)
   is = known .is
 
-  sheet-fine : sheetOf sheet .fault .number ≡ 0
+  sheet-fine : sheetOf press sheet .fault .number ≡ 0
   sheet-fine = ap (λ (x : SheetFigures). x .fault .number) (sym is) ∙ known .sheet-ok
 
-  enough : Has (sheetOf sheet .sheet .size) (sheetOf sheet .sheet .colours .count) row column colour × (entriesNeeded (pictureOf sheet) ≤ length entries)
+  enough : Has (sheetOf press sheet .sheet .size) (sheetOf press sheet .sheet .colours .count) row column colour × (entriesNeeded (pictureOf press sheet) ≤ length entries)
   enough =
-      nothing-lacks book sheet entries row column colour book-fine sheet-fine
+      nothing-lacks press book sheet entries row column colour book-fine sheet-fine
       (ap (λ (x : SheetFigures). lackingFor (x .size) (x .colours) row column colour (length entries)) (sym is) ∙ known .none)
 
   from : SplitFrom book split masks
   from = kept-from book _ (known .kept) (known .book-ok) refl
 
   pub sizes : Within most (g .size .rows) (g .size .cols)
-  sizes = rw is (within-more (omega arith) (sheet-lies sheet sheet-fine .within))
+  sizes = rw is (within-more (greatest-few press) (sheet-lies press sheet sheet-fine .within))
 
   pub row-on : row < g .size .rows
   row-on = rw is (enough .0 .row-on)
@@ -80,10 +81,10 @@ module _ {book sheet entries : List ℕ} {row column colour : ℕ} {split : Spli
 
   pub cell-due : CellDue (g .size) (length sheet) row column colour
   cell-due =
-      let few = sheet-lies sheet sheet-fine .places .few in
+      let few = sheet-lies press sheet sheet-fine .places .few in
       record {
         sizes = sizes;
-        cells = rw is (cells-inside sheet (known .bytes-sheet) sheet-fine);
+        cells = rw is (cells-inside press sheet (known .bytes-sheet) sheet-fine);
         row-on = row-on;
         column-on = column-on;
         byte = omega (arith, few, enough .0 .colour-in);
@@ -93,37 +94,37 @@ module _ {book sheet entries : List ℕ} {row column colour : ℕ} {split : Spli
   table-due = record { tabled = record { sizes = sizes; entries = room }; fit = fit }
 
   module _ {changed : List ℕ} (put : changed ≡ withCell sheet (g .size) row column colour) {at : ℕ} (placed : at ≡ row * g .size .cols + column) where
-    is-left : changed ≡ sheetWith sheet row column colour
+    is-left : changed ≡ sheetWith press sheet row column colour
     is-left = put ∙ ap (λ (x : SheetFigures). withCell sheet (x .size) row column colour) is
 
-    pub painters-due : PaintersDue changed (length masks) at
+    pub painters-due : PaintersDue press changed (length masks) at
     painters-due =
-        let fine = left-fine book sheet (known .bytes-book) (known .bytes-sheet) book-fine sheet-fine row column colour (enough .0) in
-        let rows = same-rows book sheet (known .bytes-book) (known .bytes-sheet) book-fine sheet-fine row column colour (enough .0) in
-        let cols = same-cols book sheet (known .bytes-book) (known .bytes-sheet) book-fine sheet-fine row column colour (enough .0) in
+        let fine = left-fine press book sheet (known .bytes-book) (known .bytes-sheet) book-fine sheet-fine row column colour (enough .0) in
+        let rows = same-rows press book sheet (known .bytes-book) (known .bytes-sheet) book-fine sheet-fine row column colour (enough .0) in
+        let cols = same-cols press book sheet (known .bytes-book) (known .bytes-sheet) book-fine sheet-fine row column colour (enough .0) in
         rw (is-left, placed, is)
         (record {
           accepted = fine;
           fit = fit .all;
-          cell = rw (rows, cols) (cell-before (sheetOf sheet .sheet .size .rows) (sheetOf sheet .sheet .size .cols) row column (enough .0 .row-on) (enough .0 .column-on));
+          cell = rw (rows, cols) (cell-before (sheetOf press sheet .sheet .size .rows) (sheetOf press sheet .sheet .size .cols) row column (enough .0 .row-on) (enough .0 .column-on));
         })
 
-    pub recast-as : {x : ℕ} → x ≡ paintersOf book (split .colours) masks changed at
+    pub recast-as : {x : ℕ} → x ≡ paintersOf press book (split .colours) masks changed at
         → {t : List ℕ} → t ≡ refilled (dueBy (joinsFired masks (split .joins)) x (g .size .rows) (g .size .cols)) (g .size .rows) (g .size .cols) row column entries
         → {r : Answer} → r ≡ plain (startAnswer (g .size .rows) (g .size .cols) t (split .start))
-        → Recolours (recolouring book sheet entries row column colour) r changed t
+        → Recolours (recolouring press book sheet entries row column colour) r changed t
     unfolding recast
     recast-as painted {t} filled told =
-        let last = recast-last book sheet entries row column colour book-fine sheet-fine (it-has _ _ row column colour (enough .0))
-        (le-ltb (length entries) (entriesNeeded (pictureOf sheet)) (enough .1)) in
-        let p = pictureOf (sheetWith sheet row column colour) in
-        let rows = same-rows book sheet (known .bytes-book) (known .bytes-sheet) book-fine sheet-fine row column colour (enough .0) in
-        let cols = same-cols book sheet (known .bytes-book) (known .bytes-sheet) book-fine sheet-fine row column colour (enough .0) in
-        let paint = painted ∙ ap₂ (paintersOf book (split .colours) masks) is-left (placed ∙ ap (λ (f : SheetFigures). row * f .size .cols + column) is) in
+        let last = recast-last press book sheet entries row column colour book-fine sheet-fine (it-has _ _ row column colour (enough .0))
+        (le-ltb (length entries) (entriesNeeded (pictureOf press sheet)) (enough .1)) in
+        let p = pictureOf press (sheetWith press sheet row column colour) in
+        let rows = same-rows press book sheet (known .bytes-book) (known .bytes-sheet) book-fine sheet-fine row column colour (enough .0) in
+        let cols = same-cols press book sheet (known .bytes-book) (known .bytes-sheet) book-fine sheet-fine row column colour (enough .0) in
+        let paint = painted ∙ ap₂ (paintersOf press book (split .colours) masks) is-left (placed ∙ ap (λ (f : SheetFigures). row * f .size .cols + column) is) in
         let work = filled
         ∙ ap₂ (λ (z : ℕ) (f : SheetFigures).
         refilled (dueBy (joinsFired masks (split .joins)) z (f .size .rows) (f .size .cols)) (f .size .rows) (f .size .cols) row column entries) paint is
-        ∙ made book sheet (known .bytes-book) (known .bytes-sheet) book-fine sheet-fine row column colour (enough .0) split masks from (kept-colours book _ (known .kept)) entries in
+        ∙ made press book sheet (known .bytes-book) (known .bytes-sheet) book-fine sheet-fine row column colour (enough .0) split masks from (kept-colours book _ (known .kept)) entries in
         rw last
         (record {
           answers =

@@ -17,6 +17,7 @@ use Rattle.books.specs.Sheet.{sheetOf, sheetFigures}
 use Rattle.books.specs.Size.{Within}
 use Rattle.books.specs.declared.sheet.SheetFigures.{SheetFigures}
 use Rattle.books.specs.declared.size.Size.{Size}
+use Rattle.books.proofs.Presses.{greatest-few}
 use Rattle.books.proofs.ReadingSheets.{sheet-lies}
 use Rattle.books.proofs.SizesWithin.{within-more}
 use Rattle.pieces.specs.Derivation.{entriesNeeded}
@@ -45,74 +46,74 @@ it-has s colours row column colour h = and-make _ _ (lt-ltb _ _ (h .row-on)) (an
 
 -- ── The order of the answers ──
 
-module _ (book sheet entries : List ℕ) (row column colour : ℕ) where
+module _ (press : ℕ) (book sheet entries : List ℕ) (row column colour : ℕ) where
   abbrev size : Size
-  size = sheetOf sheet .sheet .size
+  size = sheetOf press sheet .sheet .size
 
   abbrev colours : ℕ
-  colours = sheetOf sheet .sheet .colours .count
+  colours = sheetOf press sheet .sheet .colours .count
 
   abbrev lack : ℕ
   lack = lackingFor size colours row column colour (length entries)
 
-  pub book-first : (bookOf book .fault .number ≡ 0 → ⊥) → recolouring book sheet entries row column colour ≡ untouched (blaming 1 (bookOf book .fault)) sheet entries
+  pub book-first : (bookOf book .fault .number ≡ 0 → ⊥) → recolouring press book sheet entries row column colour ≡ untouched (blaming 1 (bookOf book .fault)) sheet entries
   unfolding recolouring
   book-first n = simp (ne-eqb (bookOf book .fault .number) 0 n)
 
   module _ (book-fine : bookOf book .fault .number ≡ 0) where
-    pub sheet-second : (sheetOf sheet .fault .number ≡ 0 → ⊥) → recolouring book sheet entries row column colour ≡ untouched (blaming 2 (sheetOf sheet .fault)) sheet entries
+    pub sheet-second : (sheetOf press sheet .fault .number ≡ 0 → ⊥) → recolouring press book sheet entries row column colour ≡ untouched (blaming 2 (sheetOf press sheet .fault)) sheet entries
     unfolding recolouring
-    sheet-second n = simp (eq-eqb (bookOf book .fault .number) 0 book-fine, ne-eqb (sheetOf sheet .fault .number) 0 n)
+    sheet-second n = simp (eq-eqb (bookOf book .fault .number) 0 book-fine, ne-eqb (sheetOf press sheet .fault .number) 0 n)
 
-    module _ (sheet-fine : sheetOf sheet .fault .number ≡ 0) where
-      pub cell-third : has? size colours row column colour ≡ false → recolouring book sheet entries row column colour ≡ untouched (plain 19) sheet entries
+    module _ (sheet-fine : sheetOf press sheet .fault .number ≡ 0) where
+      pub cell-third : has? size colours row column colour ≡ false → recolouring press book sheet entries row column colour ≡ untouched (plain 19) sheet entries
       unfolding recolouring
-      cell-third e = simp (eq-eqb (bookOf book .fault .number) 0 book-fine, eq-eqb (sheetOf sheet .fault .number) 0 sheet-fine, e)
+      cell-third e = simp (eq-eqb (bookOf book .fault .number) 0 book-fine, eq-eqb (sheetOf press sheet .fault .number) 0 sheet-fine, e)
 
       module _ (has : has? size colours row column colour ≡ true) where
-        pub room-fourth : ltb (length entries) (entriesNeeded (pictureOf sheet)) ≡ true → recolouring book sheet entries row column colour ≡ untouched (plain 9) sheet entries
+        pub room-fourth : ltb (length entries) (entriesNeeded (pictureOf press sheet)) ≡ true → recolouring press book sheet entries row column colour ≡ untouched (plain 9) sheet entries
         unfolding recolouring
-        room-fourth e = simp (eq-eqb (bookOf book .fault .number) 0 book-fine, eq-eqb (sheetOf sheet .fault .number) 0 sheet-fine, has, e)
+        room-fourth e = simp (eq-eqb (bookOf book .fault .number) 0 book-fine, eq-eqb (sheetOf press sheet .fault .number) 0 sheet-fine, has, e)
 
-        pub recast-last : ltb (length entries) (entriesNeeded (pictureOf sheet)) ≡ false
-            → recolouring book sheet entries row column colour ≡ recast (contentsOf book) (sheetWith sheet row column colour) row column entries
+        pub recast-last : ltb (length entries) (entriesNeeded (pictureOf press sheet)) ≡ false
+            → recolouring press book sheet entries row column colour ≡ recast press (contentsOf book) (sheetWith press sheet row column colour) row column entries
         unfolding recolouring
-        recast-last e = simp (eq-eqb (bookOf book .fault .number) 0 book-fine, eq-eqb (sheetOf sheet .fault .number) 0 sheet-fine, has, e)
+        recast-last e = simp (eq-eqb (bookOf book .fault .number) 0 book-fine, eq-eqb (sheetOf press sheet .fault .number) 0 sheet-fine, has, e)
 
       -- what lacks is answered, ...
-      pub lack-told : (lack ≡ 0 → ⊥) → recolouring book sheet entries row column colour ≡ untouched (plain lack) sheet entries
+      pub lack-told : (lack ≡ 0 → ⊥) → recolouring press book sheet entries row column colour ≡ untouched (plain lack) sheet entries
       unfolding lackingFor
-      lack-told some = go (true-or-false (has? size colours row column colour)) (true-or-false (ltb (length entries) (entriesNeeded (pictureOf sheet))))
+      lack-told some = go (true-or-false (has? size colours row column colour)) (true-or-false (ltb (length entries) (entriesNeeded (pictureOf press sheet))))
         where
           go : (has? size colours row column colour ≡ true) ⊎ (has? size colours row column colour ≡ false)
-              → (ltb (length entries) (entriesNeeded (pictureOf sheet)) ≡ true) ⊎ (ltb (length entries) (entriesNeeded (pictureOf sheet)) ≡ false)
-              → recolouring book sheet entries row column colour ≡ untouched (plain lack) sheet entries
+              → (ltb (length entries) (entriesNeeded (pictureOf press sheet)) ≡ true) ⊎ (ltb (length entries) (entriesNeeded (pictureOf press sheet)) ≡ false)
+              → recolouring press book sheet entries row column colour ≡ untouched (plain lack) sheet entries
           go (inr h) e = rw h (cell-third h)
           go (inl h) (inl e) = rw (h, e) (room-fourth h e)
           go (inl h) (inr e) = absurd (some (rw (h, e) refl))
 
       -- ... and where nothing does, the sheet has the cell, and the slice is long enough
-      pub nothing-lacks : lack ≡ 0 → Has size colours row column colour × (entriesNeeded (pictureOf sheet) ≤ length entries)
+      pub nothing-lacks : lack ≡ 0 → Has size colours row column colour × (entriesNeeded (pictureOf press sheet) ≤ length entries)
       unfolding lackingFor
-      nothing-lacks none = go (true-or-false (has? size colours row column colour)) (true-or-false (ltb (length entries) (entriesNeeded (pictureOf sheet))))
+      nothing-lacks none = go (true-or-false (has? size colours row column colour)) (true-or-false (ltb (length entries) (entriesNeeded (pictureOf press sheet))))
         where
           go : (has? size colours row column colour ≡ true) ⊎ (has? size colours row column colour ≡ false)
-              → (ltb (length entries) (entriesNeeded (pictureOf sheet)) ≡ true) ⊎ (ltb (length entries) (entriesNeeded (pictureOf sheet)) ≡ false)
-              → Has size colours row column colour × (entriesNeeded (pictureOf sheet) ≤ length entries)
+              → (ltb (length entries) (entriesNeeded (pictureOf press sheet)) ≡ true) ⊎ (ltb (length entries) (entriesNeeded (pictureOf press sheet)) ≡ false)
+              → Has size colours row column colour × (entriesNeeded (pictureOf press sheet) ≤ length entries)
           go (inr h) e = let z : _≡_ {A = ℕ} 19 0 = rw h at none in absurd (omega arith)
           go (inl h) (inl e) = let z : _≡_ {A = ℕ} 9 0 = rw (h, e) at none in absurd (omega arith)
           go (inl h) (inr e) = (has-it size colours row column colour h, ltb-false _ _ e)
 
 -- ── The same by the figures that were read ──
 
-module _ (sheet : List ℕ) {g : SheetFigures} (is : g ≡ sheetFigures (sheetOf sheet)) where
+module _ (press : ℕ) (sheet : List ℕ) {g : SheetFigures} (is : g ≡ sheetFigures (sheetOf press sheet)) where
   pub read-within : g .fault .number ≡ 0 → Within most (g .size .rows) (g .size .cols)
-  read-within = rw is (λ fine. within-more (omega arith) (sheet-lies sheet fine .within))
+  read-within = rw is (λ fine. within-more (greatest-few press) (sheet-lies press sheet fine .within))
 
-module _ (book sheet entries : List ℕ) (row column colour : ℕ) {g : SheetFigures} (is : g ≡ sheetFigures (sheetOf sheet)) (book-fine : bookOf book .fault .number ≡ 0) where
-  pub read-blamed : (g .fault .number ≡ 0 → ⊥) → recolouring book sheet entries row column colour ≡ untouched (blaming 2 (g .fault)) sheet entries
-  read-blamed = rw is (λ n. sheet-second book sheet entries row column colour book-fine n)
+module _ (press : ℕ) (book sheet entries : List ℕ) (row column colour : ℕ) {g : SheetFigures} (is : g ≡ sheetFigures (sheetOf press sheet)) (book-fine : bookOf book .fault .number ≡ 0) where
+  pub read-blamed : (g .fault .number ≡ 0 → ⊥) → recolouring press book sheet entries row column colour ≡ untouched (blaming 2 (g .fault)) sheet entries
+  read-blamed = rw is (λ n. sheet-second press book sheet entries row column colour book-fine n)
 
   pub read-lacks : g .fault .number ≡ 0 → (lackingFor (g .size) (g .colours) row column colour (length entries) ≡ 0 → ⊥)
-      → recolouring book sheet entries row column colour ≡ untouched (plain (lackingFor (g .size) (g .colours) row column colour (length entries))) sheet entries
-  read-lacks = rw is (λ fine some. lack-told book sheet entries row column colour book-fine fine some)
+      → recolouring press book sheet entries row column colour ≡ untouched (plain (lackingFor (g .size) (g .colours) row column colour (length entries))) sheet entries
+  read-lacks = rw is (λ fine some. lack-told press book sheet entries row column colour book-fine fine some)

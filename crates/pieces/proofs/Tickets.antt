@@ -13,17 +13,17 @@ use Rattle.books.proofs.Tickets.{ticket-keeps, ticket-alike}
 use Rattle.pieces.specs.Derivation.{leaving, roomed, derivation}
 
 -- From bytes: two accepted sheets that are the same but for the ticket, whatever the book and the lent slices.
-pub ticket-alone : (book s t entries numbers : List ℕ) → SameButTicket s t → derivation book t entries numbers ≡ derivation book s entries numbers
+pub ticket-alone : (press : ℕ) (book s t entries numbers : List ℕ) → SameButTicket press s t → derivation press book t entries numbers ≡ derivation press book s entries numbers
 unfolding derivation
-ticket-alone book s t entries numbers = ticket-alike book s t (λ a. leaving a entries numbers) (λ b p. roomed b p entries numbers)
+ticket-alone press book s t entries numbers = ticket-alike press book s t (λ a. leaving a entries numbers) (λ b p. roomed b p entries numbers)
 
 -- From contents: a sheet that keeps the rules, and the same with another ticket.
-pub ticket-apart : (book : List ℕ) (g : Grid) (n : ℕ) (entries numbers : List ℕ) → GridKeeps g → n ≤ greatestNumber
-    → derivation book (spellSheet (withTicket n g)) entries numbers ≡ derivation book (spellSheet g) entries numbers
-ticket-apart book g n entries numbers k h =
-    let (fine, is) = sheet-read-back g k in
-    let (other-fine, other-is) = sheet-read-back (withTicket n g) (ticket-keeps n g h k) in
-    ticket-alone book (spellSheet g) (spellSheet (withTicket n g)) entries numbers
+pub ticket-apart : (press : ℕ) (book : List ℕ) (g : Grid) (n : ℕ) (entries numbers : List ℕ) → GridKeeps press g → n ≤ greatestNumber
+    → derivation press book (spellSheet (withTicket n g)) entries numbers ≡ derivation press book (spellSheet g) entries numbers
+ticket-apart press book g n entries numbers k h =
+    let (fine, is) = sheet-read-back press g k in
+    let (other-fine, other-is) = sheet-read-back press (withTicket n g) (ticket-keeps press n g h k) in
+    ticket-alone press book (spellSheet g) (spellSheet (withTicket n g)) entries numbers
     (record {
       first-fine = ap (λ (f : Fault). f .number) fine;
       second-fine = ap (λ (f : Fault). f .number) other-fine;

@@ -17,6 +17,7 @@ use Rattle.books.specs.declared.family.Family.{Family}
 use Rattle.books.specs.declared.sheet.Sheet.{Sheet}
 use Rattle.books.specs.Size.{Within}
 use Rattle.pieces.specs.Most.{most}
+use Rattle.books.proofs.Presses.{greatest-few}
 use Rattle.books.proofs.SizesWithin.{within-more}
 use Rattle.pieces.specs.Pieces.{piece, total}
 use Rattle.pieces.specs.Masks.{paintersFrom}
@@ -31,18 +32,18 @@ use Rattle.pieces.proofs.CellsFirst.{cell-before}
 use Rattle.pieces.proofs.FilledTable.{filled-table}
 
 -- what reading gives of a book and of a sheet
-pub record AsRead (book : List ℕ) (f : Family) (bytes : List ℕ) (g : Sheet) : Type 0 where
+pub record AsRead (press : ℕ) (book : List ℕ) (f : Family) (bytes : List ℕ) (g : Sheet) : Type 0 where
   pub book-keeps : Keeps (contentsIn book f)
-  pub sheet-keeps : GridKeeps (gridIn bytes g)
+  pub sheet-keeps : GridKeeps press (gridIn bytes g)
 
 -- the number that the colour of each cell has in the book
 pub record Numbered (book : List ℕ) (f : Family) (bytes : List ℕ) (g : Sheet) (cells : List ℕ) : Type 0 where
   pub all : g .size .rows * g .size .cols ≤ length cells
   pub each : (i : ℕ) → i < g .size .rows * g .size .cols → getD cells i 0 ≡ numberOf book (f .colours) bytes (g .colours) (getD (g .cells) i 0)
 
-module _ {book : List ℕ} {f : Family} {bytes : List ℕ} {g : Sheet} (read : AsRead book f bytes g) where
+module _ {press : ℕ} {book : List ℕ} {f : Family} {bytes : List ℕ} {g : Sheet} (read : AsRead press book f bytes g) where
   pub room : Within most (g .size .rows) (g .size .cols)
-  room = within-more (omega arith) (read .sheet-keeps .within)
+  room = within-more (greatest-few press) (read .sheet-keeps .within)
 
   pub book-colours : f .colours .count ≤ 64
   book-colours = omega (arith, read .book-keeps .colours-ok .few, names-count book (f .colours))

@@ -83,10 +83,10 @@ abbrev pub sheetTold : SheetFigures → List ℕ → Asking → AskedSheet
 sheetTold g cells a = askedWith (record { answer = a .answer; ticket = g .ticket; size = g .size }) cells (a .entries)
 
 -- a sheet whose cells are numbered by the colours kept; of what is told the masks change the answer 0 or 11 alone
-unfoldable pub askSheet : List ℕ → Split → List ℕ → List ℕ → List ℕ → AskedSheet
-askSheet book split masks sheet entries =
-    let g = sheetFigures (sheetOf sheet) in
-    let cells = numbersFor book (split .colours) sheet (sheetOf sheet .sheet) in
+unfoldable pub askSheet : ℕ → List ℕ → Split → List ℕ → List ℕ → List ℕ → AskedSheet
+askSheet press book split masks sheet entries =
+    let g = sheetFigures (sheetOf press sheet) in
+    let cells = numbersFor book (split .colours) sheet (sheetOf press sheet .sheet) in
     sheetTold g cells (toldBy g cells (split .start) (split .joins) masks entries)
 
 -- ── A sheet by a book ──
@@ -96,9 +96,9 @@ unfoldable pub tabled : Contents → Picture → List ℕ → Asking
 tabled b p entries = record { answer = plain (pick (derives? b (b .start) p) 0 11); entries = filled b p entries }
 
 -- the sheet's fault, then 9 where the work slice is too short; on these nothing is written
-unfoldable pub asking : List ℕ → List ℕ → List ℕ → Asking
-asking book sheet entries =
-    lentSheet 2 sheet (λ a. unwritten a entries) (λ p.
+unfoldable pub asking : ℕ → List ℕ → List ℕ → List ℕ → Asking
+asking press book sheet entries =
+    lentSheet press 2 sheet (λ a. unwritten a entries) (λ p.
     pick (ltb (length entries) (entriesNeeded p)) (unwritten (plain 9) entries) (tabled (contentsOf book) p entries))
 
 -- what is kept of an accepted book, and the masks of its rules over whatever stood in a slice that has room for them alone
@@ -109,9 +109,9 @@ pub record SplitFrom (book : List ℕ) (split : Split) (masks : List ℕ) : Type
   pub is : keptWith split masks ≡ splitBook book before
 
 -- by these a sheet is told what asking the book says; its cells have the numbers of their colours in the book
-pub record Asks (book sheet entries : List ℕ) (r : Asked) (cells left : List ℕ) : Type 0 where
-  pub answers : r .answer ≡ asking book sheet entries .answer
-  pub ticket : r .ticket ≡ sheetOf sheet .sheet .ticket
-  pub size : r .size ≡ sheetOf sheet .sheet .size
-  pub cells-are : cells ≡ numbersOf book (bookOf book .family .colours) sheet (sheetOf sheet .sheet)
-  pub leaves-work : left ≡ asking book sheet entries .entries
+pub record Asks (press : ℕ) (book sheet entries : List ℕ) (r : Asked) (cells left : List ℕ) : Type 0 where
+  pub answers : r .answer ≡ asking press book sheet entries .answer
+  pub ticket : r .ticket ≡ sheetOf press sheet .sheet .ticket
+  pub size : r .size ≡ sheetOf press sheet .sheet .size
+  pub cells-are : cells ≡ numbersOf book (bookOf book .family .colours) sheet (sheetOf press sheet .sheet)
+  pub leaves-work : left ≡ asking press book sheet entries .entries

@@ -57,9 +57,9 @@ roomed b p entries numbers =
     (judged b p (filled b p entries) numbers))
 
 -- the book's fault, then the sheet's
-unfoldable pub derivation : List ℕ → List ℕ → List ℕ → List ℕ → Derivation
-derivation book sheet entries numbers =
-    lentBoth book sheet (λ a. leaving a entries numbers) (λ b p. roomed b p entries numbers)
+unfoldable pub derivation : ℕ → List ℕ → List ℕ → List ℕ → List ℕ → Derivation
+derivation press book sheet entries numbers =
+    lentBoth press book sheet (λ a. leaving a entries numbers) (λ b p. roomed b p entries numbers)
 
 -- what a caller is told of the answer, and both slices as the call leaves them, are those of a derivation
 pub record Left {A : Type 0} (told : Answer → A) (d : Derivation) (r : A) (entries numbers : List ℕ) : Type 0 where

@@ -37,9 +37,9 @@ cellPlace long s row column = long - s .rows * s .cols + (row * s .cols + column
 abbrev pub withCell : List ℕ → Size → ℕ → ℕ → ℕ → List ℕ
 withCell sheet s row column colour = set sheet (cellPlace (length sheet) s row column) colour
 
--- the bytes of a sheet with the cell changed
-abbrev pub sheetWith : List ℕ → ℕ → ℕ → ℕ → List ℕ
-sheetWith sheet row column colour = withCell sheet (sheetOf sheet .sheet .size) row column colour
+-- the bytes of a sheet of a press with the cell changed
+abbrev pub sheetWith : ℕ → List ℕ → ℕ → ℕ → ℕ → List ℕ
+sheetWith press sheet row column colour = withCell sheet (sheetOf press sheet .sheet .size) row column colour
 
 -- a piece has the cell
 pub record HasCell (row column : ℕ) (q : Piece) : Type 0 where
@@ -95,20 +95,20 @@ abbrev pub judgedSheet : Contents → Picture → List ℕ → List ℕ → Reco
 judgedSheet b p sheet entries = record { answer = plain (startAnswer (p .rows) (p .cols) entries (b .start)); bytes = sheet; entries = entries }
 
 -- with the byte changed, the entries are made anew by what the sheet then shows
-unfoldable pub recast : Contents → List ℕ → ℕ → ℕ → List ℕ → Recolouring
-recast b sheet row column entries =
-    let p = pictureOf sheet in
+unfoldable pub recast : ℕ → Contents → List ℕ → ℕ → ℕ → List ℕ → Recolouring
+recast press b sheet row column entries =
+    let p = pictureOf press sheet in
     judgedSheet b p sheet (refilled (ruled b p) (p .rows) (p .cols) row column entries)
 
 -- the book's fault, then the sheet's; 19 where the sheet has not got the row, the column or the colour; 9 where the work slice is too short: on these
 -- nothing is written
-unfoldable pub recolouring : List ℕ → List ℕ → List ℕ → ℕ → ℕ → ℕ → Recolouring
-recolouring book sheet entries row column colour =
-    let g = sheetOf sheet .sheet in
-    lentBoth book sheet (λ a. untouched a sheet entries) (λ b p.
+unfoldable pub recolouring : ℕ → List ℕ → List ℕ → List ℕ → ℕ → ℕ → ℕ → Recolouring
+recolouring press book sheet entries row column colour =
+    let g = sheetOf press sheet .sheet in
+    lentBoth press book sheet (λ a. untouched a sheet entries) (λ b p.
     pick (has? (g .size) (g .colours .count) row column colour)
     (pick (ltb (length entries) (entriesNeeded p)) (untouched (plain 9) sheet entries)
-    (recast b (sheetWith sheet row column colour) row column entries))
+    (recast press b (sheetWith press sheet row column colour) row column entries))
     (untouched (plain 19) sheet entries))
 
 -- what a caller is told of the answer, and the sheet and the work slice as the call leaves them, are those of a recolouring

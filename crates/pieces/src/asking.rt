@@ -114,9 +114,10 @@ fn tell(
     answer::unblamed(11)
 }
 
-// Asks for one sheet by what was kept of a book and the masks of its rules. The cells get the numbers that their colours have in the book, and the work slice
-// the table of pieces.
+// Asks for one sheet of a press by what was kept of a book and the masks of its rules. The cells get the numbers that their colours have in the book, and
+// the work slice the table of pieces.
 pub fn ask_sheet(
+    press: usize,
     book: &[u8],
     split: Split,
     masks: &[u32],
@@ -125,10 +126,10 @@ pub fn ask_sheet(
     work: &mut [u32],
 ) -> Asked
     ensures { λ r. ⌜ askedWith r (now (cells .exit)) (now (work .exit))
-        ≡ askSheet (now (book .entry)) split (now (masks .entry)) (now (sheet .entry)) (now (work .entry)) ⌝ }
+        ≡ askSheet press (now (book .entry)) split (now (masks .entry)) (now (sheet .entry)) (now (work .entry)) ⌝ }
 {
     let c = split.colours;
-    let s = number_sheet(book, c.count, &c.starts, &c.lens, sheet, cells);
+    let s = number_sheet(press, book, c.count, &c.starts, &c.lens, sheet, cells);
     let answer = tell(s, cells, split.start, split.joins, masks, work);
     let size = s.size;
     Asked {

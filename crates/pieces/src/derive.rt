@@ -33,7 +33,7 @@ fn lack(size: Size, entries: usize, numbers: usize) -> u8
 
 // Asks whether the family of a book has a sheet. The work slice gets the table of pieces, and on 0 the tree slice the derivation given.
 pub fn derive(book: &[u8], sheet: &[u8], work: &mut [u32], tree: &mut [u16]) -> Answer
-    ensures { λ r. ⌜ Leaves (derivation (now (book .entry)) (now (sheet .entry)) (now (work .entry)) (now (tree .entry)))
+    ensures { λ r. ⌜ Leaves (derivation 0 (now (book .entry)) (now (sheet .entry)) (now (work .entry)) (now (tree .entry)))
         r (now (work .exit)) (now (tree .exit)) ⌝ }
 {
     let mut rules = [[0u8; 4]; MOST_RULES];
@@ -43,7 +43,7 @@ pub fn derive(book: &[u8], sheet: &[u8], work: &mut [u32], tree: &mut [u16]) -> 
     }
     let c = b.colours;
     let mut cells = [0u8; ROOM];
-    let s = number_sheet(book, c.count, &c.starts, &c.lens, sheet, &mut cells);
+    let s = number_sheet(0, book, c.count, &c.starts, &c.lens, sheet, &mut cells);
     if s.fault.number != 0 {
         return answer::blame(2, s.fault);
     }
@@ -61,7 +61,7 @@ pub fn derive(book: &[u8], sheet: &[u8], work: &mut [u32], tree: &mut [u16]) -> 
 // The same for the C host.
 #[no_mangle]
 pub extern "C" fn dv_derive(book: &[u8], sheet: &[u8], work: &mut [u32], tree: &mut [u16]) -> u64
-    ensures { λ r. ⌜ LeavesPacked (derivation (now (book .entry)) (now (sheet .entry)) (now (work .entry)) (now (tree .entry)))
+    ensures { λ r. ⌜ LeavesPacked (derivation 0 (now (book .entry)) (now (sheet .entry)) (now (work .entry)) (now (tree .entry)))
         r (now (work .exit)) (now (tree .exit)) ⌝ }
 {
     answer::pack(derive(book, sheet, work, tree), 0)

@@ -1,4 +1,5 @@
 // A piece of a sheet, and its place in the table.
+use books::press::WIDEST;
 ghost use mathlib.Core.Path.{_≡_};
 ghost use Prim.Native.Nat.{_*_, _≤_, _<_};
 ghost use Rattle.books.specs.Size.{Within};
@@ -9,7 +10,7 @@ ghost use Rattle.pieces.specs.Most.{most};
 ghost use Rattle.pieces.specs.inner.Room.{mostCells};
 
 // The most rows, and the most columns, that the numbers have room for.
-pub const MOST: usize = 24;
+pub const MOST: usize = WIDEST;
 
 // So many rows and columns, from a top row and a left column on.
 pub struct Piece {

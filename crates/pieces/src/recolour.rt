@@ -60,12 +60,12 @@ fn put_cell(sheet: &mut [u8], size: Size, row: usize, column: usize, colour: usi
 
 // The motifs that paint a cell of a sheet, by what is kept of a book.
 fn painters(book: &[u8], split: Split, masks: &[u32], sheet: &[u8], at: usize) -> u32
-    requires { ⌜ PaintersDue (now sheet) (length (now masks)) at ⌝ }
-    ensures { λ x. ⌜ x ≡ paintersOf (now (book .entry)) (split .colours) (now (masks .entry)) (now (sheet .entry)) at ⌝ }
+    requires { ⌜ PaintersDue 0 (now sheet) (length (now masks)) at ⌝ }
+    ensures { λ x. ⌜ x ≡ paintersOf 0 (now (book .entry)) (split .colours) (now (masks .entry)) (now (sheet .entry)) at ⌝ }
 {
     let c = split.colours;
     let mut cells = [0u8; ROOM];
-    number_sheet(book, c.count, &c.starts, &c.lens, sheet, &mut cells);
+    number_sheet(0, book, c.count, &c.starts, &c.lens, sheet, &mut cells);
     masks[PAINTERS_FROM + cells[at] as usize]
 }
 
@@ -172,7 +172,7 @@ pub fn recolour(
     column: usize,
     colour: usize,
 ) -> Answer
-    ensures { λ r. ⌜ Recolours (recolouring (now (book .entry)) (now (sheet .entry)) (now (work .entry)) row column colour)
+    ensures { λ r. ⌜ Recolours (recolouring 0 (now (book .entry)) (now (sheet .entry)) (now (work .entry)) row column colour)
         r (now (sheet .exit)) (now (work .exit)) ⌝ }
 {
     let mut masks = [0u32; ALL_MASKS];
@@ -180,7 +180,7 @@ pub fn recolour(
     if split.fault.number != 0 {
         return answer::blame(1, split.fault);
     }
-    let g = sheet_figures(sheet);
+    let g = sheet_figures(0, sheet);
     if g.fault.number != 0 {
         return answer::blame(2, g.fault);
     }

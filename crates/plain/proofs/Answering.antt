@@ -17,6 +17,7 @@ use Rattle.books.specs.Numbering.{Numbers, numbersOf, numbersFor}
 use Rattle.books.specs.Picture.{Picture}
 use Rattle.books.specs.RuleBytes.{BookInto, rulesIn}
 use Rattle.books.specs.Sheet.{sheetOf}
+use Rattle.books.specs.Size.{room}
 use Rattle.books.specs.declared.family.Family.{Family}
 use Rattle.books.specs.declared.lent.BookFigures.{BookFigures}
 use Rattle.books.specs.declared.sheet.Sheet.{Sheet}
@@ -25,6 +26,7 @@ use Rattle.books.proofs.AlikeSearches.{found-alike}
 use Rattle.books.proofs.LentEnds.{book-refused-first, sheet-refused-second, both-go-on}
 use Rattle.books.proofs.LentRules.{rows-back}
 use Rattle.books.proofs.NumberedCells.{numbers-for, numbers-room}
+use Rattle.books.proofs.Presses.{greatest-few}
 use Rattle.books.proofs.ReadingBooks.{book-places}
 use Rattle.books.proofs.ReadingSheets.{sheet-lies}
 use Rattle.pieces.specs.Area.{whole}
@@ -40,49 +42,49 @@ unfolding found derives?
 found-whole b p cells given a hr hc =
     found-alike (onSheet (sizeOf p) cells) (pictures b) (b .rules) (CutsOut p) (pieces-alike b p cells given) _ a (whole (p .rows) (p .cols)) p (whole-cuts p hr hc)
 
-module _ (book sheet : List ℕ) {b : BookFigures} {rows : List (List ℕ)} (read : BookInto book b rows) where
-  pub book-blamed : (b .fault .number ≡ 0 → ⊥) → plainAnswer book sheet ≡ blaming 1 (b .fault)
+module _ (press : ℕ) (book sheet : List ℕ) {b : BookFigures} {rows : List (List ℕ)} (read : BookInto book b rows) where
+  pub book-blamed : (b .fault .number ≡ 0 → ⊥) → plainAnswer press book sheet ≡ blaming 1 (b .fault)
   unfolding plainAnswer
   book-blamed n =
-      rw (read .figures) (book-refused-first book (λ a. a) 1 (λ c. lentSheet 2 sheet (λ a. a) (λ p. searched c p)) (rw (read .figures) at n))
+      rw (read .figures) (book-refused-first book (λ a. a) 1 (λ c. lentSheet press 2 sheet (λ a. a) (λ p. searched c p)) (rw (read .figures) at n))
 
-  module _ {s : SheetFigures} {cells : List ℕ} (shown : Numbers book (b .colours) sheet s cells) (z : b .fault .number ≡ 0) where
+  module _ {s : SheetFigures} {cells : List ℕ} (shown : Numbers press book (b .colours) sheet s cells) (z : b .fault .number ≡ 0) where
     abbrev f : Family
     f = bookOf book .family
 
     abbrev g : Sheet
-    g = sheetOf sheet .sheet
+    g = sheetOf press sheet .sheet
 
     book-fine : bookOf book .fault .number ≡ 0
     book-fine = rw (read .figures) at z
 
-    pub sheet-blamed : (s .fault .number ≡ 0 → ⊥) → plainAnswer book sheet ≡ blaming 2 (s .fault)
+    pub sheet-blamed : (s .fault .number ≡ 0 → ⊥) → plainAnswer press book sheet ≡ blaming 2 (s .fault)
     unfolding plainAnswer
-    sheet-blamed n = rw (shown .figures) (sheet-refused-second book (λ a. a) sheet searched book-fine (rw (shown .figures) at n))
+    sheet-blamed n = rw (shown .figures) (sheet-refused-second book (λ a. a) press sheet searched book-fine (rw (shown .figures) at n))
 
-    pub cells-room : length cells ≡ 144
-    cells-room = rw (shown .cells) (numbers-room book (b .colours) sheet)
+    pub cells-room : length cells ≡ room
+    cells-room = rw (shown .cells) (numbers-room press book (b .colours) sheet)
 
     module _ (y : s .fault .number ≡ 0) where
-      fine : Accepted book sheet
+      fine : Accepted press book sheet
       fine = record { book-fine = book-fine; sheet-fine = rw (shown .figures) at y }
 
-      goes-on : plainAnswer book sheet ≡ searched (contentsOf book) (pictureOf sheet)
+      goes-on : plainAnswer press book sheet ≡ searched (contentsOf book) (pictureOf press sheet)
       unfolding plainAnswer
-      goes-on = both-go-on book (λ a. a) sheet searched fine
+      goes-on = both-go-on book (λ a. a) press sheet searched fine
 
       pub whole-lies : Lies (s .size) cells (whole (s .size .rows) (s .size .cols))
       whole-lies =
-          let lies = sheet-lies sheet (fine .sheet-fine) in
+          let lies = sheet-lies press sheet (fine .sheet-fine) in
           let few = lies .within in
           rw (shown .figures) (record {
-            rows-few = omega (arith, few .rows-few);
-            cols-few = omega (arith, few .cols-few);
+            rows-few = omega (arith, few .rows-few, greatest-few press);
+            cols-few = omega (arith, few .cols-few, greatest-few press);
             cells-all = omega (arith, lies .area-few, cells-room);
             inside = whole-inside _ _ (few .rows-some) (few .cols-some);
           })
 
-      pub too-many : mostCells < s .size .rows * s .size .cols → plainAnswer book sheet ≡ plain 20
+      pub too-many : mostCells < s .size .rows * s .size .cols → plainAnswer press book sheet ≡ plain 20
       unfolding searched
       too-many h = goes-on ∙ rw (lt-ltb mostCells (g .size .rows * g .size .cols) (rw (shown .figures) at h))
 
@@ -92,14 +94,14 @@ module _ (book sheet : List ℕ) {b : BookFigures} {rows : List (List ℕ)} (rea
             shown .cells ∙ ap (λ (x : BookFigures). numbersFor book (x .colours) sheet g) (read .figures) ∙ numbers-for book (f .colours) sheet g (book-places book .few)
 
         found-sheet : found (rulesIn (take (b .rules) rows)) (s .size) cells (b .start) (whole (s .size .rows) (s .size .cols))
-            ≡ derives? (contentsOf book) (f .start) (pictureOf sheet)
+            ≡ derives? (contentsOf book) (f .start) (pictureOf press sheet)
         found-sheet =
-            let few = sheet-lies sheet (fine .sheet-fine) .within in
+            let few = sheet-lies press sheet (fine .sheet-fine) .within in
             rw (shown .figures, numbered, rows-back book read, read .figures)
-            (found-whole (contentsOf book) (pictureOf sheet) (numbersOf book (f .colours) sheet g) (sheet-numbered book sheet bytes-book bytes-sheet fine) (f .start)
+            (found-whole (contentsOf book) (pictureOf press sheet) (numbersOf book (f .colours) sheet g) (sheet-numbered press book sheet bytes-book bytes-sheet fine) (f .start)
             (few .rows-some) (few .cols-some))
 
         pub told : s .size .rows * s .size .cols ≤ mostCells
-            → plainAnswer book sheet ≡ pick (found (rulesIn (take (b .rules) rows)) (s .size) cells (b .start) (whole (s .size .rows) (s .size .cols))) (plain 0) (plain 11)
+            → plainAnswer press book sheet ≡ pick (found (rulesIn (take (b .rules) rows)) (s .size) cells (b .start) (whole (s .size .rows) (s .size .cols))) (plain 0) (plain 11)
         unfolding searched
         told h = goes-on ∙ rw (le-ltb mostCells (g .size .rows * g .size .cols) (rw (shown .figures) at h), found-sheet)

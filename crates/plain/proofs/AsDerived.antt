@@ -18,17 +18,17 @@ use Rattle.plain.specs.Outcome.{plainAnswer}
 use Rattle.plain.proofs.Demand1.{plain-answer-packs}
 use Rattle.plain.proofs.Endings.{plain-ends}
 
-module _ (book sheet entries numbers : List ℕ) (room : Roomy (pictureOf sheet) entries numbers) where
+module _ (press : ℕ) (book sheet entries numbers : List ℕ) (room : Roomy (pictureOf press sheet) entries numbers) where
   abbrev d : Derivation
-  d = derivation book sheet entries numbers
+  d = derivation press book sheet entries numbers
 
   abbrev Has : Type 0
-  Has = Member (contentsOf book) (pictureOf sheet)
+  Has = Member (contentsOf book) (pictureOf press sheet)
 
   -- with room enough a derivation of an accepted pair says whether the family has the sheet
-  says : Accepted book sheet → (a : Answer) → ((Has → ⊥) → a ≡ plain 11) → (Has → a ≡ plain 0) → a ≡ d .answer
+  says : Accepted press book sheet → (a : Answer) → ((Has → ⊥) → a ≡ plain 11) → (Has → a ≡ plain 0) → a ≡ d .answer
   says fine a none some =
-      derivation-ends book sheet entries numbers (λ (x : Derivation). a ≡ x .answer)
+      derivation-ends press book sheet entries numbers (λ (x : Derivation). a ≡ x .answer)
       (record {
         in-book = λ n. absurd (n (fine .book-fine));
         in-sheet = λ z n. absurd (n (fine .sheet-fine));
@@ -38,12 +38,12 @@ module _ (book sheet entries numbers : List ℕ) (room : Roomy (pictureOf sheet)
         derived = λ _ _ x _ _. some x;
       })
 
-  pub as-derived : (plainAnswer book sheet .number ≡ 20 → ⊥) → plainAnswer book sheet ≡ d .answer
+  pub as-derived : (plainAnswer press book sheet .number ≡ 20 → ⊥) → plainAnswer press book sheet ≡ d .answer
   as-derived =
-      plain-ends book sheet (λ (a : Answer). (a .number ≡ 20 → ⊥) → a ≡ d .answer)
+      plain-ends press book sheet (λ (a : Answer). (a .number ≡ 20 → ⊥) → a ≡ d .answer)
       (record {
-        in-book = λ n _. sym (ap (λ (x : Derivation). x .answer) (book-first book sheet entries numbers n) ∙ blamed-is 1 (bookOf book .fault) n);
-        in-sheet = λ z n _. sym (ap (λ (x : Derivation). x .answer) (sheet-second book sheet entries numbers z n) ∙ blamed-is 2 (sheetOf sheet .fault) n);
+        in-book = λ n _. sym (ap (λ (x : Derivation). x .answer) (book-first press book sheet entries numbers n) ∙ blamed-is 1 (bookOf book .fault) n);
+        in-sheet = λ z n _. sym (ap (λ (x : Derivation). x .answer) (sheet-second press book sheet entries numbers z n) ∙ blamed-is 2 (sheetOf press sheet .fault) n);
         too-many = λ _ _ taken. absurd (taken refl);
         declined = λ fine _ none _. says fine (plain 11) (λ _. refl) (λ has. absurd (none has));
         derived = λ fine _ has _. says fine (plain 0) (λ none. absurd (none has)) (λ _. refl);
@@ -52,11 +52,11 @@ module _ (book sheet entries numbers : List ℕ) (room : Roomy (pictureOf sheet)
   -- ── The theorems ──
 
   -- the two engines answer alike, number, blamed input and place, ...
-  pub plain-as-derive : {a r : Answer} {w t : List ℕ} → a ≡ plainAnswer book sheet → Leaves d r w t → (a .number ≡ 20 → ⊥) → a ≡ r
+  pub plain-as-derive : {a r : Answer} {w t : List ℕ} → a ≡ plainAnswer press book sheet → Leaves d r w t → (a .number ≡ 20 → ⊥) → a ≡ r
   plain-as-derive e left taken = e ∙ as-derived (λ h. taken (ap (λ (x : Answer). x .number) e ∙ h)) ∙ sym (left .answers)
 
   -- ... and give the C host the same number
-  pub dv-plain-as-dv-derive : {a r : ℕ} {w t : List ℕ} → a ≡ packed (plainAnswer book sheet) 0 → LeavesPacked d r w t → (a % 2 ^ 8 ≡ 20 → ⊥) → a ≡ r
+  pub dv-plain-as-dv-derive : {a r : ℕ} {w t : List ℕ} → a ≡ packed (plainAnswer press book sheet) 0 → LeavesPacked d r w t → (a % 2 ^ 8 ≡ 20 → ⊥) → a ≡ r
   dv-plain-as-dv-derive e left taken =
-      let number = apart (plainAnswer book sheet) 0 (plain-answer-packs book sheet) .number-is in
+      let number = apart (plainAnswer press book sheet) 0 (plain-answer-packs press book sheet) .number-is in
       e ∙ ap (λ (x : Answer). packed x 0) (as-derived (λ h. taken (ap (λ (n : ℕ). n % 2 ^ 8) e ∙ number ∙ h))) ∙ sym (left .answers)

@@ -20,29 +20,29 @@ use Rattle.pieces.proofs.Demand1.{InBook, InSheet, not-input}
 use Rattle.plain.specs.Outcome.{mostCells, cells, plainAnswer}
 use Rattle.plain.proofs.Endings.{plain-ends}
 
-module _ (book sheet : List ℕ) where
+module _ (press : ℕ) (book sheet : List ℕ) where
   -- the sheet has no more cells than are taken, and its family has it
   abbrev pub Few : Type 0
-  Few = cells (pictureOf sheet) ≤ mostCells
+  Few = cells (pictureOf press sheet) ≤ mostCells
 
   abbrev pub Has : Type 0
-  Has = Member (contentsOf book) (pictureOf sheet)
+  Has = Member (contentsOf book) (pictureOf press sheet)
 
   -- A call that was lent a book and a sheet answers so.
   pub record Answered (number blamed place : ℕ) : Type 0 where
     pub listed : InputsNumber number ⊎ ((number ≡ 11) ⊎ (number ≡ 20))
-    pub faulty : ((1 ≤ number) × InputsNumber number) ↔ (Accepted book sheet → ⊥)
-    pub twenty : (number ≡ 20) ↔ (Accepted book sheet × (mostCells < cells (pictureOf sheet)))
-    pub eleven : (number ≡ 11) ↔ (Accepted book sheet × Few × (Has → ⊥))
-    pub zero : (number ≡ 0) ↔ (Accepted book sheet × Few × Has)
+    pub faulty : ((1 ≤ number) × InputsNumber number) ↔ (Accepted press book sheet → ⊥)
+    pub twenty : (number ≡ 20) ↔ (Accepted press book sheet × (mostCells < cells (pictureOf press sheet)))
+    pub eleven : (number ≡ 11) ↔ (Accepted press book sheet × Few × (Has → ⊥))
+    pub zero : (number ≡ 0) ↔ (Accepted press book sheet × Few × Has)
     -- a fault is blamed on its input, at its place
-    pub faults : 1 ≤ number → InputsNumber number → InBook book number blamed place ⊎ InSheet book sheet number blamed place
-    pub others : Accepted book sheet → (blamed ≡ 0) × (place ≡ 0)
+    pub faults : 1 ≤ number → InputsNumber number → InBook book number blamed place ⊎ InSheet press book sheet number blamed place
+    pub others : Accepted press book sheet → (blamed ≡ 0) × (place ≡ 0)
 
   abbrev Obeys : Answer → Type 0
   Obeys a = Answered (a .number) (a .blamed) (a .place)
 
-  in-input : (n blamed place : ℕ) → 1 ≤ n → InputsNumber n → (Accepted book sheet → ⊥) → InBook book n blamed place ⊎ InSheet book sheet n blamed place → Answered n blamed place
+  in-input : (n blamed place : ℕ) → 1 ≤ n → InputsNumber n → (Accepted press book sheet → ⊥) → InBook book n blamed place ⊎ InSheet press book sheet n blamed place → Answered n blamed place
   in-input n blamed place h g bad which =
       record {
         listed = inl g;
@@ -54,14 +54,14 @@ module _ (book sheet : List ℕ) where
         others = λ fine. absurd (bad fine);
       }
 
-  obeys : Obeys (plainAnswer book sheet)
+  obeys : Obeys (plainAnswer press book sheet)
   obeys =
-      plain-ends book sheet Obeys
+      plain-ends press book sheet Obeys
       (record {
         in-book = λ n. let f = book-refused book n .blamed in
             in-input _ _ _ (f .some) (f .known) (λ fine. n (fine .book-fine))
             (inl (record { number-is = refl; place-is = refl; first = refl; inside = f .inside }));
-        in-sheet = λ z n. let f = sheet-refused sheet n .blamed in
+        in-sheet = λ z n. let f = sheet-refused press sheet n .blamed in
             in-input _ _ _ (f .some) (inl (f .known)) (λ fine. n (fine .sheet-fine))
             (inr (record { book-fine = z; number-is = refl; place-is = refl; second = refl; inside = f .inside }));
         too-many = λ fine many.
@@ -96,12 +96,12 @@ module _ (book sheet : List ℕ) where
             };
       })
 
-  pub plain-answer-packs : Packs (plainAnswer book sheet) 0
+  pub plain-answer-packs : Packs (plainAnswer press book sheet) 0
   plain-answer-packs =
-      plain-ends book sheet (λ a. Packs a 0)
+      plain-ends press book sheet (λ a. Packs a 0)
       (record {
         in-book = λ n. rw (ne-eqb (bookOf book .fault .number) 0 n) at (book-placed book 1 (omega arith) .packs);
-        in-sheet = λ z n. rw (ne-eqb (sheetOf sheet .fault .number) 0 n) at (sheet-placed sheet 2 (omega arith) .packs);
+        in-sheet = λ z n. rw (ne-eqb (sheetOf press sheet .fault .number) 0 n) at (sheet-placed press sheet 2 (omega arith) .packs);
         too-many = λ _ _. plain-packs 20 0 (omega arith) (omega arith);
         declined = λ _ _ _. plain-packs 11 0 (omega arith) (omega arith);
         derived = λ _ _ _. plain-packs 0 0 (omega arith) (omega arith);
@@ -111,14 +111,14 @@ module _ (book sheet : List ℕ) where
 
   -- 1 to 8 or 18 exactly where an input is refused, 20 exactly where both are accepted and the sheet has more than 16 cells, 11 exactly where it has no more and the family has
   -- not the sheet, and 0 exactly where it has it
-  pub plain-answered : (r : Answer) → r ≡ plainAnswer book sheet → Answered (r .number) (r .blamed) (r .place)
+  pub plain-answered : (r : Answer) → r ≡ plainAnswer press book sheet → Answered (r .number) (r .blamed) (r .place)
   plain-answered r e = rw e obeys
 
   pub record Called (r : ℕ) : Type 0 where
     pub parts : Answered (r % 2 ^ 8) (r / 2 ^ 8 % 2 ^ 4) (r / 2 ^ 12 % 2 ^ 20)
     pub counted : r / 2 ^ 32 ≡ 0
 
-  pub dv-plain-called : (r : ℕ) → r ≡ packed (plainAnswer book sheet) 0 → Called r
+  pub dv-plain-called : (r : ℕ) → r ≡ packed (plainAnswer press book sheet) 0 → Called r
   dv-plain-called r e =
-      let a = apart (plainAnswer book sheet) 0 plain-answer-packs in
+      let a = apart (plainAnswer press book sheet) 0 plain-answer-packs in
       rw e (record { parts = rw (a .number-is, a .blamed-is, a .place-is) obeys; counted = a .count-is })

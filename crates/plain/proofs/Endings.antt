@@ -18,22 +18,22 @@ use Rattle.books.proofs.Deciding.{decided, refused}
 use Rattle.books.proofs.LentEnds.{both-end}
 use Rattle.plain.specs.Outcome.{mostCells, cells, searched, plainAnswer}
 
-module _ (book sheet : List ℕ) where
+module _ (press : ℕ) (book sheet : List ℕ) where
   abbrev b : Contents
   b = contentsOf book
 
   abbrev p : Picture
-  p = pictureOf sheet
+  p = pictureOf press sheet
 
   pub record Cases (P : Answer → Type 0) : Type 0 where
     pub in-book : (bookOf book .fault .number ≡ 0 → ⊥) → P (answer (bookOf book .fault .number) 1 (bookOf book .fault .place))
-    pub in-sheet : bookOf book .fault .number ≡ 0 → (sheetOf sheet .fault .number ≡ 0 → ⊥) → P (answer (sheetOf sheet .fault .number) 2 (sheetOf sheet .fault .place))
-    pub too-many : Accepted book sheet → mostCells < cells p → P (plain 20)
-    pub declined : Accepted book sheet → cells p ≤ mostCells → (Member b p → ⊥) → P (plain 11)
-    pub derived : Accepted book sheet → cells p ≤ mostCells → Member b p → P (plain 0)
+    pub in-sheet : bookOf book .fault .number ≡ 0 → (sheetOf press sheet .fault .number ≡ 0 → ⊥) → P (answer (sheetOf press sheet .fault .number) 2 (sheetOf press sheet .fault .place))
+    pub too-many : Accepted press book sheet → mostCells < cells p → P (plain 20)
+    pub declined : Accepted press book sheet → cells p ≤ mostCells → (Member b p → ⊥) → P (plain 11)
+    pub derived : Accepted press book sheet → cells p ≤ mostCells → Member b p → P (plain 0)
 
   module _ (P : Answer → Type 0) (cases : Cases P) where
-    by-searching : Accepted book sheet → P (searched b p)
+    by-searching : Accepted press book sheet → P (searched b p)
     unfolding searched
     by-searching fine =
         pick-ind P (ltb mostCells (cells p)) _ _
@@ -43,7 +43,7 @@ module _ (book sheet : List ℕ) where
         (λ d. cases .derived fine few (decided b (b .start) p .0 d))
         (λ d. cases .declined fine few (refused b (b .start) p .0 d)))
 
-    pub plain-ends : P (plainAnswer book sheet)
+    pub plain-ends : P (plainAnswer press book sheet)
     unfolding plainAnswer
     plain-ends =
-        both-end P (λ a. a) book sheet searched (record { in-book = cases .in-book; in-sheet = cases .in-sheet; in-neither = by-searching })
+        both-end P (λ a. a) press book sheet searched (record { in-book = cases .in-book; in-sheet = cases .in-sheet; in-neither = by-searching })

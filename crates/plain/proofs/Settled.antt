@@ -5,8 +5,8 @@ use Rattle.names.proofs.Settled.{Settles, settles}
 use Rattle.books.specs.Answer.{packed}
 use Rattle.plain.specs.Outcome.{plainAnswer}
 
-pub plain-settled : (book sheet : List ℕ) → Settles (plainAnswer book sheet)
-plain-settled book sheet = settles _
+pub plain-settled : (press : ℕ) (book sheet : List ℕ) → Settles (plainAnswer press book sheet)
+plain-settled press book sheet = settles _
 
-pub dv-plain-settled : (book sheet : List ℕ) → Settles (packed (plainAnswer book sheet) 0)
-dv-plain-settled book sheet = settles _
+pub dv-plain-settled : (press : ℕ) (book sheet : List ℕ) → Settles (packed (plainAnswer press book sheet) 0)
+dv-plain-settled press book sheet = settles _

@@ -1,5 +1,5 @@
--- What the plain engine answers: the book's fault, then the sheet's, then 20 for more than 16 cells; else 0 where the start motif derives the sheet, and
--- 11 where it does not.
+-- What the plain engine answers on a sheet of a press: the book's fault, then the sheet's, then 20 for more than 16 cells; else 0 where the start motif
+-- derives the sheet, and 11 where it does not.
 use Prim.Native.Nat.{ℕ, _*_}
 use mathlib.Core.List.{List}
 use lib.Dec.{ltb}
@@ -21,5 +21,5 @@ cells p = p .rows * p .cols
 unfoldable pub searched : Contents → Picture → Answer
 searched b p = pick (ltb mostCells (cells p)) (plain 20) (pick (derives? b (b .start) p) (plain 0) (plain 11))
 
-unfoldable pub plainAnswer : List ℕ → List ℕ → Answer
-plainAnswer book sheet = lentBoth book sheet (λ a. a) searched
+unfoldable pub plainAnswer : ℕ → List ℕ → List ℕ → Answer
+plainAnswer press book sheet = lentBoth press book sheet (λ a. a) searched

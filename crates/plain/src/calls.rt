@@ -16,7 +16,7 @@ pub const MOST_CELLS: usize = 16;
 
 // Asks whether the family of a book has a sheet: the book's fault, then the sheet's, then 20 for a sheet of too many cells, and else 0 or 11.
 pub fn plain(book: &[u8], sheet: &[u8]) -> Answer
-    ensures { λ r. ⌜ r ≡ plainAnswer (now (book .entry)) (now (sheet .entry)) ⌝ }
+    ensures { λ r. ⌜ r ≡ plainAnswer 0 (now (book .entry)) (now (sheet .entry)) ⌝ }
 {
     let mut rules = [[0u8; 4]; MOST_RULES];
     let b = read_rules(book, &mut rules);
@@ -25,7 +25,7 @@ pub fn plain(book: &[u8], sheet: &[u8]) -> Answer
     }
     let c = b.colours;
     let mut cells = [0u8; ROOM];
-    let s = number_sheet(book, c.count, &c.starts, &c.lens, sheet, &mut cells);
+    let s = number_sheet(0, book, c.count, &c.starts, &c.lens, sheet, &mut cells);
     if s.fault.number != 0 {
         return answer::blame(2, s.fault);
     }
@@ -49,7 +49,7 @@ pub fn plain(book: &[u8], sheet: &[u8]) -> Answer
 // The same for the C host.
 #[no_mangle]
 pub extern "C" fn dv_plain(book: &[u8], sheet: &[u8]) -> u64
-    ensures { λ r. ⌜ r ≡ packed (plainAnswer (now (book .entry)) (now (sheet .entry))) 0 ⌝ }
+    ensures { λ r. ⌜ r ≡ packed (plainAnswer 0 (now (book .entry)) (now (sheet .entry))) 0 ⌝ }
 {
     answer::pack(plain(book, sheet), 0)
 }

@@ -9,9 +9,11 @@ use Rattle.books.specs.Book.{bookOf}
 use Rattle.books.specs.Contents.{Contents}
 use Rattle.books.specs.Picture.{Picture}
 use Rattle.books.specs.Sheet.{sheetOf}
-use Rattle.books.specs.Size.{greatest}
+use Rattle.books.specs.Press.{widest}
 use Rattle.books.proofs.Packing.{plain-packs, book-placed, sheet-placed}
+use Rattle.books.proofs.Presses.{greatest-few}
 use Rattle.books.proofs.ReadingSheets.{sheet-lies}
+use Rattle.books.proofs.SizesWithin.{within-more}
 use Rattle.books.specs.Lent.{contentsOf, pictureOf}
 use Rattle.reasons.specs.declared.reason.Reason.{Reason}
 use Rattle.reasons.specs.declared.reason.Reason.the-variants.{NoReason, Unnamed, NoSuchSize, Largest, NoPiece}
@@ -25,7 +27,7 @@ use Rattle.reasons.proofs.Endings.{why-not-ends}
 pub no-values : Fits (values 0 0 0 0 0)
 no-values = record { row-fits = omega arith; column-fits = omega arith; height-fits = omega arith; width-fits = omega arith }
 
-holding-fits : (b : Contents) (p : Picture) → p .rows ≤ greatest → p .cols ≤ greatest → (r : Reason) → Holds b p r → Fits (valuesOf r)
+holding-fits : (b : Contents) (p : Picture) → p .rows ≤ widest → p .cols ≤ widest → (r : Reason) → Holds b p r → Fits (valuesOf r)
 holding-fits b p hr hc NoReason x = absurd x
 holding-fits b p hr hc (Unnamed row column) x =
     record { row-fits = omega (arith, x .in-rows); column-fits = omega (arith, x .in-cols); height-fits = omega arith; width-fits = omega arith }
@@ -94,16 +96,16 @@ pub record Packable (o : Outcome) : Type 0 where
   pub fits : Fits (valuesOf (o .reason))
   pub packs : Packs (o .answer) (packedReason (o .reason))
 
-pub why-not-packs : (book sheet entries : List ℕ) → Packable (whyNot book sheet entries)
-why-not-packs book sheet entries =
-    why-not-ends book sheet entries Packable
+pub why-not-packs : (press : ℕ) (book sheet entries : List ℕ) → Packable (whyNot press book sheet entries)
+why-not-packs press book sheet entries =
+    why-not-ends press book sheet entries Packable
     (record {
       in-book = λ n. record { fits = no-values; packs = rw (ne-eqb (bookOf book .fault .number) 0 n) at (book-placed book 1 (omega arith) .packs) };
-      in-sheet = λ z n. record { fits = no-values; packs = rw (ne-eqb (sheetOf sheet .fault .number) 0 n) at (sheet-placed sheet 2 (omega arith) .packs) };
+      in-sheet = λ z n. record { fits = no-values; packs = rw (ne-eqb (sheetOf press sheet .fault .number) 0 n) at (sheet-placed press sheet 2 (omega arith) .packs) };
       short-work = λ fine short. record { fits = no-values; packs = plain-packs 9 0 (omega arith) (omega arith) };
       in-family = λ fine room x. record { fits = no-values; packs = plain-packs 15 0 (omega arith) (omega arith) };
       explained = λ fine room other first.
-          let s = sheet-lies sheet (fine .sheet-fine) in
-          let fits = holding-fits (contentsOf book) (pictureOf sheet) (s .within .rows-few) (s .within .cols-few) (reasonOf (contentsOf book) (pictureOf sheet)) (first .holds) in
-          record { fits = fits; packs = plain-packs 0 _ (omega arith) (packed-low (reasonOf (contentsOf book) (pictureOf sheet)) fits) };
+          let s = within-more (greatest-few press) (sheet-lies press sheet (fine .sheet-fine) .within) in
+          let fits = holding-fits (contentsOf book) (pictureOf press sheet) (s .rows-few) (s .cols-few) (reasonOf (contentsOf book) (pictureOf press sheet)) (first .holds) in
+          record { fits = fits; packs = plain-packs 0 _ (omega arith) (packed-low (reasonOf (contentsOf book) (pictureOf press sheet)) fits) };
     })

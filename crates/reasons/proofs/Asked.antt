@@ -15,8 +15,10 @@ use Rattle.books.specs.Answer.{plain, blaming}
 use Rattle.books.specs.declared.answer.Answer.{Answer}
 use Rattle.books.specs.Book.{bookOf}
 use Rattle.books.specs.Sheet.{sheetOf}
-use Rattle.books.specs.Size.{greatest, Within}
+use Rattle.books.specs.Press.{greatestOf}
+use Rattle.books.specs.Size.{Within}
 use Rattle.books.proofs.ReadingBooks.{book-accepted}
+use Rattle.books.proofs.Presses.{greatest-few}
 use Rattle.books.proofs.ReadingSheets.{sheet-lies, sheet-refused}
 use Rattle.books.proofs.SizesWithin.{within-more}
 use Rattle.pieces.specs.Asking.{Asking, asking, SplitFrom, Asks}
@@ -37,12 +39,12 @@ use Rattle.reasons.specs.inner.FromTable.{reasonIn, unexplained}
 use Rattle.reasons.proofs.Endings.{why-not-ends}
 use Rattle.reasons.proofs.FromTables.{reason-shown}
 
-module _ (book sheet entries : List ℕ) where
+module _ (press : ℕ) (book sheet entries : List ℕ) where
   abbrev b : Contents
   b = contentsOf book
 
   abbrev p : Picture
-  p = pictureOf sheet
+  p = pictureOf press sheet
 
   abbrev explained : Outcome
   explained = record { answer = plain 0; reason = reasonOf b p; entries = filled b p entries }
@@ -53,7 +55,7 @@ module _ (book sheet entries : List ℕ) where
   pub record Called (o : Outcome) (a : Asking) : Type 0 where
     pub is : o ≡ explained
     pub holds : a .entries ≡ filled b p entries
-    pub sheet-fine : sheetOf sheet .fault .number ≡ 0
+    pub sheet-fine : sheetOf press sheet .fault .number ≡ 0
     pub room : entriesNeeded p ≤ length entries
 
   pub record Follows (o : Outcome) (a : Asking) : Type 0 where
@@ -61,22 +63,22 @@ module _ (book sheet entries : List ℕ) where
     pub eleven : a .answer .number ≡ 11 → Called o a
     pub other : (a .answer .number ≡ 0 → ⊥) → (a .answer .number ≡ 11 → ⊥) → o ≡ refused (a .answer) (a .entries)
 
-  pub follows : bookOf book .fault .number ≡ 0 → Follows (whyNot book sheet entries) (asking book sheet entries)
+  pub follows : bookOf book .fault .number ≡ 0 → Follows (whyNot press book sheet entries) (asking press book sheet entries)
   follows book-fine =
-      why-not-ends book sheet entries (λ o. Follows o (asking book sheet entries))
+      why-not-ends press book sheet entries (λ o. Follows o (asking press book sheet entries))
       (record {
         in-book = λ n. absurd (n book-fine);
-        in-sheet = λ z n. let f = sheet-refused sheet n .blamed in
-            rw (sheet-first book sheet entries n, ne-eqb (sheetOf sheet .fault .number) 0 n)
+        in-sheet = λ z n. let f = sheet-refused press sheet n .blamed in
+            rw (sheet-first press book sheet entries n, ne-eqb (sheetOf press sheet .fault .number) 0 n)
             (record { zero = λ e. absurd (n e); eleven = λ e. absurd (omega (arith, f .known)); other = λ _ _. refl });
         short-work = λ fine short.
-            rw (room-second book sheet entries (fine .sheet-fine) short)
+            rw (room-second press book sheet entries (fine .sheet-fine) short)
             (record { zero = λ e. absurd (omega arith); eleven = λ e. absurd (omega arith); other = λ _ _. refl });
         in-family = λ fine room x.
-            rw (derived-asked book sheet entries fine room x)
+            rw (derived-asked press book sheet entries fine room x)
             (record { zero = λ _. refl; eleven = λ e. absurd (omega arith); other = λ n _. absurd (n refl) });
         explained = λ fine room none first.
-            rw (other-asked book sheet entries fine room none)
+            rw (other-asked press book sheet entries fine room none)
             (record {
               zero = λ e. absurd (omega arith);
               eleven = λ _. record { is = refl; holds = refl; sheet-fine = fine .sheet-fine; room = room };
@@ -86,63 +88,63 @@ module _ (book sheet entries : List ℕ) where
 
 -- ── What is told ──
 
-book-first : (book sheet entries : List ℕ) → (bookOf book .fault .number ≡ 0 → ⊥) → whyNot book sheet entries ≡ refused (blaming 1 (bookOf book .fault)) entries
+book-first : (press : ℕ) (book sheet entries : List ℕ) → (bookOf book .fault .number ≡ 0 → ⊥) → whyNot press book sheet entries ≡ refused (blaming 1 (bookOf book .fault)) entries
 unfolding whyNot
-book-first book sheet entries n = simp (ne-eqb (bookOf book .fault .number) 0 n)
+book-first press book sheet entries n = simp (ne-eqb (bookOf book .fault .number) 0 n)
 
-module _ (book sheet entries : List ℕ) (w : WhyNot) (a : Answer) (told : w ≡ unexplained a) where
-  pub told-faulty : (f : Fault) → f ≡ bookOf book .fault → (f .number ≡ 0 → ⊥) → a ≡ blaming 1 f → Answers (whyNot book sheet entries) w entries
+module _ (press : ℕ) (book sheet entries : List ℕ) (w : WhyNot) (a : Answer) (told : w ≡ unexplained a) where
+  pub told-faulty : (f : Fault) → f ≡ bookOf book .fault → (f .number ≡ 0 → ⊥) → a ≡ blaming 1 f → Answers (whyNot press book sheet entries) w entries
   told-faulty f read n e =
-      rw (book-first book sheet entries (λ z. n (ap (λ (x : Fault). x .number) read ∙ z)))
+      rw (book-first press book sheet entries (λ z. n (ap (λ (x : Fault). x .number) read ∙ z)))
       (record { answers = ap (λ (x : WhyNot). x .answer) told ∙ e ∙ ap (blaming 1) read; reasons = ap (λ (x : WhyNot). x .reason) told; leaves = refl })
 
-  module _ (left : List ℕ) (r : Asked) (cells : List ℕ) (asks : Asks book sheet entries r cells left) (book-fine : bookOf book .fault .number ≡ 0) where
-    number-asked : (n : ℕ) → r .answer .number ≡ n → asking book sheet entries .answer .number ≡ n
+  module _ (left : List ℕ) (r : Asked) (cells : List ℕ) (asks : Asks press book sheet entries r cells left) (book-fine : bookOf book .fault .number ≡ 0) where
+    number-asked : (n : ℕ) → r .answer .number ≡ n → asking press book sheet entries .answer .number ≡ n
     number-asked n e = sym (ap (λ (x : Answer). x .number) (asks .answers)) ∙ e
 
-    other-number : (n : ℕ) → (r .answer .number ≡ n → ⊥) → asking book sheet entries .answer .number ≡ n → ⊥
+    other-number : (n : ℕ) → (r .answer .number ≡ n → ⊥) → asking press book sheet entries .answer .number ≡ n → ⊥
     other-number n none e = none (ap (λ (x : Answer). x .number) (asks .answers) ∙ e)
 
-    pub told-in : r .answer .number ≡ 0 → a ≡ plain 15 → Answers (whyNot book sheet entries) w left
+    pub told-in : r .answer .number ≡ 0 → a ≡ plain 15 → Answers (whyNot press book sheet entries) w left
     told-in z e =
-        rw (follows book sheet entries book-fine .zero (number-asked 0 z))
+        rw (follows press book sheet entries book-fine .zero (number-asked 0 z))
         (record { answers = ap (λ (x : WhyNot). x .answer) told ∙ e; reasons = ap (λ (x : WhyNot). x .reason) told; leaves = asks .leaves-work })
 
-    pub told-refused : (r .answer .number ≡ 0 → ⊥) → (r .answer .number ≡ 11 → ⊥) → a ≡ r .answer → Answers (whyNot book sheet entries) w left
+    pub told-refused : (r .answer .number ≡ 0 → ⊥) → (r .answer .number ≡ 11 → ⊥) → a ≡ r .answer → Answers (whyNot press book sheet entries) w left
     told-refused n m e =
-        rw (follows book sheet entries book-fine .other (other-number 0 n) (other-number 11 m))
+        rw (follows press book sheet entries book-fine .other (other-number 0 n) (other-number 11 m))
         (record { answers = ap (λ (x : WhyNot). x .answer) told ∙ e ∙ asks .answers; reasons = ap (λ (x : WhyNot). x .reason) told; leaves = asks .leaves-work })
 
 -- ── The reason that the code finds ──
 
-module _ (book sheet entries left : List ℕ) (r : Asked) (cells : List ℕ) (asks : Asks book sheet entries r cells left)
+module _ (press : ℕ) (book sheet entries left : List ℕ) (r : Asked) (cells : List ℕ) (asks : Asks press book sheet entries r cells left)
     (book-fine : bookOf book .fault .number ≡ 0) (eleven : r .answer .number ≡ 11) where
-  called : Called book sheet entries (whyNot book sheet entries) (asking book sheet entries)
-  called = follows book sheet entries book-fine .eleven (sym (ap (λ (x : Answer). x .number) (asks .answers)) ∙ eleven)
+  called : Called press book sheet entries (whyNot press book sheet entries) (asking press book sheet entries)
+  called = follows press book sheet entries book-fine .eleven (sym (ap (λ (x : Answer). x .number) (asks .answers)) ∙ eleven)
 
-  holds : left ≡ filled (contentsOf book) (pictureOf sheet) entries
+  holds : left ≡ filled (contentsOf book) (pictureOf press sheet) entries
   holds = asks .leaves-work ∙ called .holds
 
-  sizes : Within greatest (pictureOf sheet .rows) (pictureOf sheet .cols)
-  sizes = sheet-lies sheet (called .sheet-fine) .within
+  sizes : Within (greatestOf press) (pictureOf press sheet .rows) (pictureOf press sheet .cols)
+  sizes = sheet-lies press sheet (called .sheet-fine) .within
 
-  pub sizes-asked : Within greatest (r .size .rows) (r .size .cols)
+  pub sizes-asked : Within (greatestOf press) (r .size .rows) (r .size .cols)
   sizes-asked = rw (asks .size) sizes
 
   pub room-asked : total (r .size .rows) (r .size .cols) ≤ length left
-  room-asked = rw (asks .size, holds, filled-length (contentsOf book) (pictureOf sheet) entries (called .room)) (called .room)
+  room-asked = rw (asks .size, holds, filled-length (contentsOf book) (pictureOf press sheet) entries (called .room)) (called .room)
 
-  reason-found : (split : Split) (masks : List ℕ) → SplitFrom book split masks → Bytes book → let p = pictureOf sheet in
-      reasonIn (hasSizeBy masks (split .joins) (split .start) (p .rows) (p .cols)) left (split .start) (p .rows) (p .cols) ≡ reasonOf (contentsOf book) p
+  reason-found : (split : Split) (masks : List ℕ) → SplitFrom book split masks → Bytes book → let p = pictureOf press sheet in
+      reasonIn (hasSizeBy press masks (split .joins) (split .start) (p .rows) (p .cols)) left (split .start) (p .rows) (p .cols) ≡ reasonOf (contentsOf book) p
   reason-found split masks from bytes =
-      let p = pictureOf sheet in
-      ap₂ (λ (has : Bool) (a : ℕ). reasonIn has left a (p .rows) (p .cols)) (placed-has book bytes split masks from (p .rows) (p .cols) sizes)
+      let p = pictureOf press sheet in
+      ap₂ (λ (has : Bool) (a : ℕ). reasonIn has left a (p .rows) (p .cols)) (placed-has book bytes split masks from press (p .rows) (p .cols) sizes)
       (kept-start book (from .before) (from .is))
-      ∙ reason-shown (contentsOf book) p (book-accepted book bytes book-fine .keeps .sound) (within-more (omega arith) sizes) left
+      ∙ reason-shown (contentsOf book) p (book-accepted book bytes book-fine .keeps .sound) (within-more (greatest-few press) sizes) left
       (rw holds (filled-holds (contentsOf book) p entries))
 
   pub told-reason : Bytes book → (split : Split) (masks : List ℕ) → SplitFrom book split masks → (a : Answer) → a ≡ plain 0 → (why : Reason)
-      → why ≡ reasonIn (hasSizeBy masks (split .joins) (split .start) (r .size .rows) (r .size .cols)) left (split .start) (r .size .rows) (r .size .cols)
-      → Answers (whyNot book sheet entries) (record { answer = a; reason = why }) left
+      → why ≡ reasonIn (hasSizeBy press masks (split .joins) (split .start) (r .size .rows) (r .size .cols)) left (split .start) (r .size .rows) (r .size .cols)
+      → Answers (whyNot press book sheet entries) (record { answer = a; reason = why }) left
   told-reason bytes split masks from a e why found =
       rw (called .is) (record { answers = e; reasons = (rw (asks .size) at found) ∙ reason-found split masks from bytes; leaves = holds })

@@ -34,16 +34,16 @@ unread n h g (inl e) = omega arith
 unread n h (inl g) (inr e) = not-input 15 (subst InputsNumber e g) (omega arith) (λ u. omega arith)
 unread n h (inr g) (inr e) = omega arith
 
-module _ (book sheet work : List ℕ) where
+module _ (press : ℕ) (book sheet work : List ℕ) where
   abbrev b : Contents
   b = contentsOf book
 
   abbrev p : Picture
-  p = pictureOf sheet
+  p = pictureOf press sheet
 
   -- both inputs are accepted, and the work slice is long enough
   abbrev pub Ready : Type 0
-  Ready = Accepted book sheet × (entriesNeeded p ≤ length work)
+  Ready = Accepted press book sheet × (entriesNeeded p ≤ length work)
 
   -- the table of the lent sheet at the front of the slice, and the slice beyond as it was
   abbrev pub tabled : List ℕ
@@ -52,11 +52,11 @@ module _ (book sheet work : List ℕ) where
   -- A call that was lent a book, a sheet and a work slice answers so, with this reason, and leaves the slice so.
   pub record Answered (number blamed place : ℕ) (reason : Reason) (left : List ℕ) : Type 0 where
     pub listed : InputsNumber number ⊎ ((number ≡ 9) ⊎ (number ≡ 15))
-    pub faulty : ((1 ≤ number) × InputsNumber number) ↔ (Accepted book sheet → ⊥)
-    pub nine : (number ≡ 9) ↔ (Accepted book sheet × (length work < entriesNeeded p))
+    pub faulty : ((1 ≤ number) × InputsNumber number) ↔ (Accepted press book sheet → ⊥)
+    pub nine : (number ≡ 9) ↔ (Accepted press book sheet × (length work < entriesNeeded p))
     pub fifteen : (number ≡ 15) ↔ (Ready × Member b p)
     pub zero : (number ≡ 0) ↔ (Ready × (Member b p → ⊥))
-    pub faults : 1 ≤ number → InputsNumber number → InBook book number blamed place ⊎ InSheet book sheet number blamed place
+    pub faults : 1 ≤ number → InputsNumber number → InBook book number blamed place ⊎ InSheet press book sheet number blamed place
     pub others : (number ≡ 0) ⊎ (InputsNumber number → ⊥) → (blamed ≡ 0) × (place ≡ 0)
     pub first : number ≡ 0 → First b p reason
     pub no-reason : (number ≡ 0 → ⊥) → reason ≡ NoReason
@@ -66,7 +66,7 @@ module _ (book sheet work : List ℕ) where
   abbrev Obeys : Outcome → Type 0
   Obeys o = Answered (o .answer .number) (o .answer .blamed) (o .answer .place) (o .reason) (o .entries)
 
-  faulty-input : (n blamed place : ℕ) → 1 ≤ n → InputsNumber n → (Accepted book sheet → ⊥) → InBook book n blamed place ⊎ InSheet book sheet n blamed place
+  faulty-input : (n blamed place : ℕ) → 1 ≤ n → InputsNumber n → (Accepted press book sheet → ⊥) → InBook book n blamed place ⊎ InSheet press book sheet n blamed place
       → Answered n blamed place NoReason work
   faulty-input n blamed place h g bad where-it-is =
       record {
@@ -87,14 +87,14 @@ module _ (book sheet work : List ℕ) where
       unlisted (inl e) = omega arith
       unlisted (inr other) = other g
 
-  pub obeys : Obeys (whyNot book sheet work)
+  pub obeys : Obeys (whyNot press book sheet work)
   obeys =
-      why-not-ends book sheet work Obeys
+      why-not-ends press book sheet work Obeys
       (record {
         in-book = λ n. let f = book-refused book n .blamed in
             faulty-input _ _ _ (f .some) (f .known) (λ fine. n (fine .book-fine))
             (inl (record { number-is = refl; place-is = refl; first = refl; inside = f .inside }));
-        in-sheet = λ z n. let f = sheet-refused sheet n .blamed in
+        in-sheet = λ z n. let f = sheet-refused press sheet n .blamed in
             faulty-input _ _ _ (f .some) (inl (f .known)) (λ fine. n (fine .sheet-fine))
             (inr (record { book-fine = z; number-is = refl; place-is = refl; second = refl; inside = f .inside }));
         short-work = λ fine short.
@@ -145,17 +145,17 @@ module _ (book sheet work : List ℕ) where
 
   -- 1 to 8 or 18 exactly where an input is refused, 9 exactly where both are accepted and the work slice is too short, 15 exactly where the family has the sheet, and
   -- 0 exactly where it has not: then with the first reason that holds
-  pub why-not-answered : (r : WhyNot) (left : List ℕ) → Answers (whyNot book sheet work) r left
+  pub why-not-answered : (r : WhyNot) (left : List ℕ) → Answers (whyNot press book sheet work) r left
       → Answered (r .answer .number) (r .answer .blamed) (r .answer .place) (r .reason) left
   why-not-answered r left a = rw (a .answers, a .reasons, a .leaves) obeys
 
   -- the same of the number that the C host gets, with the reason read off it
-  module _ (r : ℕ) (left : List ℕ) (l : Leaves (whyNot book sheet work) r left) where
+  module _ (r : ℕ) (left : List ℕ) (l : Leaves (whyNot press book sheet work) r left) where
     abbrev o : Outcome
-    o = whyNot book sheet work
+    o = whyNot press book sheet work
 
     packs : Packable o
-    packs = why-not-packs book sheet work
+    packs = why-not-packs press book sheet work
 
     count-is : r / 2 ^ 32 ≡ packedReason (o .reason)
     count-is = ap (λ (x : ℕ). x / 2 ^ 32) (l .answers) ∙ apart (o .answer) (packedReason (o .reason)) (packs .packs) .count-is

@@ -22,40 +22,40 @@ use Rattle.reasons.specs.Holds.{First}
 use Rattle.reasons.specs.Why.{Outcome, refused, reasonOf, judged, roomed, whyNot}
 use Rattle.reasons.proofs.FirstReason.{reason-first}
 
-module _ (book sheet entries : List ℕ) where
+module _ (press : ℕ) (book sheet entries : List ℕ) where
   abbrev b : Contents
   b = contentsOf book
 
   abbrev p : Picture
-  p = pictureOf sheet
+  p = pictureOf press sheet
 
   pub record Cases (P : Outcome → Type 0) : Type 0 where
     pub in-book : (bookOf book .fault .number ≡ 0 → ⊥) → P (refused (answer (bookOf book .fault .number) 1 (bookOf book .fault .place)) entries)
-    pub in-sheet : bookOf book .fault .number ≡ 0 → (sheetOf sheet .fault .number ≡ 0 → ⊥)
-        → P (refused (answer (sheetOf sheet .fault .number) 2 (sheetOf sheet .fault .place)) entries)
-    pub short-work : Accepted book sheet → length entries < entriesNeeded p → P (refused (plain 9) entries)
-    pub in-family : Accepted book sheet → entriesNeeded p ≤ length entries → Member b p → P (refused (plain 15) (filled b p entries))
-    pub explained : Accepted book sheet → entriesNeeded p ≤ length entries → (Member b p → ⊥) → First b p (reasonOf b p)
+    pub in-sheet : bookOf book .fault .number ≡ 0 → (sheetOf press sheet .fault .number ≡ 0 → ⊥)
+        → P (refused (answer (sheetOf press sheet .fault .number) 2 (sheetOf press sheet .fault .place)) entries)
+    pub short-work : Accepted press book sheet → length entries < entriesNeeded p → P (refused (plain 9) entries)
+    pub in-family : Accepted press book sheet → entriesNeeded p ≤ length entries → Member b p → P (refused (plain 15) (filled b p entries))
+    pub explained : Accepted press book sheet → entriesNeeded p ≤ length entries → (Member b p → ⊥) → First b p (reasonOf b p)
         → P (record { answer = plain 0; reason = reasonOf b p; entries = filled b p entries })
 
   module _ (P : Outcome → Type 0) (cases : Cases P) where
-    by-judging : Accepted book sheet → entriesNeeded p ≤ length entries → P (judged b p entries)
+    by-judging : Accepted press book sheet → entriesNeeded p ≤ length entries → P (judged b p entries)
     unfolding judged
     by-judging fine room =
-        let s = sheet-lies sheet (fine .sheet-fine) .within in
+        let s = sheet-lies press sheet (fine .sheet-fine) .within in
         pick-ind P (derives? b (b .start) p) _ _
         (λ e. cases .in-family fine room (decided b (b .start) p .0 e))
         (λ e. let other = not-derived b (b .start) p .0 e in cases .explained fine room other (reason-first b p (s .rows-some) (s .cols-some) other))
 
-    by-room : Accepted book sheet → P (roomed b p entries)
+    by-room : Accepted press book sheet → P (roomed b p entries)
     unfolding roomed
     by-room fine =
         pick-ind P (ltb (length entries) (entriesNeeded p)) _ _
         (λ e. cases .short-work fine (ltb-true (length entries) (entriesNeeded p) e))
         (λ e. by-judging fine (ltb-false (length entries) (entriesNeeded p) e))
 
-    pub why-not-ends : P (whyNot book sheet entries)
+    pub why-not-ends : P (whyNot press book sheet entries)
     unfolding whyNot
     why-not-ends =
-        both-end P (λ a. refused a entries) book sheet (λ b p. roomed b p entries)
+        both-end P (λ a. refused a entries) press book sheet (λ b p. roomed b p entries)
         (record { in-book = cases .in-book; in-sheet = cases .in-sheet; in-neither = by-room })

@@ -7,6 +7,6 @@ use Rattle.books.specs.Tickets.{SameButTicket}
 use Rattle.books.proofs.Tickets.{ticket-alike}
 use Rattle.reasons.specs.Why.{refused, roomed, whyNot}
 
-pub ticket-alone : (book s t entries : List ℕ) → SameButTicket s t → whyNot book t entries ≡ whyNot book s entries
+pub ticket-alone : (press : ℕ) (book s t entries : List ℕ) → SameButTicket press s t → whyNot press book t entries ≡ whyNot press book s entries
 unfolding whyNot
-ticket-alone book s t entries = ticket-alike book s t (λ a. refused a entries) (λ b p. roomed b p entries)
+ticket-alone press book s t entries = ticket-alike press book s t (λ a. refused a entries) (λ b p. roomed b p entries)

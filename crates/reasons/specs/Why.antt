@@ -87,9 +87,9 @@ unfoldable pub roomed : Contents → Picture → List ℕ → Outcome
 roomed b p entries = pick (ltb (length entries) (entriesNeeded p)) (refused (plain 9) entries) (judged b p entries)
 
 -- the book's fault, then the sheet's
-unfoldable pub whyNot : List ℕ → List ℕ → List ℕ → Outcome
-whyNot book sheet entries =
-    lentBoth book sheet (λ a. refused a entries) (λ b p. roomed b p entries)
+unfoldable pub whyNot : ℕ → List ℕ → List ℕ → List ℕ → Outcome
+whyNot press book sheet entries =
+    lentBoth press book sheet (λ a. refused a entries) (λ b p. roomed b p entries)
 
 -- what the call answers, and the slice as it leaves it, are those of an outcome
 pub record Answers (o : Outcome) (r : WhyNot) (entries : List ℕ) : Type 0 where

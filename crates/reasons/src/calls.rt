@@ -29,7 +29,7 @@ fn unexplained(answer: Answer) -> WhyNot
 
 // Asks why the family of a book has not a sheet. The work slice gets the table of pieces; where the family has the sheet after all, the answer is 15.
 pub fn why_not(book: &[u8], sheet: &[u8], work: &mut [u32]) -> WhyNot
-    ensures { λ r. ⌜ Answers (whyNot (now (book .entry)) (now (sheet .entry)) (now (work .entry))) r (now (work .exit)) ⌝ }
+    ensures { λ r. ⌜ Answers (whyNot 0 (now (book .entry)) (now (sheet .entry)) (now (work .entry))) r (now (work .exit)) ⌝ }
 {
     let mut masks = [0u32; ALL_MASKS];
     let split = asking::split_book(book, &mut masks);
@@ -37,7 +37,7 @@ pub fn why_not(book: &[u8], sheet: &[u8], work: &mut [u32]) -> WhyNot
         return unexplained(answer::blame(1, split.fault));
     }
     let mut cells = [0u8; ROOM];
-    let asked = asking::ask_sheet(book, split, &masks, sheet, &mut cells, work);
+    let asked = asking::ask_sheet(0, book, split, &masks, sheet, &mut cells, work);
     if asked.answer.number == 0 {
         return unexplained(answer::unblamed(15));
     }
@@ -46,14 +46,14 @@ pub fn why_not(book: &[u8], sheet: &[u8], work: &mut [u32]) -> WhyNot
     }
     WhyNot {
         answer: answer::unblamed(0),
-        reason: why::reason(&masks, split.joins, split.start, work, asked.size),
+        reason: why::reason(0, &masks, split.joins, split.start, work, asked.size),
     }
 }
 
 // The same for the C host, with the reason as the count.
 #[no_mangle]
 pub extern "C" fn dv_why_not(book: &[u8], sheet: &[u8], work: &mut [u32]) -> u64
-    ensures { λ r. ⌜ Leaves (whyNot (now (book .entry)) (now (sheet .entry)) (now (work .entry))) r (now (work .exit)) ⌝ }
+    ensures { λ r. ⌜ Leaves (whyNot 0 (now (book .entry)) (now (sheet .entry)) (now (work .entry))) r (now (work .exit)) ⌝ }
 {
     let r = why_not(book, sheet, work);
     let why = r.reason;

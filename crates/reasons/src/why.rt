@@ -9,16 +9,24 @@ use sizes::one::has_size;
 ghost use mathlib.Core.Path.{_≡_};
 ghost use Prim.Native.Nat.{_≤_};
 ghost use lib.ListN.{length};
-ghost use Rattle.books.specs.Size.{Within, greatest};
+ghost use Rattle.books.specs.Press.{greatestOf};
+ghost use Rattle.books.specs.Size.{Within};
 ghost use Rattle.pieces.specs.Pieces.{total};
 ghost use Rattle.sizes.specs.Table.{hasSizeBy};
 ghost use Rattle.reasons.specs.inner.FromTable.{reasonIn};
 
 // First a cell whose colour no rule names, then the size, then the largest piece that the start motif derives.
-pub(crate) fn reason(masks: &[u32], joins: Joins, start: u8, work: &[u32], size: Size) -> Reason
-    requires { ⌜ Within greatest (size .rows) (size .cols) × (total (size .rows) (size .cols) ≤ length (now work)) ⌝ }
-    ensures { λ r. ⌜ r
-        ≡ reasonIn (hasSizeBy (now (masks .entry)) joins start (size .rows) (size .cols)) (now (work .entry)) start (size .rows) (size .cols) ⌝ }
+pub(crate) fn reason(
+    press: usize,
+    masks: &[u32],
+    joins: Joins,
+    start: u8,
+    work: &[u32],
+    size: Size,
+) -> Reason
+    requires { ⌜ Within (greatestOf press) (size .rows) (size .cols) × (total (size .rows) (size .cols) ≤ length (now work)) ⌝ }
+    ensures { λ r. ⌜ r ≡ reasonIn (hasSizeBy press (now (masks .entry)) joins start (size .rows) (size .cols)) (now (work .entry)) start
+        (size .rows) (size .cols) ⌝ }
 {
     let cells = size.rows * size.cols;
     let i = first_bare(work, cells);
@@ -28,7 +36,7 @@ pub(crate) fn reason(masks: &[u32], joins: Joins, start: u8, work: &[u32], size:
             column: i % size.cols,
         };
     }
-    if has_size(masks, joins, start, size) {
+    if has_size(press, masks, joins, start, size) {
         return reason::of_piece(largest(work, start, size));
     }
     Reason::NoSuchSize

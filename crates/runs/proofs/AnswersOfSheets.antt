@@ -26,15 +26,15 @@ use Rattle.runs.specs.Figures.{workRoom, treeRoom, answerOf}
 
 -- ── Room enough ──
 
-pub table-fits : (sheet : List ℕ) → sheetOf sheet .fault .number ≡ 0 → entriesNeeded (pictureOf sheet) ≤ workRoom
-table-fits sheet z = let l = sheet-lies sheet z .within in total-few _ _ _ (l .rows-few) (l .cols-few)
+pub table-fits : (press : ℕ) (sheet : List ℕ) → sheetOf press sheet .fault .number ≡ 0 → entriesNeeded (pictureOf press sheet) ≤ workRoom press
+table-fits press sheet z = let l = sheet-lies press sheet z .within in total-few _ _ _ (l .rows-few) (l .cols-few)
 
-pub tree-fits : (sheet : List ℕ) → numbersNeeded (pictureOf sheet) ≤ treeRoom
-tree-fits sheet = go (ℕ-discrete (sheetOf sheet .fault .number) 0)
+pub tree-fits : (press : ℕ) (sheet : List ℕ) → numbersNeeded (pictureOf press sheet) ≤ treeRoom press
+tree-fits press sheet = go (ℕ-discrete (sheetOf press sheet .fault .number) 0)
   where
-    go : Dec (sheetOf sheet .fault .number ≡ 0) → numbersNeeded (pictureOf sheet) ≤ treeRoom
-    go (yes z) = omega (arith, within-area (sheet-lies sheet z .within))
-    go (no n) = rw (sheet-refused sheet n .none) (omega arith)
+    go : Dec (sheetOf press sheet .fault .number ≡ 0) → numbersNeeded (pictureOf press sheet) ≤ treeRoom press
+    go (yes z) = omega (arith, within-area (sheet-lies press sheet z .within))
+    go (no n) = rw (sheet-refused press sheet n .none) (omega arith)
 
 -- ── The answers ──
 
@@ -51,40 +51,40 @@ of-listed P zero one two three four five six seven eight eleven n (inl h) =
     next i = below-more P i
 of-listed P zero one two three four five six seven eight eleven n (inr e) = rw e eleven
 
-module _ (book sheet : List ℕ) where
+module _ (press : ℕ) (book sheet : List ℕ) where
   pub record Ways (P : ℕ → Type 0) : Type 0 where
     pub in-book : (bookOf book .fault .number ≡ 0 → ⊥) → P (bookOf book .fault .number)
-    pub in-sheet : bookOf book .fault .number ≡ 0 → (sheetOf sheet .fault .number ≡ 0 → ⊥) → P (sheetOf sheet .fault .number)
-    pub declined : Accepted book sheet → (Member (contentsOf book) (pictureOf sheet) → ⊥) → P 11
-    pub derived : Accepted book sheet → Member (contentsOf book) (pictureOf sheet) → P 0
+    pub in-sheet : bookOf book .fault .number ≡ 0 → (sheetOf press sheet .fault .number ≡ 0 → ⊥) → P (sheetOf press sheet .fault .number)
+    pub declined : Accepted press book sheet → (Member (contentsOf book) (pictureOf press sheet) → ⊥) → P 11
+    pub derived : Accepted press book sheet → Member (contentsOf book) (pictureOf press sheet) → P 0
 
-  pub answer-ends : (P : ℕ → Type 0) → Ways P → P (answerOf book sheet)
+  pub answer-ends : (P : ℕ → Type 0) → Ways P → P (answerOf press book sheet)
   unfolding answerOf
   answer-ends P ways =
-      derivation-ends book sheet (replicate workRoom 0) (replicate treeRoom 0) (λ (d : Derivation). P (d .answer .number))
+      derivation-ends press book sheet (replicate (workRoom press) 0) (replicate (treeRoom press) 0) (λ (d : Derivation). P (d .answer .number))
       (record {
         in-book = ways .in-book;
         in-sheet = ways .in-sheet;
-        short-work = λ fine short. absurd (omega (arith, short, length-replicate {A = ℕ} workRoom 0, table-fits sheet (fine .sheet-fine)));
-        short-tree = λ fine enough short. absurd (omega (arith, short, length-replicate {A = ℕ} treeRoom 0, tree-fits sheet));
+        short-work = λ fine short. absurd (omega (arith, short, length-replicate {A = ℕ} (workRoom press) 0, table-fits press sheet (fine .sheet-fine)));
+        short-tree = λ fine enough short. absurd (omega (arith, short, length-replicate {A = ℕ} (treeRoom press) 0, tree-fits press sheet));
         declined = λ fine room none. ways .declined fine none;
         derived = λ fine room x nodes given. ways .derived fine x;
       })
 
-  pub answer-listed : bookOf book .fault .number ≡ 0 → Listed (answerOf book sheet)
+  pub answer-listed : bookOf book .fault .number ≡ 0 → Listed (answerOf press book sheet)
   answer-listed fine =
       answer-ends Listed
       (record {
         in-book = λ n. absurd (n fine);
-        in-sheet = λ z n. inl (sheet-refused sheet n .blamed .known);
+        in-sheet = λ z n. inl (sheet-refused press sheet n .blamed .known);
         declined = λ fine none. inr refl;
         derived = λ fine x. inl (omega arith);
       })
 
   -- an accepted sheet is read, and a member of the family; and every such sheet is accepted
-  pub accepted-exactly : (answerOf book sheet ≡ 0) ↔ (Accepted book sheet × Member (contentsOf book) (pictureOf sheet))
+  pub accepted-exactly : (answerOf press book sheet ≡ 0) ↔ (Accepted press book sheet × Member (contentsOf book) (pictureOf press sheet))
   accepted-exactly =
-      answer-ends (λ n. (n ≡ 0) ↔ (Accepted book sheet × Member (contentsOf book) (pictureOf sheet)))
+      answer-ends (λ n. (n ≡ 0) ↔ (Accepted press book sheet × Member (contentsOf book) (pictureOf press sheet)))
       (record {
         in-book = λ n. neither n (λ x. n (x .0 .book-fine));
         in-sheet = λ z n. neither n (λ x. n (x .0 .sheet-fine));
@@ -93,14 +93,14 @@ module _ (book sheet : List ℕ) where
       })
 
 -- a sheet of no bytes ends at once
-nothing-read : sheetOf [] .fault ≡ fault 1 0
+nothing-read : (press : ℕ) → sheetOf press [] .fault ≡ fault 1 0
 unfolding sheetOf coloursOf numberIn numberAt
-nothing-read = refl
+nothing-read press = refl
 
-pub nothing-answers : (book : List ℕ) → bookOf book .fault .number ≡ 0 → answerOf book [] ≡ 1
-nothing-answers book z =
-    let ends : sheetOf [] .fault .number ≡ 1 = ap (λ (f : Fault). f .number) nothing-read in
-    answer-ends book [] (λ n. n ≡ 1)
+pub nothing-answers : (press : ℕ) (book : List ℕ) → bookOf book .fault .number ≡ 0 → answerOf press book [] ≡ 1
+nothing-answers press book z =
+    let ends : sheetOf press [] .fault .number ≡ 1 = ap (λ (f : Fault). f .number) (nothing-read press) in
+    answer-ends press book [] (λ n. n ≡ 1)
     (record {
       in-book = λ n. absurd (n z);
       in-sheet = λ _ _. ends;

@@ -50,12 +50,12 @@ called-number b apart n m c =
 
 -- ── The cells of an accepted sheet ──
 
-module _ (book sheet : List ℕ) (bytes : Bytes book) (fine : Accepted book sheet) (member : Member (contentsOf book) (pictureOf sheet)) where
+module _ (press : ℕ) (book sheet : List ℕ) (bytes : Bytes book) (fine : Accepted press book sheet) (member : Member (contentsOf book) (pictureOf press sheet)) where
   abbrev f : Family
   f = bookOf book .family
 
   abbrev g : Sheet
-  g = sheetOf sheet .sheet
+  g = sheetOf press sheet .sheet
 
   abbrev b : Contents
   b = contentsIn book f
@@ -72,8 +72,8 @@ module _ (book sheet : List ℕ) (bytes : Bytes book) (fine : Accepted book shee
   abbrev numbers : ℕ → ℕ
   numbers x = numberOf book (f .colours) sheet (g .colours) x
 
-  lies : SheetLies sheet (sheetOf sheet)
-  lies = sheet-lies sheet (fine .sheet-fine)
+  lies : SheetLies press sheet (sheetOf press sheet)
+  lies = sheet-lies press sheet (fine .sheet-fine)
 
   ok : ColoursOk (b .colours)
   ok = book-accepted book bytes (fine .book-fine) .keeps .colours-ok
@@ -106,7 +106,7 @@ module _ (book sheet : List ℕ) (bytes : Bytes book) (fine : Accepted book shee
   numbers-are : map numbers cells ≡ take area (numbersOf book (f .colours) sheet g)
   numbers-are = sym (take-at (map numbers cells) (drop area noCells) area (length-map cells numbers ∙ cells-long))
 
-  pub showing-numbers : (c : ℕ) → showing book c sheet ≡ howMany (λ (x : ℕ). eqb x c) (take area (numbersOf book (f .colours) sheet g))
+  pub showing-numbers : (c : ℕ) → showing press book c sheet ≡ howMany (λ (x : ℕ). eqb x c) (take area (numbersOf book (f .colours) sheet g))
   unfolding showing
   showing-numbers c =
       how-many-same (called? b c) (λ (x : ℕ). eqb x c) names numbers cells

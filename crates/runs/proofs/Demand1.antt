@@ -33,29 +33,29 @@ abbrev pub Framed : List ℕ → Type 0
 Framed run = framing run .number ≡ 0
 
 -- A call that was lent a book, a run and a work slice answers so, with these figures, and leaves the slice so.
-pub record Answered (book run work : List ℕ) (number blamed place : ℕ) (figures : Figures) (left : List ℕ) : Type 0 where
+pub record Answered (press : ℕ) (book run work : List ℕ) (number blamed place : ℕ) (figures : Figures) (left : List ℕ) : Type 0 where
   pub listed : InputsNumber number ⊎ (number ≡ 9)
-  pub zero : (number ≡ 0) ↔ (Fine book × Framed run × (workRoom ≤ length work))
-  pub nine : (number ≡ 9) ↔ (Fine book × Framed run × (length work < workRoom))
+  pub zero : (number ≡ 0) ↔ (Fine book × Framed run × (workRoom press ≤ length work))
+  pub nine : (number ≡ 9) ↔ (Fine book × Framed run × (length work < workRoom press))
   -- a fault of the book is blamed on it at its place, which is a byte of the book or its end
   pub in-book : (Fine book → ⊥) → (number ≡ bookOf book .fault .number) × (blamed ≡ 1) × (place ≡ bookOf book .fault .place) × (place ≤ length book)
   -- then a fault of the framing, on the run
   pub in-run : Fine book → (Framed run → ⊥) → (number ≡ framing run .number) × (blamed ≡ 2) × (place ≡ framing run .place) × (place ≤ length run)
   pub others : Fine book → Framed run → (blamed ≡ 0) × (place ≡ 0)
   pub unwritten : (number ≡ 0 → ⊥) → (figures ≡ noFigures) × (left ≡ work)
-  pub counted : number ≡ 0 → (figures ≡ figuresOf book (sheetsOf run)) × (left ≡ replicate workRoom 0 ++ drop workRoom work)
+  pub counted : number ≡ 0 → (figures ≡ figuresOf press book (sheetsOf run)) × (left ≡ replicate (workRoom press) 0 ++ drop (workRoom press) work)
 
-module _ (book run work : List ℕ) where
+module _ (press : ℕ) (book run work : List ℕ) where
   abbrev Obeys : Outcome → Type 0
-  Obeys o = Answered book run work (o .answer .number) (o .answer .blamed) (o .answer .place) (o .figures) (o .entries)
+  Obeys o = Answered press book run work (o .answer .number) (o .answer .blamed) (o .answer .place) (o .figures) (o .entries)
 
   abbrev o : Outcome
-  o = report book run work
+  o = report press book run work
 
   -- what holds of each way down the call
-  ends : (P : Outcome → Type 0) → Ways (bookOf book .fault) run (length work) (λ a. P (pick (eqb (a .number) 0) (reported book run work) (refused a work))) → P o
+  ends : (P : Outcome → Type 0) → Ways (workRoom press) (bookOf book .fault) run (length work) (λ a. P (pick (eqb (a .number) 0) (reported press book run work) (refused a work))) → P o
   unfolding report
-  ends P ways = refusing-ends (bookOf book .fault) run (length work) _ ways
+  ends P ways = refusing-ends (workRoom press) (bookOf book .fault) run (length work) _ ways
 
   pub obeys : Obeys o
   obeys =
@@ -122,8 +122,8 @@ module _ (book run work : List ℕ) where
 
   -- ── The theorems ──
 
-  pub report-answered : (r : RunReport) (left : List ℕ) → Answers (report book run work) r left
-      → Answered book run work (r .answer .number) (r .answer .blamed) (r .answer .place) (r .figures) left
+  pub report-answered : (r : RunReport) (left : List ℕ) → Answers (report press book run work) r left
+      → Answered press book run work (r .answer .number) (r .answer .blamed) (r .answer .place) (r .figures) left
   report-answered r left a = rw (a .answers, a .figures, a .leaves) obeys
 
   module _ (slice : List ℕ) where
@@ -134,7 +134,7 @@ module _ (book run work : List ℕ) where
       pub short : length slice < figuresLong
           → (r % 2 ^ 8 ≡ 13) × (r / 2 ^ 8 % 2 ^ 4 ≡ 0) × (r / 2 ^ 12 % 2 ^ 20 ≡ 0) × (work-left ≡ work) × (left ≡ slice)
       pub long : figuresLong ≤ length slice
-          → (f : Figures) × Answered book run work (r % 2 ^ 8) (r / 2 ^ 8 % 2 ^ 4) (r / 2 ^ 12 % 2 ^ 20) f work-left × (left ≡ inARow f ++ drop figuresLong slice)
+          → (f : Figures) × Answered press book run work (r % 2 ^ 8) (r / 2 ^ 8 % 2 ^ 4) (r / 2 ^ 12 % 2 ^ 20) f work-left × (left ≡ inARow f ++ drop figuresLong slice)
       pub no-count : r / 2 ^ 32 ≡ 0
 
     called-short : length slice < figuresLong → (r : ℕ) (work-left left : List ℕ) → Leaves (telling (plain 13) work slice) r work-left left → Called r work-left left
@@ -162,20 +162,20 @@ module _ (book run work : List ℕ) where
           no-count = rw (m .answers) (p .count-is);
         }
 
-    pub dv-run-report-called : (r : ℕ) (work-left left : List ℕ) → Leaves (runReport book run work slice) r work-left left → Called r work-left left
+    pub dv-run-report-called : (r : ℕ) (work-left left : List ℕ) → Leaves (runReport press book run work slice) r work-left left → Called r work-left left
     dv-run-report-called r work-left left l =
         ⊎-elim
-        (λ h. called-short h r work-left left (rw (← short-slice book run work slice h (plain 13) refl) at l))
-        (λ h. called-long h r work-left left (rw (← long-slice book run work slice h) at l))
+        (λ h. called-short h r work-left left (rw (← short-slice press book run work slice h (plain 13) refl) at l))
+        (λ h. called-long h r work-left left (rw (← long-slice press book run work slice h) at l))
         (lt-or-le (length slice) figuresLong)
 
     -- the two calls do the same
     pub alike : figuresLong ≤ length slice → {a : RunReport} {r : ℕ} {w v left : List ℕ}
-        → Answers (report book run work) a w → Leaves (runReport book run work slice) r v left
+        → Answers (report press book run work) a w → Leaves (runReport press book run work slice) r v left
         → (r ≡ packed (a .answer) 0) × (v ≡ w) × (left ≡ inARow (a .figures) ++ drop figuresLong slice)
     unfolding told
     alike h {a} {r} {w} {v} {left} x l =
-        let m : Leaves (told o slice) r v left = rw (← long-slice book run work slice h) at l in (
+        let m : Leaves (told o slice) r v left = rw (← long-slice press book run work slice h) at l in (
           m .answers ∙ ap (λ (b : Answer). packed b 0) (sym (x .answers)),
           m .leaves-work ∙ sym (x .leaves),
           m .leaves-figures ∙ ap (λ (f : Figures). inARow f ++ drop figuresLong slice) (sym (x .figures)),

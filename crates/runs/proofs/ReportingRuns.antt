@@ -1,7 +1,7 @@
 -- The ways down the call: a refused book comes first, then the run's framing, then the work slice, and else the sheets are counted and the work
 -- slice is cleared. A slice of zeros holds no figures.
 use Prim.Native.Nat.{ℕ, _≤_, _<_}
-use mathlib.Core.Path.{_≡_, refl, sym, ap, _∙_}
+use mathlib.Core.Path.{_≡_, refl, sym, ap, ap₂, _∙_}
 use mathlib.Core.List.{List, _++_}
 use native.Mathlib.Omega.{arith}
 use borrow.Author.Tests.{eq-eqb, ne-eqb, lt-ltb, le-ltb, eqb-true, eqb-false, ltb-true, ltb-false}
@@ -24,50 +24,50 @@ use Rattle.runs.specs.inner.Reporting.{refusing, Counts, telling}
 
 -- ── What is refused ──
 
-module _ (f : Fault) (run : List ℕ) (entries : ℕ) where
-  pub book-first : (f .number ≡ 0 → ⊥) → refusing f run entries ≡ blaming 1 f
+module _ (room : ℕ) (f : Fault) (run : List ℕ) (entries : ℕ) where
+  pub book-first : (f .number ≡ 0 → ⊥) → refusing room f run entries ≡ blaming 1 f
   book-first n = rw (ne-eqb (f .number) 0 n) refl
 
   module _ (z : f .number ≡ 0) where
-    pub run-second : (framing run .number ≡ 0 → ⊥) → refusing f run entries ≡ blaming 2 (framing run)
+    pub run-second : (framing run .number ≡ 0 → ⊥) → refusing room f run entries ≡ blaming 2 (framing run)
     unfolding refusedRun
     run-second n = rw (eq-eqb (f .number) 0 z, ne-eqb (framing run .number) 0 n) refl
 
     module _ (y : framing run .number ≡ 0) where
-      pub work-third : entries < workRoom → refusing f run entries ≡ plain 9
+      pub work-third : entries < room → refusing room f run entries ≡ plain 9
       unfolding refusedRun
-      work-third h = rw (eq-eqb (f .number) 0 z, eq-eqb (framing run .number) 0 y, lt-ltb entries workRoom h) refl
+      work-third h = rw (eq-eqb (f .number) 0 z, eq-eqb (framing run .number) 0 y, lt-ltb entries room h) refl
 
-      pub nothing-refused : workRoom ≤ entries → refusing f run entries ≡ plain 0
+      pub nothing-refused : room ≤ entries → refusing room f run entries ≡ plain 0
       unfolding refusedRun
-      nothing-refused h = rw (eq-eqb (f .number) 0 z, eq-eqb (framing run .number) 0 y, le-ltb entries workRoom h) refl
+      nothing-refused h = rw (eq-eqb (f .number) 0 z, eq-eqb (framing run .number) 0 y, le-ltb entries room h) refl
 
   pub record Granted : Type 0 where
     pub book-fine : f .number ≡ 0
     pub run-fine : framing run .number ≡ 0
-    pub work-long : workRoom ≤ entries
+    pub work-long : room ≤ entries
 
   -- what holds of each way holds of what is refused
   pub record Ways (P : Answer → Type 0) : Type 0 where
     pub in-book : (f .number ≡ 0 → ⊥) → P (answer (f .number) 1 (f .place))
     pub in-run : f .number ≡ 0 → (framing run .number ≡ 0 → ⊥) → P (answer (framing run .number) 2 (framing run .place))
-    pub short-work : f .number ≡ 0 → framing run .number ≡ 0 → entries < workRoom → P (plain 9)
+    pub short-work : f .number ≡ 0 → framing run .number ≡ 0 → entries < room → P (plain 9)
     pub nothing : Granted → P (plain 0)
 
-  pub refusing-ends : (P : Answer → Type 0) → Ways P → P (refusing f run entries)
+  pub refusing-ends : (P : Answer → Type 0) → Ways P → P (refusing room f run entries)
   unfolding refusedRun
   refusing-ends P ways =
-      pick-ind P (eqb (f .number) 0) (refusedRun run entries) (blaming 1 f)
+      pick-ind P (eqb (f .number) 0) (refusedRun room run entries) (blaming 1 f)
       (λ z. let fine = eqb-true (f .number) 0 z in
       pick-ind P (eqb (framing run .number) 0) _ (blaming 2 (framing run))
       (λ y. let good = eqb-true (framing run .number) 0 y in
-      pick-ind P (ltb entries workRoom) (plain 9) (plain 0)
-      (λ h. ways .short-work fine good (ltb-true entries workRoom h))
-      (λ h. ways .nothing (record { book-fine = fine; run-fine = good; work-long = ltb-false entries workRoom h })))
+      pick-ind P (ltb entries room) (plain 9) (plain 0)
+      (λ h. ways .short-work fine good (ltb-true entries room h))
+      (λ h. ways .nothing (record { book-fine = fine; run-fine = good; work-long = ltb-false entries room h })))
       (λ n. let bad = eqb-false (framing run .number) 0 n in rw (blamed-is 2 (framing run) bad) (ways .in-run fine bad)))
       (λ n. let bad = eqb-false (f .number) 0 n in rw (blamed-is 1 f bad) (ways .in-book bad))
 
-  pub granted : refusing f run entries .number ≡ 0 → Granted × (refusing f run entries ≡ plain 0)
+  pub granted : refusing room f run entries .number ≡ 0 → Granted × (refusing room f run entries ≡ plain 0)
   granted =
       refusing-ends (λ a. a .number ≡ 0 → Granted × (a ≡ plain 0))
       (record { in-book = λ n z. absurd (n z); in-run = λ _ n z. absurd (n z); short-work = λ _ _ _ z. absurd (omega arith); nothing = λ g _. (g, refl) })
@@ -83,38 +83,38 @@ pub cleared : (figures start : List ℕ) → start ≡ replicate figuresLong 0 +
 unfolding inARow
 cleared figures start e = e ∙ ap (λ (l : List ℕ). replicate figuresLong 0 ++ l) (sym (ap (drop figuresLong) e))
 
-module _ (book run entries : List ℕ) where
+module _ (press : ℕ) (book run entries : List ℕ) where
   -- from a slice that was cleared first
   module _ (figures start : List ℕ) (clear : start ≡ replicate figuresLong 0 ++ drop figuresLong figures) (a : Answer) (f : Fault) (read : f ≡ bookOf book .fault)
-      (is : a ≡ refusing f run (length entries)) where
-    answer-is : a ≡ refusal book run entries
-    answer-is = is ∙ ap (λ (e : Fault). refusing e run (length entries)) read
+      {room : ℕ} (enough : room ≡ workRoom press) (is : a ≡ refusing room f run (length entries)) where
+    answer-is : a ≡ refusal press book run entries
+    answer-is = is ∙ ap₂ (λ (n : ℕ) (e : Fault). refusing n e run (length entries)) enough read
 
-    pub reports-refusal : (a .number ≡ 0 → ⊥) → telling a entries start ≡ told (report book run entries) figures
+    pub reports-refusal : (a .number ≡ 0 → ⊥) → telling a entries start ≡ told (report press book run entries) figures
     unfolding report told inARow
     reports-refusal n =
-        let none : refusal book run entries .number ≡ 0 → ⊥ = λ z. n (ap (λ (b : Answer). b .number) answer-is ∙ z) in
-        rw (ne-eqb (refusal book run entries .number) 0 none) (λ i. telling (answer-is i) entries (clear i))
+        let none : refusal press book run entries .number ≡ 0 → ⊥ = λ z. n (ap (λ (b : Answer). b .number) answer-is ∙ z) in
+        rw (ne-eqb (refusal press book run entries .number) 0 none) (λ i. telling (answer-is i) entries (clear i))
 
-    pub reports-run : a .number ≡ 0 → (work left after : List ℕ) → Counts book (sheetsOf run) entries work start left
-        → after ≡ replicate workRoom 0 ++ drop workRoom work → telling a after left ≡ told (report book run entries) figures
+    pub reports-run : a .number ≡ 0 → (work left after : List ℕ) → Counts press book (sheetsOf run) entries work start left
+        → after ≡ replicate room 0 ++ drop room work → telling a after left ≡ told (report press book run entries) figures
     unfolding report told
     reports-run z work left after c e =
-        let y : refusal book run entries .number ≡ 0 = ap (λ (b : Answer). b .number) (sym answer-is) ∙ z in
-        let answers = answer-is ∙ granted (bookOf book .fault) run (length entries) y .1 in
-        let works = e ∙ ap (λ (l : List ℕ). replicate workRoom 0 ++ l) (c .work-same) in
-        let counts = c .counts ∙ ap (λ (l : List ℕ). inARow (figuresOf book (sheetsOf run)) ++ drop figuresLong l) clear in
-        rw (eq-eqb (refusal book run entries .number) 0 y) (λ i. telling (answers i) (works i) (counts i))
+        let y : refusal press book run entries .number ≡ 0 = ap (λ (b : Answer). b .number) (sym answer-is) ∙ z in
+        let answers = answer-is ∙ granted (workRoom press) (bookOf book .fault) run (length entries) y .1 in
+        let works = (rw enough at e) ∙ ap (λ (l : List ℕ). replicate (workRoom press) 0 ++ l) (c .work-same) in
+        let counts = c .counts ∙ ap (λ (l : List ℕ). inARow (figuresOf press book (sheetsOf run)) ++ drop figuresLong l) clear in
+        rw (eq-eqb (refusal press book run entries .number) 0 y) (λ i. telling (answers i) (works i) (counts i))
 
   -- the figures by name
-  standing-figures : (rest : List ℕ) → standing (inARow (report book run entries .figures) ++ rest) ≡ report book run entries .figures
+  standing-figures : (rest : List ℕ) → standing (inARow (report press book run entries .figures) ++ rest) ≡ report press book run entries .figures
   unfolding report standing inARow figuresOf each
   standing-figures rest =
-      pick-ind (λ (o : Outcome). standing (inARow (o .figures) ++ rest) ≡ o .figures) (eqb (refusal book run entries .number) 0) (reported book run entries)
-      (refused (refusal book run entries) entries) (λ _. refl) (λ _. refl)
+      pick-ind (λ (o : Outcome). standing (inARow (o .figures) ++ rest) ≡ o .figures) (eqb (refusal press book run entries .number) 0) (reported press book run entries)
+      (refused (refusal press book run entries) entries) (λ _. refl) (λ _. refl)
 
-  pub answers-report : (a : Answer) (f : Figures) (work row left : List ℕ) → telling a work left ≡ told (report book run entries) row → f ≡ standing left
-      → Answers (report book run entries) (record { answer = a; figures = f }) work
+  pub answers-report : (a : Answer) (f : Figures) (work row left : List ℕ) → telling a work left ≡ told (report press book run entries) row → f ≡ standing left
+      → Answers (report press book run entries) (record { answer = a; figures = f }) work
   unfolding told
   answers-report a f work row left e named =
       record {
@@ -126,16 +126,16 @@ module _ (book run entries : List ℕ) where
   -- ── For the C host ──
 
   module _ (slice : List ℕ) where
-    pub short-slice : length slice < figuresLong → (a : Answer) → a ≡ plain 13 → telling a entries slice ≡ runReport book run entries slice
+    pub short-slice : length slice < figuresLong → (a : Answer) → a ≡ plain 13 → telling a entries slice ≡ runReport press book run entries slice
     unfolding runReport
     short-slice h a e = rw (lt-ltb (length slice) figuresLong h) (ap (λ (b : Answer). telling b entries slice) e)
 
-    pub long-slice : figuresLong ≤ length slice → told (report book run entries) slice ≡ runReport book run entries slice
+    pub long-slice : figuresLong ≤ length slice → told (report press book run entries) slice ≡ runReport press book run entries slice
     unfolding runReport
     long-slice h = rw (le-ltb (length slice) figuresLong h) refl
 
-    pub leaves-report : (a : Answer) (r : ℕ) (work left : List ℕ) → telling a work left ≡ runReport book run entries slice → r ≡ packed a 0
-        → Leaves (runReport book run entries slice) r work left
+    pub leaves-report : (a : Answer) (r : ℕ) (work left : List ℕ) → telling a work left ≡ runReport press book run entries slice → r ≡ packed a 0
+        → Leaves (runReport press book run entries slice) r work left
     leaves-report a r work left e p =
         record {
           answers = p ∙ ap (λ (t : Told). packed (t .answer) 0) e;

@@ -33,20 +33,20 @@ pub use Rattle.runs.proofs.AnswersOfSheets.{Listed, answer-listed, acce
 -- ── The answer of a sheet ──
 
 -- It is the number that every derivation with room for the greatest sheet gives, whatever stands in the slices and however long they are beyond that.
-pub any-room : (book sheet work tree : List ℕ) → workRoom ≤ length work → treeRoom ≤ length tree
-    → derivation book sheet work tree .answer .number ≡ answerOf book sheet
+pub any-room : (press : ℕ) (book sheet work tree : List ℕ) → workRoom press ≤ length work → treeRoom press ≤ length tree
+    → derivation press book sheet work tree .answer .number ≡ answerOf press book sheet
 unfolding answerOf
-any-room book sheet work tree enough long = go (ℕ-discrete (bookOf book .fault .number) 0)
+any-room press book sheet work tree enough long = go (ℕ-discrete (bookOf book .fault .number) 0)
   where
     number : Derivation → ℕ
     number d = d .answer .number
 
     go : Dec (bookOf book .fault .number ≡ 0)
-        → derivation book sheet work tree .answer .number ≡ derivation book sheet (replicate workRoom 0) (replicate treeRoom 0) .answer .number
+        → derivation press book sheet work tree .answer .number ≡ derivation press book sheet (replicate (workRoom press) 0) (replicate (treeRoom press) 0) .answer .number
     go (yes z) =
-        ap (λ (a : Answer). a .number) (as-derived book sheet work tree z (omega (arith, tree-fits sheet)) .same-answer)
-        ∙ asked-number book sheet work z enough
-    go (no n) = ap number (book-first book sheet work tree n) ∙ sym (ap number (book-first book sheet (replicate workRoom 0) (replicate treeRoom 0) n))
+        ap (λ (a : Answer). a .number) (as-derived press book sheet work tree z (omega (arith, tree-fits press sheet)) .same-answer)
+        ∙ asked-number press book sheet work z enough
+    go (no n) = ap number (book-first press book sheet work tree n) ∙ sym (ap number (book-first press book sheet (replicate (workRoom press) 0) (replicate (treeRoom press) 0) n))
 
 -- ── The counts add up ──
 
@@ -66,17 +66,17 @@ unfolding addedUp
 once-in-all = of-listed Once refl refl refl refl refl refl refl refl refl refl
 
 -- under an accepted book the answer counts of any list of sheets add up to the number of sheets
-pub answers-add-up : (book : List ℕ) → bookOf book .fault .number ≡ 0 → (sheets : List (List ℕ)) → inAll (got book sheets) ≡ length sheets
+pub answers-add-up : (press : ℕ) (book : List ℕ) → bookOf book .fault .number ≡ 0 → (sheets : List (List ℕ)) → inAll (got press book sheets) ≡ length sheets
 unfolding got addedUp
-answers-add-up book fine [] = ap inAll (λ i a. how-many-none (answering book a) i)
-answers-add-up book fine (s ∷ sheets) =
-    let counts = ap inAll (λ i a. how-many-cons (answering book a) s sheets i) in
-    omega (arith, counts, once-in-all (answerOf book s) (answer-listed book s fine), answers-add-up book fine sheets)
+answers-add-up press book fine [] = ap inAll (λ i a. how-many-none (answering press book a) i)
+answers-add-up press book fine (s ∷ sheets) =
+    let counts = ap inAll (λ i a. how-many-cons (answering press book a) s sheets i) in
+    omega (arith, counts, once-in-all (answerOf press book s) (answer-listed press book s fine), answers-add-up press book fine sheets)
 
-pub counts-add-up : (book : List ℕ) → bookOf book .fault .number ≡ 0 → (sheets : List (List ℕ))
-    → addedUp itself (figuresOf book sheets .answers) ≡ figuresOf book sheets .sheets
+pub counts-add-up : (press : ℕ) (book : List ℕ) → bookOf book .fault .number ≡ 0 → (sheets : List (List ℕ))
+    → addedUp itself (figuresOf press book sheets .answers) ≡ figuresOf press book sheets .sheets
 unfolding figuresOf
-counts-add-up book fine sheets = answers-add-up book fine sheets
+counts-add-up press book fine sheets = answers-add-up press book fine sheets
 
 -- ── Tickets ──
 
@@ -90,30 +90,30 @@ unfolding anyIn
 none-left [] e = refl
 none-left (x ∷ l) e = absurd (omega arith)
 
-module _ (book : List ℕ) (sheets : List (List ℕ)) where
+module _ (press : ℕ) (book : List ℕ) (sheets : List (List ℕ)) where
   abbrev figures : Figures
-  figures = figuresOf book sheets
+  figures = figuresOf press book sheets
 
   -- where some sheet is accepted, the least ticket is that of an accepted sheet, and no accepted sheet has a lesser one; so the greatest
   pub tickets-bound : figures .any ≡ 1
-      → Bounds (λ n x. n ≤ x) (tickets book sheets) (figures .least) × Bounds (λ n x. x ≤ n) (tickets book sheets) (figures .greatest)
+      → Bounds (λ n x. n ≤ x) (tickets press book sheets) (figures .least) × Bounds (λ n x. x ≤ n) (tickets press book sheets) (figures .greatest)
   unfolding figuresOf
-  tickets-bound e = some-bounds (tickets book sheets) e
+  tickets-bound e = some-bounds (tickets press book sheets) e
 
   -- and else no sheet is, and both are 0
-  pub no-tickets : figures .any ≡ 0 → (accepted book sheets ≡ []) × (figures .least ≡ 0) × (figures .greatest ≡ 0)
+  pub no-tickets : figures .any ≡ 0 → (accepted press book sheets ≡ []) × (figures .least ≡ 0) × (figures .greatest ≡ 0)
   unfolding figuresOf tickets leastOf greatestOf
   no-tickets e =
-      let none = none-left (tickets book sheets) e in
-      (unmapped (accepted book sheets) none, ap leastOf none, ap greatestOf none)
+      let none = none-left (tickets press book sheets) e in
+      (unmapped (accepted press book sheets) none, ap leastOf none, ap greatestOf none)
     where
-      unmapped : (l : List (List ℕ)) → map ticketOf l ≡ [] → l ≡ []
+      unmapped : (l : List (List ℕ)) → map (ticketOf press) l ≡ [] → l ≡ []
       unmapped [] e = refl
       unmapped (x ∷ l) e = absurd (omega (arith, ap length e))
 
   pub any-told : (figures .any ≡ 0) ⊎ (figures .any ≡ 1)
   unfolding figuresOf anyIn
-  any-told = told (tickets book sheets)
+  any-told = told (tickets press book sheets)
     where
       told : (l : List ℕ) → (anyIn l ≡ 0) ⊎ (anyIn l ≡ 1)
       told [] = inl refl
@@ -121,9 +121,9 @@ module _ (book : List ℕ) (sheets : List (List ℕ)) where
 
 -- ── No sheets, and sheets of no bytes ──
 
-pub nothing-counted : (book : List ℕ) → figuresOf book [] ≡ noFigures
+pub nothing-counted : (press : ℕ) (book : List ℕ) → figuresOf press book [] ≡ noFigures
 unfolding figuresOf got howMany those cellsOf accepted tickets addedUp anyIn leastOf greatestOf each
-nothing-counted book = refl
+nothing-counted press book = refl
 
 pub empty-run : (framing [] ≡ fault 0 0) × (sheetsOf [] ≡ [])
 unfolding framing sheetsOf walkFrom
@@ -135,5 +135,5 @@ no-bytes run at next e =
     let whole = framed-whole run at 0 next e (omega arith) in
     (ap (λ (f : Frame). f .fault) whole, ap (sheetIn run) whole ∙ sheet-framed run next 0)
 
-pub no-bytes-answers : (book : List ℕ) → bookOf book .fault .number ≡ 0 → answerOf book [] ≡ 1
+pub no-bytes-answers : (press : ℕ) (book : List ℕ) → bookOf book .fault .number ≡ 0 → answerOf press book [] ≡ 1
 no-bytes-answers = nothing-answers

@@ -29,22 +29,22 @@ use Rattle.runs.proofs.WalkingRuns.{frame-lies, left-end, left-stop, le
 
 -- ── No count runs over ──
 
-showing-few : (book : List ℕ) (c : ℕ) (sheet : List ℕ) → showing book c sheet ≤ room
+showing-few : (press : ℕ) (book : List ℕ) (c : ℕ) (sheet : List ℕ) → showing press book c sheet ≤ room
 unfolding showing
-showing-few book c sheet =
-    let g = sheetOf sheet .sheet in
+showing-few press book c sheet =
+    let g = sheetOf press sheet .sheet in
     let area = g .size .rows * g .size .cols in
     let few = how-many-le (called? (contentsOf book) c) (namesShown (gridIn sheet g)) in
     let cells = length-map (take area (g .cells)) (λ k. getD (namesIn sheet (g .colours)) k []) in
-    omega (arith, few, cells, length-take area (g .cells), sheet-cells sheet .area-few)
+    omega (arith, few, cells, length-take area (g .cells), sheet-cells press sheet .area-few)
 
-cells-few : (book : List ℕ) (l : List (List ℕ)) (c : ℕ) → cellsOf book l c ≤ length l * room
+cells-few : (press : ℕ) (book : List ℕ) (l : List (List ℕ)) (c : ℕ) → cellsOf press book l c ≤ length l * room
 unfolding cellsOf accepted howMany
-cells-few book l c = omega (arith, added-le (showing book c) room (accepted book l) (λ s. showing-few book c s), how-many-le (answering book 0) l)
+cells-few press book l c = omega (arith, added-le (showing press book c) room (accepted press book l) (λ s. showing-few press book c s), how-many-le (answering press book 0) l)
 
-got-few : (book : List ℕ) (l : List (List ℕ)) (a : ℕ) → got book l a ≤ length l * room
+got-few : (press : ℕ) (book : List ℕ) (l : List (List ℕ)) (a : ℕ) → got press book l a ≤ length l * room
 unfolding got
-got-few book l a = omega (arith, how-many-le (answering book a) l)
+got-few press book l a = omega (arith, how-many-le (answering press book a) l)
 
 -- lists with no number above a bound
 module _ (most : ℕ) where
@@ -67,33 +67,33 @@ module _ (most : ℕ) where
     few-each zero = λ i. omega arith
     few-each (suc n) = few-both (each n (λ x. count x ∷ [])) (count n ∷ []) (few-each n) (few-mapped (n ∷ []))
 
-spared : (book : List ℕ) (l : List (List ℕ)) (rest : List ℕ) → length l ≤ mostBytes → Spare mostAdded (inARow (figuresOf book l) ++ rest)
+spared : (press : ℕ) (book : List ℕ) (l : List (List ℕ)) (rest : List ℕ) → length l ≤ mostBytes → Spare mostAdded (inARow (figuresOf press book l) ++ rest)
 unfolding inARow figuresOf each
-spared book l rest few =
+spared press book l rest few =
     let most = length l * room in
-    let answers = map (got book l) answersGiven in
-    let cells = each mostColours (λ c. cellsOf book l c ∷ []) in
+    let answers = map (got press book l) answersGiven in
+    let cells = each mostColours (λ c. cellsOf press book l c ∷ []) in
     let counts = (length l ∷ []) ++ (answers ++ cells) in
     let low : Few most counts =
     few-both most (length l ∷ []) (answers ++ cells) (few-mapped most (λ x. length l) (λ x. omega arith) (0 ∷ []))
-    (few-both most answers cells (few-mapped most (got book l) (got-few book l) answersGiven) (few-each most (cellsOf book l) (cells-few book l) mostColours)) in
-    record { long = omega arith; more = λ i h. omega (arith, List·getD-append counts (ticketRow (tickets book l) rest) 0 i h, low i) }
+    (few-both most answers cells (few-mapped most (got press book l) (got-few press book l) answersGiven) (few-each most (cellsOf press book l) (cells-few press book l) mostColours)) in
+    record { long = omega arith; more = λ i h. omega (arith, List·getD-append counts (ticketRow (tickets press book l) rest) 0 i h, low i) }
 
 -- ── At a place ──
 
-pub record SoFar (book run work figures work-now now : List ℕ) (at : ℕ) : Type 0 where
+pub record SoFar (press : ℕ) (book run work figures work-now now : List ℕ) (at : ℕ) : Type 0 where
   pub inside : at ≤ length run
   pub done : List (List ℕ)
   pub few : length done ≤ at
   pub all : done ++ left sheets run at ≡ sheetsOf run
   pub framed : left faults run at .number ≡ 0
-  pub counts : now ≡ inARow (figuresOf book done) ++ drop figuresLong figures
-  pub work-same : drop workRoom work-now ≡ drop workRoom work
+  pub counts : now ≡ inARow (figuresOf press book done) ++ drop figuresLong figures
+  pub work-same : drop (workRoom press) work-now ≡ drop (workRoom press) work
   pub work-long : length work-now ≡ length work
   pub figures-long : length now ≡ length figures
 
-module _ (book run work figures : List ℕ) (fine : framing run .number ≡ 0) where
-  pub begins : figures ≡ inARow noFigures ++ drop figuresLong figures → SoFar book run work figures work figures 0
+module _ (press : ℕ) (book run work figures : List ℕ) (fine : framing run .number ≡ 0) where
+  pub begins : figures ≡ inARow noFigures ++ drop figuresLong figures → SoFar press book run work figures work figures 0
   unfolding sheetsOf
   begins none =
       record {
@@ -102,13 +102,13 @@ module _ (book run work figures : List ℕ) (fine : framing run .number ≡ 0) w
         few = omega arith;
         all = refl;
         framed = rw (framing-left run (run-few run fine)) at fine;
-        counts = none ∙ ap (λ (f : Figures). inARow f ++ drop figuresLong figures) (sym (nothing-counted book));
+        counts = none ∙ ap (λ (f : Figures). inARow f ++ drop figuresLong figures) (sym (nothing-counted press book));
         work-same = refl;
         work-long = refl;
         figures-long = refl;
       }
 
-  module _ (work-now now : List ℕ) (at : ℕ) (s : SoFar book run work figures work-now now at) where
+  module _ (work-now now : List ℕ) (at : ℕ) (s : SoFar press book run work figures work-now now at) where
     pub frame-good : at < length run → frameAt run at .fault .number ≡ 0
     frame-good h = go (ℕ-discrete (frameAt run at .fault .number) 0)
       where
@@ -117,10 +117,10 @@ module _ (book run work figures : List ℕ) (fine : framing run .number ≡ 0) w
         go (no n) = absurd (n (rw (left-stop faults run at h n) at (s .framed)))
 
     pub has-spare : Spare mostAdded now
-    has-spare = rw (s .counts) (spared book (s .done) _ (omega (arith, s .few, s .inside, run-few run fine)))
+    has-spare = rw (s .counts) (spared press book (s .done) _ (omega (arith, s .few, s .inside, run-few run fine)))
 
-    pub one-more : at < length run → (f : Frame) → f ≡ frameAt run at → (work-next next : List ℕ) → Adds book (sheetIn run f) work-now work-next now next
-        → length work-next ≡ length work-now → length next ≡ length now → SoFar book run work figures work-next next (f .end)
+    pub one-more : at < length run → (f : Frame) → f ≡ frameAt run at → (work-next next : List ℕ) → Adds press book (sheetIn run f) work-now work-next now next
+        → length work-next ≡ length work-now → length next ≡ length now → SoFar press book run work figures work-next next (f .end)
     one-more h f e work-next next =
         rw e (λ adds work-same now-same.
         let z = frame-good h in
@@ -139,7 +139,7 @@ module _ (book run work figures : List ℕ) (fine : framing run .number ≡ 0) w
           figures-long = now-same ∙ s .figures-long;
         })
 
-    pub all-counted : length run ≤ at → Counts book (sheetsOf run) work work-now figures now
+    pub all-counted : length run ≤ at → Counts press book (sheetsOf run) work work-now figures now
     all-counted h =
         let every = sym (append-nil (s .done)) ∙ ap (λ (l : List (List ℕ)). s .done ++ l) (sym (left-end sheets run at h)) ∙ s .all in
-        record { counts = s .counts ∙ ap (λ (l : List (List ℕ)). inARow (figuresOf book l) ++ drop figuresLong figures) every; work-same = s .work-same }
+        record { counts = s .counts ∙ ap (λ (l : List (List ℕ)). inARow (figuresOf press book l) ++ drop figuresLong figures) every; work-same = s .work-same }

@@ -1,4 +1,4 @@
--- The figures of a run, each from the list of its sheets.
+-- The figures of a run of sheets of a press, each from the list of its sheets.
 use Prim.Native.Nat.{ℕ}
 use mathlib.Core.Bool.{Bool}
 use mathlib.Core.List.{List, [], _∷_, _++_, map}
@@ -13,7 +13,7 @@ use Rattle.books.specs.Calls.{ticketOf}
 use Rattle.books.specs.Decide.{called?}
 use Rattle.books.specs.Grid.{Grid}
 use Rattle.books.specs.Sheet.{sheetOf}
-use Rattle.books.specs.Size.{greatest}
+use Rattle.books.specs.Press.{greatestOf as mostOf}
 use Rattle.pieces.specs.Area.{whole, treeSize}
 use Rattle.pieces.specs.Derivation.{derivation}
 use Rattle.pieces.specs.Pieces.{total}
@@ -22,38 +22,38 @@ use Rattle.runs.specs.declared.figures.Figures.{Figures}
 
 -- ── One sheet ──
 
--- the entries that the table of the greatest sheet has, and the numbers of its tree: room enough for every sheet
-abbrev pub workRoom : ℕ
-workRoom = total greatest greatest
+-- the entries that the table of the greatest sheet of a press has, and the numbers of its tree: room enough for every sheet
+abbrev pub workRoom : ℕ → ℕ
+workRoom press = total (mostOf press) (mostOf press)
 
-abbrev pub treeRoom : ℕ
-treeRoom = treeSize (whole greatest greatest)
+abbrev pub treeRoom : ℕ → ℕ
+treeRoom press = treeSize (whole (mostOf press) (mostOf press))
 
 -- the number that a derivation with room enough answers
-unfoldable pub answerOf : List ℕ → List ℕ → ℕ
-answerOf book sheet = derivation book sheet (replicate workRoom 0) (replicate treeRoom 0) .answer .number
+unfoldable pub answerOf : ℕ → List ℕ → List ℕ → ℕ
+answerOf press book sheet = derivation press book sheet (replicate (workRoom press) 0) (replicate (treeRoom press) 0) .answer .number
 
 -- the colour names of its cells, row by row
 abbrev pub namesShown : Grid → List Name
 namesShown g = map (λ k. getD (g .colours) k []) (g .cells)
 
 -- how many cells show the full name of a book colour; a number past the book's list has no name
-unfoldable pub showing : List ℕ → ℕ → List ℕ → ℕ
-showing book c sheet = howMany (called? (contentsOf book) c) (namesShown (gridIn sheet (sheetOf sheet .sheet)))
+unfoldable pub showing : ℕ → List ℕ → ℕ → List ℕ → ℕ
+showing press book c sheet = howMany (called? (contentsOf book) c) (namesShown (gridIn sheet (sheetOf press sheet .sheet)))
 
 -- ── The sheets of a run ──
 
 -- those with an answer
-abbrev pub answering : List ℕ → ℕ → List ℕ → Bool
-answering book a sheet = eqb (answerOf book sheet) a
+abbrev pub answering : ℕ → List ℕ → ℕ → List ℕ → Bool
+answering press book a sheet = eqb (answerOf press book sheet) a
 
 -- the accepted sheets
-unfoldable pub accepted : List ℕ → List (List ℕ) → List (List ℕ)
-accepted book sheets = those (answering book 0) sheets
+unfoldable pub accepted : ℕ → List ℕ → List (List ℕ) → List (List ℕ)
+accepted press book sheets = those (answering press book 0) sheets
 
 -- how many got an answer
-unfoldable pub got : List ℕ → List (List ℕ) → ℕ → ℕ
-got book sheets a = howMany (answering book a) sheets
+unfoldable pub got : ℕ → List ℕ → List (List ℕ) → ℕ → ℕ
+got press book sheets a = howMany (answering press book a) sheets
 
 -- the answers that a sheet can get: 0 to 8 and 11
 abbrev pub answersGiven : List ℕ
@@ -63,22 +63,22 @@ abbrev pub answerCounts : ℕ
 answerCounts = 10
 
 -- the cells of a book colour, over accepted sheets only
-unfoldable pub cellsOf : List ℕ → List (List ℕ) → ℕ → ℕ
-cellsOf book sheets c = addedUp (showing book c) (accepted book sheets)
+unfoldable pub cellsOf : ℕ → List ℕ → List (List ℕ) → ℕ → ℕ
+cellsOf press book sheets c = addedUp (showing press book c) (accepted press book sheets)
 
 -- the tickets of the accepted sheets
-unfoldable pub tickets : List ℕ → List (List ℕ) → List ℕ
-tickets book sheets = map ticketOf (accepted book sheets)
+unfoldable pub tickets : ℕ → List ℕ → List (List ℕ) → List ℕ
+tickets press book sheets = map (ticketOf press) (accepted press book sheets)
 
-unfoldable pub figuresOf : List ℕ → List (List ℕ) → Figures
-figuresOf book sheets =
+unfoldable pub figuresOf : ℕ → List ℕ → List (List ℕ) → Figures
+figuresOf press book sheets =
     record {
       sheets = length sheets;
-      answers = map (got book sheets) answersGiven;
-      cells = each mostColours (λ c. cellsOf book sheets c ∷ []);
-      any = anyIn (tickets book sheets);
-      least = leastOf (tickets book sheets);
-      greatest = greatestOf (tickets book sheets);
+      answers = map (got press book sheets) answersGiven;
+      cells = each mostColours (λ c. cellsOf press book sheets c ∷ []);
+      any = anyIn (tickets press book sheets);
+      least = leastOf (tickets press book sheets);
+      greatest = greatestOf (tickets press book sheets);
     }
 
 -- no sheets: every figure is 0

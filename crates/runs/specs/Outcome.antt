@@ -24,21 +24,21 @@ abbrev pub refused : Answer → List ℕ → Outcome
 refused a entries = record { answer = a; figures = noFigures; entries = entries }
 
 -- the figures of the run's sheets; the work slice is cleared as far as any sheet can need it, and the slice beyond is as it was
-abbrev pub reported : List ℕ → List ℕ → List ℕ → Outcome
-reported book run entries =
-    record { answer = plain 0; figures = figuresOf book (sheetsOf run); entries = replicate workRoom 0 ++ drop workRoom entries }
+abbrev pub reported : ℕ → List ℕ → List ℕ → List ℕ → Outcome
+reported press book run entries =
+    record { answer = plain 0; figures = figuresOf press book (sheetsOf run); entries = replicate (workRoom press) 0 ++ drop (workRoom press) entries }
 
--- what is refused of a run and of so many entries: the fault of the run's framing, then 9 where the entries are too few for the greatest sheet; the number 0 is
--- nothing
-unfoldable pub refusedRun : List ℕ → ℕ → Answer
-refusedRun run entries = pick (eqb (framing run .number) 0) (pick (ltb entries workRoom) (plain 9) (plain 0)) (blaming 2 (framing run))
+-- what is refused of a run and of so many entries: the fault of the run's framing, then 9 where there is room for fewer than so many; the number 0 is nothing
+unfoldable pub refusedRun : ℕ → List ℕ → ℕ → Answer
+refusedRun room run entries = pick (eqb (framing run .number) 0) (pick (ltb entries room) (plain 9) (plain 0)) (blaming 2 (framing run))
 
--- the book's fault comes first
-abbrev pub refusal : List ℕ → List ℕ → List ℕ → Answer
-refusal book run entries = lentBook 1 book (λ a. a) (λ _. refusedRun run (length entries))
+-- the book's fault comes first, and there must be room for the greatest sheet of the press
+abbrev pub refusal : ℕ → List ℕ → List ℕ → List ℕ → Answer
+refusal press book run entries = lentBook 1 book (λ a. a) (λ _. refusedRun (workRoom press) run (length entries))
 
-unfoldable pub report : List ℕ → List ℕ → List ℕ → Outcome
-report book run entries = pick (eqb (refusal book run entries .number) 0) (reported book run entries) (refused (refusal book run entries) entries)
+unfoldable pub report : ℕ → List ℕ → List ℕ → List ℕ → Outcome
+report press book run entries =
+    pick (eqb (refusal press book run entries .number) 0) (reported press book run entries) (refused (refusal press book run entries) entries)
 
 -- what the call answers, and the work slice as it leaves it, are those of an outcome
 pub record Answers (o : Outcome) (r : RunReport) (entries : List ℕ) : Type 0 where
@@ -59,9 +59,9 @@ unfoldable pub told : Outcome → List ℕ → Told
 told o slice = record { answer = o .answer; entries = o .entries; slice = inARow (o .figures) ++ drop figuresLong slice }
 
 -- 13 where that slice is too short, before anything is read
-unfoldable pub runReport : List ℕ → List ℕ → List ℕ → List ℕ → Told
-runReport book run entries slice =
-    pick (ltb (length slice) figuresLong) (record { answer = plain 13; entries = entries; slice = slice }) (told (report book run entries) slice)
+unfoldable pub runReport : ℕ → List ℕ → List ℕ → List ℕ → List ℕ → Told
+runReport press book run entries slice =
+    pick (ltb (length slice) figuresLong) (record { answer = plain 13; entries = entries; slice = slice }) (told (report press book run entries) slice)
 
 -- the number that the host gets, with 0 for the count, and both slices as the call leaves them
 pub record Leaves (t : Told) (r : ℕ) (entries slice : List ℕ) : Type 0 where

@@ -15,10 +15,10 @@ pub struct RunReport {
 
 // Reports a run against a book. After a report the front of the work slice, as far as any sheet can need it, is 0.
 pub fn report(book: &[u8], run: &[u8], work: &mut [u32]) -> RunReport
-    ensures { λ r. ⌜ Answers (report (now (book .entry)) (now (run .entry)) (now (work .entry))) r (now (work .exit)) ⌝ }
+    ensures { λ r. ⌜ Answers (report 0 (now (book .entry)) (now (run .entry)) (now (work .entry))) r (now (work .exit)) ⌝ }
 {
     let mut row = [0u32; FIGURES_LONG];
-    let answer = report_into(book, run, work, &mut row);
+    let answer = report_into(0, book, run, work, &mut row);
     let figures = figures::named(&row);
     RunReport { answer, figures }
 }
@@ -31,11 +31,11 @@ pub extern "C" fn dv_run_report(
     work: &mut [u32],
     figures: &mut [u32],
 ) -> u64
-    ensures { λ r. ⌜ Leaves (runReport (now (book .entry)) (now (run .entry)) (now (work .entry)) (now (figures .entry))) r (now (work .exit))
+    ensures { λ r. ⌜ Leaves (runReport 0 (now (book .entry)) (now (run .entry)) (now (work .entry)) (now (figures .entry))) r (now (work .exit))
         (now (figures .exit)) ⌝ }
 {
     if figures.len() < FIGURES_LONG {
         return answer::pack(answer::unblamed(13), 0);
     }
-    answer::pack(report_into(book, run, work, figures), 0)
+    answer::pack(report_into(0, book, run, work, figures), 0)
 }

@@ -6,7 +6,7 @@ use crate::framing::framing;
 use books::answer::Answer;
 use books::answer::blame;
 use books::answer::unblamed;
-use books::size::GREATEST;
+use books::press::greatest;
 use books::size::ROOM;
 use names::number::Fault;
 use names::slice::clear;
@@ -18,17 +18,22 @@ ghost use mathlib.Core.Path.{_≡_};
 ghost use Prim.Native.Nat.{_≤_};
 ghost use lib.ListN.{length};
 ghost use Rattle.runs.specs.Run.{sheetsOf};
-ghost use Rattle.runs.specs.Figures.{figuresLong};
+ghost use Rattle.runs.specs.Figures.{workRoom, figuresLong};
 ghost use Rattle.runs.specs.Outcome.{report, told};
 ghost use Rattle.runs.specs.inner.Reporting.{refusing, AddingDue, RunDue, Adds, Counts, telling};
 
-// The stretches of cells in a row of the greatest sheet, and the entries of its table: one for each stretch of rows with each stretch of columns.
-const STRETCHES: usize = GREATEST * (GREATEST + 1) / 2;
-
-const WORK_ROOM: usize = STRETCHES * STRETCHES;
+// The entries of the table of the greatest sheet of a press: one for each stretch of cells in a column with each stretch in a row.
+fn work_room(press: usize) -> usize
+    ensures { λ r. ⌜ r ≡ workRoom press ⌝ }
+{
+    let most = greatest(press);
+    let stretches = most * (most + 1) / 2;
+    stretches * stretches
+}
 
 // One sheet more: asked of the book, and added to the figures.
 fn add_sheet(
+    press: usize,
     book: &[u8],
     split: Split,
     masks: &[u32],
@@ -37,15 +42,16 @@ fn add_sheet(
     work: &mut [u32],
     figures: &mut [u32],
 )
-    requires { ⌜ AddingDue (now book) split (now masks) (now work) (now figures) ⌝ }
-    ensures { λ _. ⌜ Adds (now (book .entry)) (now (sheet .entry)) (now (work .entry)) (now (work .exit)) (now (figures .entry)) (now (figures .exit)) ⌝ }
+    requires { ⌜ AddingDue press (now book) split (now masks) (now work) (now figures) ⌝ }
+    ensures { λ _. ⌜ Adds press (now (book .entry)) (now (sheet .entry)) (now (work .entry)) (now (work .exit)) (now (figures .entry)) (now (figures .exit)) ⌝ }
 {
-    let r = ask_sheet(book, split, masks, sheet, cells, work);
+    let r = ask_sheet(press, book, split, masks, sheet, cells, work);
     add_asked(r, cells, figures);
 }
 
 // Every sheet of a run whose framing has no fault, from figures of no sheets.
 fn add_sheets(
+    press: usize,
     book: &[u8],
     split: Split,
     masks: &[u32],
@@ -53,8 +59,8 @@ fn add_sheets(
     work: &mut [u32],
     figures: &mut [u32],
 )
-    requires { ⌜ RunDue (now book) split (now masks) (now run) (now work) (now figures) ⌝ }
-    ensures { λ _. ⌜ Counts (now (book .entry)) (sheetsOf (now (run .entry))) (now (work .entry)) (now (work .exit)) (now (figures .entry))
+    requires { ⌜ RunDue press (now book) split (now masks) (now run) (now work) (now figures) ⌝ }
+    ensures { λ _. ⌜ Counts press (now (book .entry)) (sheetsOf (now (run .entry))) (now (work .entry)) (now (work .exit)) (now (figures .entry))
         (now (figures .exit)) ⌝ }
 {
     let mut at = 0;
@@ -64,6 +70,7 @@ fn add_sheets(
         let start = f.start;
         let end = f.end;
         add_sheet(
+            press,
             book,
             split,
             masks,
@@ -76,9 +83,9 @@ fn add_sheets(
     }
 }
 
-// What is refused of a book with a fault, of a run and of so many entries, in that order; the number 0 is nothing.
-fn refused(fault: Fault, run: &[u8], entries: usize) -> Answer
-    ensures { λ r. ⌜ r ≡ refusing fault (now (run .entry)) entries ⌝ }
+// What is refused of a book with a fault, of a run and of so many entries, in that order, where there must be room for so many; the number 0 is nothing.
+fn refused(room: usize, fault: Fault, run: &[u8], entries: usize) -> Answer
+    ensures { λ r. ⌜ r ≡ refusing room fault (now (run .entry)) entries ⌝ }
 {
     if fault.number != 0 {
         return blame(1, fault);
@@ -87,25 +94,32 @@ fn refused(fault: Fault, run: &[u8], entries: usize) -> Answer
     if framed.number != 0 {
         return blame(2, framed);
     }
-    if entries < WORK_ROOM {
+    if entries < room {
         return unblamed(9);
     }
     unblamed(0)
 }
 
 // Reports a run into a slice of figures. Where something is refused, every figure is 0 and the work slice is as it was.
-pub(crate) fn report_into(book: &[u8], run: &[u8], work: &mut [u32], figures: &mut [u32]) -> Answer
+pub(crate) fn report_into(
+    press: usize,
+    book: &[u8],
+    run: &[u8],
+    work: &mut [u32],
+    figures: &mut [u32],
+) -> Answer
     requires { ⌜ figuresLong ≤ length (now figures) ⌝ }
     ensures { λ r. ⌜ telling r (now (work .exit)) (now (figures .exit))
-        ≡ told (report (now (book .entry)) (now (run .entry)) (now (work .entry))) (now (figures .entry)) ⌝ }
+        ≡ told (report press (now (book .entry)) (now (run .entry)) (now (work .entry))) (now (figures .entry)) ⌝ }
 {
     clear(&mut figures[..FIGURES_LONG]);
     let mut masks = [0u32; ALL_MASKS];
     let split = split_book(book, &mut masks);
-    let answer = refused(split.fault, run, work.len());
+    let room = work_room(press);
+    let answer = refused(room, split.fault, run, work.len());
     if answer.number == 0 {
-        add_sheets(book, split, &masks, run, work, figures);
-        clear(&mut work[..WORK_ROOM]);
+        add_sheets(press, book, split, &masks, run, work, figures);
+        clear(&mut work[..room]);
     }
     answer
 }

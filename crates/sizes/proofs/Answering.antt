@@ -16,8 +16,11 @@ use Rattle.books.specs.Answer.{plain, blaming, Packs}
 use Rattle.books.specs.Book.{bookOf}
 use Rattle.books.specs.Contents.{Contents}
 use Rattle.books.specs.Lent.{contentsOf}
-use Rattle.books.specs.Size.{greatest, sizeBy as by}
+use Rattle.books.specs.Press.{greatestOf, IsPress}
+use Rattle.books.specs.Size.{sizeBy as by}
 use Rattle.books.specs.declared.answer.Answer.{Answer}
+use Rattle.books.proofs.Presses.{greatest-some}
+use Rattle.books.proofs.Area.{room-enough}
 use Rattle.books.proofs.Packing.{plain-packs, book-placed}
 use Rattle.books.proofs.ReadingBooks.{book-lies, book-accepted}
 use Rattle.names.specs.Counted.{each}
@@ -33,23 +36,23 @@ use Rattle.sizes.proofs.CardRows.{card-counted, card-written}
 
 -- ── The ways down ──
 
-module _ (book slice : List ℕ) where
-  pub book-first : (bookOf book .fault .number ≡ 0 → ⊥) → sizeCard book slice ≡ refused (blaming 1 (bookOf book .fault)) slice
+module _ (press : ℕ) (book slice : List ℕ) where
+  pub book-first : (bookOf book .fault .number ≡ 0 → ⊥) → sizeCard press book slice ≡ refused (blaming 1 (bookOf book .fault)) slice
   unfolding sizeCard
   book-first n = simp (ne-eqb (bookOf book .fault .number) 0 n)
 
   module _ (fine : bookOf book .fault .number ≡ 0) where
-    pub then-room : sizeCard book slice ≡ roomed (contentsOf book) slice
+    pub then-room : sizeCard press book slice ≡ roomed press (contentsOf book) slice
     unfolding sizeCard
     then-room = simp (eq-eqb (bookOf book .fault .number) 0 fine)
 
-    pub no-room : length slice < greatest → sizeCard book slice ≡ refused (plain 13) slice
+    pub no-room : length slice < greatestOf press → sizeCard press book slice ≡ refused (plain 13) slice
     unfolding roomed
-    no-room h = then-room ∙ simp (lt-ltb (length slice) greatest h)
+    no-room h = then-room ∙ simp (lt-ltb (length slice) (greatestOf press) h)
 
-    pub with-room : greatest ≤ length slice → sizeCard book slice ≡ carded (contentsOf book) slice
+    pub with-room : greatestOf press ≤ length slice → sizeCard press book slice ≡ carded press (contentsOf book) slice
     unfolding roomed
-    with-room h = then-room ∙ simp (le-ltb (length slice) greatest h)
+    with-room h = then-room ∙ simp (le-ltb (length slice) (greatestOf press) h)
 
 -- ── As the call goes them, with what was split ──
 
@@ -60,23 +63,31 @@ module _ (book before : List ℕ) {split : Split} {masks : List ℕ} (is : keptW
   pub start-low : split .fault .number ≡ 0 → split .start < 32
   start-low fine = let l = book-lies book (accepted fine) in omega (arith, kept-start book before is, l .start-fits, l .motifs-few)
 
-  module _ (slice : List ℕ) (a : Answer) where
-    pub refuses : (split .fault .number ≡ 0 → ⊥) → a ≡ blaming 1 (split .fault) → Answers (sizeCard book slice) (record { answer = a; sizes = 0 }) slice
-    refuses = rw (kept-fault book before is) (λ bad e. rw (book-first book slice bad) (record { answers = e; counts = refl; leaves = refl }))
+  module _ (press : ℕ) (slice : List ℕ) (a : Answer) where
+    pub refuses : (split .fault .number ≡ 0 → ⊥) → a ≡ blaming 1 (split .fault) → Answers (sizeCard press book slice) (record { answer = a; sizes = 0 }) slice
+    refuses = rw (kept-fault book before is) (λ bad e. rw (book-first press book slice bad) (record { answers = e; counts = refl; leaves = refl }))
 
-    pub lacks : split .fault .number ≡ 0 → length slice < greatest → a ≡ plain 13 → Answers (sizeCard book slice) (record { answer = a; sizes = 0 }) slice
-    lacks fine short e = rw (no-room book slice (accepted fine) short) (record { answers = e; counts = refl; leaves = refl })
+    pub lacks : {most : ℕ} → most ≡ greatestOf press → split .fault .number ≡ 0 → length slice < most → a ≡ plain 13 → Answers (sizeCard press book slice) (record { answer = a; sizes = 0 }) slice
+    lacks m fine short e = rw (no-room press book slice (accepted fine) (rw m at short)) (record { answers = e; counts = refl; leaves = refl })
 
-    pub writes : length before ≡ allMasks → Bytes book → split .fault .number ≡ 0 → greatest ≤ length slice → a ≡ plain 0 → (n : ℕ) (after : List ℕ)
-        → RowsWrote (rowsOf (tableBy masks (split .joins) greatest (greatest * greatest)) greatest (split .start) greatest) slice n after
-        → Answers (sizeCard book slice) (record { answer = a; sizes = n }) after
-    writes long bytes fine roomy e n after wrote =
+    pub writes : {most : ℕ} → most ≡ greatestOf press → IsPress press → length before ≡ allMasks → Bytes book → split .fault .number ≡ 0 → most ≤ length slice
+        → a ≡ plain 0 → (n : ℕ) (after : List ℕ)
+        → RowsWrote (rowsOf (tableBy masks (split .joins) most (most * most)) most (split .start) most) slice n after
+        → Answers (sizeCard press book slice) (record { answer = a; sizes = n }) after
+    writes m there long bytes fine roomy e n after wrote =
+        let most = greatestOf press in
         let b = contentsOf book in
         let keeps = book-accepted book bytes (accepted fine) .keeps in
         let serves = book-serves book split masks (kept-from book before is fine long) in
-        let rows = rw (kept-start book before is) at wrote in
-        rw (with-room book slice (accepted fine) roomy)
-        (record { answers = e; counts = card-counted b keeps masks (split .joins) serves slice n after rows; leaves = card-written b keeps masks (split .joins) serves slice n after rows })
+        let rows = rw (m, kept-start book before is) at wrote in
+        let some = greatest-some press .0 there in
+        let few = room-enough press in
+        rw (with-room press book slice (accepted fine) (rw m at roomy))
+        (record {
+          answers = e;
+          counts = card-counted b keeps masks (split .joins) serves most some few slice n after rows;
+          leaves = card-written b keeps masks (split .joins) serves most some few slice n after rows;
+        })
 
 -- ── Every answer packs ──
 
@@ -97,16 +108,16 @@ sizes-few b most =
 abbrev Packed : Outcome → Type 0
 Packed o = Packs (o .answer) (o .sizes)
 
-roomed-packs : (b : Contents) (slice : List ℕ) → Packed (roomed b slice)
+roomed-packs : (press : ℕ) (b : Contents) (slice : List ℕ) → Packed (roomed press b slice)
 unfolding roomed
-roomed-packs b slice =
-    pick-ind Packed (ltb (length slice) greatest) (refused (plain 13) slice) (carded b slice)
+roomed-packs press b slice =
+    pick-ind Packed (ltb (length slice) (greatestOf press)) (refused (plain 13) slice) (carded press b slice)
     (λ _. plain-packs 13 0 (omega arith) (omega arith))
-    (λ _. plain-packs 0 (length (sizesOf b greatest)) (omega arith) (omega (arith, sizes-few b greatest)))
+    (λ _. plain-packs 0 (length (sizesOf b (greatestOf press))) (omega arith) (omega (arith, sizes-few b (greatestOf press), room-enough press)))
 
-pub card-packs : (book slice : List ℕ) → Packed (sizeCard book slice)
+pub card-packs : (press : ℕ) (book slice : List ℕ) → Packed (sizeCard press book slice)
 unfolding sizeCard
-card-packs book slice =
+card-packs press book slice =
     pick-ind Packed (eqb (bookOf book .fault .number) 0) _ (refused (blaming 1 (bookOf book .fault)) slice)
-    (λ _. roomed-packs _ slice)
+    (λ _. roomed-packs press _ slice)
     (λ _. book-placed book 1 (omega arith) .packs)

@@ -23,7 +23,7 @@ use Rattle.books.specs.Keeps.{Keeps}
 use Rattle.books.specs.Lent.{contentsOf, pictureOf}
 use Rattle.books.specs.Lookups.{sizeOf}
 use Rattle.books.specs.Picture.{Picture, Same}
-use Rattle.books.specs.Size.{greatest}
+use Rattle.books.specs.Press.{greatestOf}
 use Rattle.books.specs.SpellSheet.{spellSheet}
 use Rattle.books.proofs.CellsCalled.{cells-listed}
 use Rattle.books.proofs.LongestSheet.{spelling-bytes}
@@ -54,11 +54,11 @@ module _ (b : Contents) (p : Picture) where
   abbrev gridOf : Grid
   gridOf = record { colours = b .colours; ticket = 0; rows = p .rows; cols = p .cols; cells = each (p .rows * p .cols) (λ k. number k ∷ []) }
 
-module _ (b : Contents) (a : ℕ) (p : Picture) (derived : Derives b a p) where
+module _ (press : ℕ) (b : Contents) (a : ℕ) (p : Picture) (derived : Derives b a p) where
   abbrev area : ℕ
   area = p .rows * p .cols
 
-  grid-keeps : Keeps b → p .rows ≤ greatest → p .cols ≤ greatest → GridKeeps (gridOf b p)
+  grid-keeps : Keeps b → p .rows ≤ greatestOf press → p .cols ≤ greatestOf press → GridKeeps press (gridOf b p)
   grid-keeps keeps hr hc =
       let some-cols = derives-cols derived in
       record {
@@ -84,26 +84,26 @@ module _ (b : Contents) (a : ℕ) (p : Picture) (derived : Derives b a p) where
 
 -- ── The theorem ──
 
-module _ (book : List ℕ) (bytes : Bytes book) (fine : bookOf book .fault .number ≡ 0) where
+module _ (press : ℕ) (book : List ℕ) (bytes : Bytes book) (fine : bookOf book .fault .number ≡ 0) where
   abbrev contents : Contents
   contents = contentsOf book
 
-  sized-gets : (r c : ℕ) → r ≤ greatest → c ≤ greatest → Sized contents r c → Gets0 book r c
+  sized-gets : (r c : ℕ) → r ≤ greatestOf press → c ≤ greatestOf press → Sized contents r c → Gets0 press book r c
   sized-gets r c hr hc x =
       let keeps = book-accepted book bytes fine .keeps in
       let g = gridOf contents (x .sheet) in
-      let kept = grid-keeps contents (contents .start) (x .sheet) (x .derived) keeps (omega (arith, x .rows-are)) (omega (arith, x .cols-are)) in
-      let (read, is) = sheet-read-back g kept in
-      let rows-are : sizeOf (spellSheet g) .rows ≡ r = ap (λ (y : Grid). y .rows) is ∙ x .rows-are in
-      let cols-are : sizeOf (spellSheet g) .cols ≡ c = ap (λ (y : Grid). y .cols) is ∙ x .cols-are in
-      let member = derives-same (grid-same contents (contents .start) (x .sheet) (x .derived)) (x .derived) in
+      let kept = grid-keeps press contents (contents .start) (x .sheet) (x .derived) keeps (omega (arith, x .rows-are)) (omega (arith, x .cols-are)) in
+      let (read, is) = sheet-read-back press g kept in
+      let rows-are : sizeOf press (spellSheet g) .rows ≡ r = ap (λ (y : Grid). y .rows) is ∙ x .rows-are in
+      let cols-are : sizeOf press (spellSheet g) .cols ≡ c = ap (λ (y : Grid). y .cols) is ∙ x .cols-are in
+      let member = derives-same (grid-same press contents (contents .start) (x .sheet) (x .derived)) (x .derived) in
       record {
         sheet = spellSheet g;
-        bytes = spelling-bytes g kept;
+        bytes = spelling-bytes press g kept;
         rows-are = rows-are;
         cols-are = cols-are;
         gets-0 = λ work tree work-left tree-left n long enough left.
-            dv-derive-numbers book (spellSheet g) work tree left .zero .1 (
+            dv-derive-numbers press book (spellSheet g) work tree left .zero .1 (
               record { book-fine = fine; sheet-fine = ap (λ (f : Fault). f .number) read },
               record { work-long = rw (rows-are, cols-are) long; tree-long = rw (rows-are, cols-are) enough },
               subst (Derives contents (contents .start)) (sym (ap picture is)) member,
@@ -111,28 +111,28 @@ module _ (book : List ℕ) (bytes : Bytes book) (fine : bookOf book .fault .numb
       }
 
 -- every sheet that gets 0 has a size that the family has
-pub derived-sized : (book sheet work tree work-left tree-left : List ℕ) (n : ℕ) → LeavesPacked (derivation book sheet work tree) n work-left tree-left
-    → n % 2 ^ 8 ≡ 0 → Sized (contentsOf book) (sizeOf sheet .rows) (sizeOf sheet .cols)
-derived-sized book sheet work tree work-left tree-left n left zero =
-    let (fine, room, member) = dv-derive-numbers book sheet work tree left .zero .0 zero in
-    record { sheet = pictureOf sheet; derived = member; rows-are = refl; cols-are = refl }
+pub derived-sized : (press : ℕ) (book sheet work tree work-left tree-left : List ℕ) (n : ℕ) → LeavesPacked (derivation press book sheet work tree) n work-left tree-left
+    → n % 2 ^ 8 ≡ 0 → Sized (contentsOf book) (sizeOf press sheet .rows) (sizeOf press sheet .cols)
+derived-sized press book sheet work tree work-left tree-left n left zero =
+    let (fine, room, member) = dv-derive-numbers press book sheet work tree left .zero .0 zero in
+    record { sheet = pictureOf press sheet; derived = member; rows-are = refl; cols-are = refl }
 
-gets-sized : (book : List ℕ) (r c : ℕ) → Gets0 book r c → Sized (contentsOf book) r c
-gets-sized book r c x =
+gets-sized : (press : ℕ) (book : List ℕ) (r c : ℕ) → Gets0 press book r c → Sized (contentsOf book) r c
+gets-sized press book r c x =
     let work : List ℕ = replicate (total r c) 0 in
     let tree : List ℕ = replicate (treeSize (whole r c)) 0 in
-    let d = derivation book (x .sheet) work tree in
+    let d = derivation press book (x .sheet) work tree in
     let n = packed (d .answer) 0 in
     let left : LeavesPacked d n (d .entries) (d .numbers) = record { answers = refl; leaves-work = refl; leaves-tree = refl } in
     let long : total r c ≤ length work = omega (arith, length-replicate {A = ℕ} (total r c) 0) in
     let enough : treeSize (whole r c) ≤ length tree = omega (arith, length-replicate {A = ℕ} (treeSize (whole r c)) 0) in
     let zero = x .gets-0 work tree (d .entries) (d .numbers) n long enough left in
-    rw (x .rows-are, x .cols-are) at (derived-sized book (x .sheet) work tree (d .entries) (d .numbers) n left zero)
+    rw (x .rows-are, x .cols-are) at (derived-sized press book (x .sheet) work tree (d .entries) (d .numbers) n left zero)
 
 -- where the call for the card answers 0, a bit of the card is set exactly when some bytes of that size get 0
-pub bit-gets-0 : (book slice left : List ℕ) (n : ℕ) → Bytes book → Leaves (sizeCard book slice) n left → n % 2 ^ 8 ≡ 0
-    → (r c : ℕ) → 1 ≤ r → r ≤ greatest → 1 ≤ c → c ≤ greatest → (bit (getD left (r - 1) 0) (c - 1) ≡ 1) ↔ Gets0 book r c
-bit-gets-0 book slice left n bytes called zero r c hr kr hc kc =
-    let fine = dv-size-card-answered book slice n left called .zero .0 zero .0 in
-    let says = bit-exactly (contentsOf book) slice left (n / 2 ^ 32) (dv-size-card-holds book slice n left called zero) r c hr kr hc kc in
-    (λ o. sized-gets book bytes fine r c kr kc (says .0 o), λ x. says .1 (gets-sized book r c x))
+pub bit-gets-0 : (press : ℕ) (book slice left : List ℕ) (n : ℕ) → Bytes book → Leaves (sizeCard press book slice) n left → n % 2 ^ 8 ≡ 0
+    → (r c : ℕ) → 1 ≤ r → r ≤ greatestOf press → 1 ≤ c → c ≤ greatestOf press → (bit (getD left (r - 1) 0) (c - 1) ≡ 1) ↔ Gets0 press book r c
+bit-gets-0 press book slice left n bytes called zero r c hr kr hc kc =
+    let fine = dv-size-card-answered press book slice n left called .zero .0 zero .0 in
+    let says = bit-exactly (greatestOf press) (contentsOf book) slice left (n / 2 ^ 32) (dv-size-card-holds press book slice n left called zero) r c hr kr hc kc in
+    (λ o. sized-gets press book bytes fine r c kr kc (says .0 o), λ x. says .1 (gets-sized press book r c x))

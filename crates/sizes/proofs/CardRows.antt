@@ -4,7 +4,7 @@ use mathlib.Core.Path.{_≡_, refl, sym, ap, ap₂, _∙_}
 use mathlib.Core.Bool.{Bool, true, false, true≢false}
 use mathlib.Core.List.{List, [], _∷_, _++_, append-assoc}
 use mathlib.Core.Logic.{⊎-elim}
-use native.Mathlib.Nat.{one-mul, zero-mul}
+use native.Mathlib.Nat.{one-mul, zero-mul, mul-le-mul}
 use native.Mathlib.Numerals.{add-one}
 use native.Mathlib.Omega.{arith}
 use lib.Arith.{digits-lt}
@@ -17,7 +17,7 @@ use Rattle.names.specs.Pick.{pick}
 use Rattle.names.proofs.Tests.{true-or-false}
 use Rattle.books.specs.Contents.{Contents}
 use Rattle.books.specs.Keeps.{Keeps}
-use Rattle.books.specs.Size.{greatest, sizeBy as by}
+use Rattle.books.specs.Size.{room, sizeBy as by}
 use Rattle.names.specs.Counted.{each}
 use Rattle.names.specs.Bits.{bit, bits}
 use Rattle.pieces.specs.Rights.{Serves}
@@ -131,14 +131,14 @@ module _ (b : Contents) (n : ℕ) (t : List ℕ) (right : RightBefore b n (n * n
 
 -- ── The card by masks that serve the book ──
 
-module _ (b : Contents) (keeps : Keeps b) (masks : List ℕ) (j : Joins) (serves : Serves (b .rules) masks j) (before : List ℕ) (count : ℕ) (after : List ℕ)
-    (wrote : RowsWrote (rowsOf (tableBy masks j greatest (greatest * greatest)) greatest (b .start) greatest) before count after) where
-  rows-are : rowsOf (tableBy masks j greatest (greatest * greatest)) greatest (b .start) greatest ≡ card b greatest
-  rows-are = rows-right b greatest _ (table-right b keeps masks j serves greatest (greatest * greatest) (omega arith) (omega arith)) (keeps .sound .start-fits)
+module _ (b : Contents) (keeps : Keeps b) (masks : List ℕ) (j : Joins) (serves : Serves (b .rules) masks j) (most : ℕ) (some : 1 ≤ most) (few : most * most ≤ room)
+    (before : List ℕ) (count : ℕ) (after : List ℕ) (wrote : RowsWrote (rowsOf (tableBy masks j most (most * most)) most (b .start) most) before count after) where
+  rows-are : rowsOf (tableBy masks j most (most * most)) most (b .start) most ≡ card b most
+  rows-are = rows-right b most _ (table-right b keeps masks j serves most (most * most) (mul-le-mul some some) few) (keeps .sound .start-fits)
 
-  pub card-counted : count ≡ length (sizesOf b greatest)
-  card-counted = wrote .counted ∙ ap setBits rows-are ∙ sizes-counted b greatest
+  pub card-counted : count ≡ length (sizesOf b most)
+  card-counted = wrote .counted ∙ ap setBits rows-are ∙ sizes-counted b most
 
-  pub card-written : after ≡ card b greatest ++ drop greatest before
+  pub card-written : after ≡ card b most ++ drop most before
   card-written =
-      wrote .written ∙ ap (λ (l : List ℕ). l ++ drop (length l) before) rows-are ∙ ap (λ (k : ℕ). card b greatest ++ drop k before) (card-length b greatest)
+      wrote .written ∙ ap (λ (l : List ℕ). l ++ drop (length l) before) rows-are ∙ ap (λ (k : ℕ). card b most ++ drop k before) (card-length b most)

@@ -9,7 +9,7 @@ use lib.ListN.{length, getD, take, drop}
 use lib.Seq.{getD-take, take-at, drop-at, length-front, length-take-le}
 use Rattle.books.specs.Contents.{Contents}
 use Rattle.books.specs.Lent.{contentsOf}
-use Rattle.books.specs.Size.{greatest}
+use Rattle.books.specs.Press.{greatestOf}
 use Rattle.books.proofs.Packing.{apart}
 use Rattle.names.specs.Bits.{bit}
 use Rattle.sizes.specs.declared.calls.CardAnswer.{CardAnswer}
@@ -23,45 +23,45 @@ use Rattle.sizes.proofs.Demand1.{size-card-answered, dv-size-card-answe
 -- The list of sizes, whose length is the count, has exactly the sizes within the press that the family has (`size-listed`), and none twice (`sizes-apart`).
 pub use Rattle.sizes.proofs.SizesListed.{size-listed, sizes-apart}
 
--- a slice that was left with the card of a family, and the number of its sizes
-pub record CardLeft (b : Contents) (slice left : List ℕ) (count : ℕ) : Type 0 where
-  pub says : SizeCard b greatest (take greatest left)
-  pub set-bits : count ≡ setBits (take greatest left)
-  pub sizes : count ≡ length (sizesOf b greatest)
-  pub beyond : drop greatest left ≡ drop greatest slice
+-- a slice that was left with the card of a family, of at most so many rows and columns, and the number of its sizes
+pub record CardLeft (most : ℕ) (b : Contents) (slice left : List ℕ) (count : ℕ) : Type 0 where
+  pub says : SizeCard b most (take most left)
+  pub set-bits : count ≡ setBits (take most left)
+  pub sizes : count ≡ length (sizesOf b most)
+  pub beyond : drop most left ≡ drop most slice
   pub as-long : length left ≡ length slice
 
-card-left : (b : Contents) (slice left : List ℕ) (count : ℕ) → greatest ≤ length slice → left ≡ card b greatest ++ drop greatest slice
-    → count ≡ length (sizesOf b greatest) → CardLeft b slice left count
-card-left b slice left count room e n =
-    let size = card-length b greatest in
-    let front : take greatest left ≡ card b greatest = ap (take greatest) e ∙ take-at (card b greatest) (drop greatest slice) greatest size in
+card-left : (most : ℕ) (b : Contents) (slice left : List ℕ) (count : ℕ) → most ≤ length slice → left ≡ card b most ++ drop most slice
+    → count ≡ length (sizesOf b most) → CardLeft most b slice left count
+card-left most b slice left count room e n =
+    let size = card-length b most in
+    let front : take most left ≡ card b most = ap (take most) e ∙ take-at (card b most) (drop most slice) most size in
     record {
-      says = subst (SizeCard b greatest) (sym front) (card-right b greatest);
-      set-bits = n ∙ sym (sizes-counted b greatest) ∙ ap setBits (sym front);
+      says = subst (SizeCard b most) (sym front) (card-right b most);
+      set-bits = n ∙ sym (sizes-counted b most) ∙ ap setBits (sym front);
       sizes = n;
-      beyond = ap (drop greatest) e ∙ drop-at (card b greatest) (drop greatest slice) greatest size;
-      as-long = ap length e ∙ length-front slice (card b greatest) greatest (size ∙ sym (length-take-le greatest slice room));
+      beyond = ap (drop most) e ∙ drop-at (card b most) (drop most slice) most size;
+      as-long = ap length e ∙ length-front slice (card b most) most (size ∙ sym (length-take-le most slice room));
     }
 
-module _ (book slice : List ℕ) where
-  pub size-card-holds : (r : CardAnswer) (left : List ℕ) → Answers (sizeCard book slice) r left → r .answer .number ≡ 0
-      → CardLeft (contentsOf book) slice left (r .sizes)
+module _ (press : ℕ) (book slice : List ℕ) where
+  pub size-card-holds : (r : CardAnswer) (left : List ℕ) → Answers (sizeCard press book slice) r left → r .answer .number ≡ 0
+      → CardLeft (greatestOf press) (contentsOf book) slice left (r .sizes)
   size-card-holds r left a z =
-      let (fine, room) = size-card-answered book slice r left a .zero .0 z in
-      let e = with-room book slice fine room in
-      card-left (contentsOf book) slice left (r .sizes) room (a .leaves ∙ ap (λ (o : Outcome). o .slice) e) (a .counts ∙ ap (λ (o : Outcome). o .sizes) e)
+      let (fine, room) = size-card-answered press book slice r left a .zero .0 z in
+      let e = with-room press book slice fine room in
+      card-left (greatestOf press) (contentsOf book) slice left (r .sizes) room (a .leaves ∙ ap (λ (o : Outcome). o .slice) e) (a .counts ∙ ap (λ (o : Outcome). o .sizes) e)
 
-  pub dv-size-card-holds : (r : ℕ) (left : List ℕ) → Leaves (sizeCard book slice) r left → r % 2 ^ 8 ≡ 0
-      → CardLeft (contentsOf book) slice left (r / 2 ^ 32)
+  pub dv-size-card-holds : (r : ℕ) (left : List ℕ) → Leaves (sizeCard press book slice) r left → r % 2 ^ 8 ≡ 0
+      → CardLeft (greatestOf press) (contentsOf book) slice left (r / 2 ^ 32)
   dv-size-card-holds r left l z =
-      let (fine, room) = dv-size-card-answered book slice r left l .zero .0 z in
-      let e = with-room book slice fine room in
-      let counted : r / 2 ^ 32 ≡ sizeCard book slice .sizes = ap (λ (n : ℕ). n / 2 ^ 32) (l .answers) ∙ apart _ _ (card-packs book slice) .count-is in
-      card-left (contentsOf book) slice left (r / 2 ^ 32) room (l .leaves ∙ ap (λ (o : Outcome). o .slice) e) (counted ∙ ap (λ (o : Outcome). o .sizes) e)
+      let (fine, room) = dv-size-card-answered press book slice r left l .zero .0 z in
+      let e = with-room press book slice fine room in
+      let counted : r / 2 ^ 32 ≡ sizeCard press book slice .sizes = ap (λ (n : ℕ). n / 2 ^ 32) (l .answers) ∙ apart _ _ (card-packs press book slice) .count-is in
+      card-left (greatestOf press) (contentsOf book) slice left (r / 2 ^ 32) room (l .leaves ∙ ap (λ (o : Outcome). o .slice) e) (counted ∙ ap (λ (o : Outcome). o .sizes) e)
 
 -- Bit by bit: set exactly when the family has a sheet of that size, in any colours.
-pub bit-exactly : (b : Contents) (slice left : List ℕ) (count : ℕ) → CardLeft b slice left count → (r c : ℕ) → 1 ≤ r → r ≤ greatest → 1 ≤ c → c ≤ greatest
+pub bit-exactly : (most : ℕ) (b : Contents) (slice left : List ℕ) (count : ℕ) → CardLeft most b slice left count → (r c : ℕ) → 1 ≤ r → r ≤ most → 1 ≤ c → c ≤ most
     → (bit (getD left (r - 1) 0) (c - 1) ≡ 1) ↔ Sized b r c
-bit-exactly b slice left count l r c hr kr hc kc =
-    rw (getD-take greatest left (r - 1) 0 (omega arith)) at (l .says .says r c hr kr hc kc)
+bit-exactly most b slice left count l r c hr kr hc kc =
+    rw (getD-take most left (r - 1) 0 (omega arith)) at (l .says .says r c hr kr hc kc)

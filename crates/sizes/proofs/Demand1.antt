@@ -11,7 +11,7 @@ use lib.ListN.{length}
 use Rattle.names.proofs.Tests.{lt-or-le}
 use Rattle.books.specs.Answer.{InputsNumber}
 use Rattle.books.specs.Book.{bookOf}
-use Rattle.books.specs.Size.{greatest}
+use Rattle.books.specs.Press.{greatestOf}
 use Rattle.books.proofs.Packing.{apart}
 use Rattle.books.proofs.ReadingBooks.{book-refused}
 use Rattle.pieces.proofs.Demand1.{not-input}
@@ -23,24 +23,24 @@ abbrev pub Fine : List ℕ → Type 0
 Fine book = bookOf book .fault .number ≡ 0
 
 -- A call that was lent a book and a card slice answers so, with so many sizes, and leaves the slice so.
-pub record Answered (book slice : List ℕ) (number blamed place count : ℕ) (left : List ℕ) : Type 0 where
+pub record Answered (press : ℕ) (book slice : List ℕ) (number blamed place count : ℕ) (left : List ℕ) : Type 0 where
   pub listed : InputsNumber number ⊎ (number ≡ 13)
-  pub zero : (number ≡ 0) ↔ (Fine book × (greatest ≤ length slice))
+  pub zero : (number ≡ 0) ↔ (Fine book × (greatestOf press ≤ length slice))
   pub faulty : ((1 ≤ number) × InputsNumber number) ↔ (Fine book → ⊥)
-  pub thirteen : (number ≡ 13) ↔ (Fine book × (length slice < greatest))
+  pub thirteen : (number ≡ 13) ↔ (Fine book × (length slice < greatestOf press))
   -- a fault of the book is blamed on it at its place, which is a byte of the book or its end
   pub in-book : (Fine book → ⊥) → (number ≡ bookOf book .fault .number) × (blamed ≡ 1) × (place ≡ bookOf book .fault .place) × (place ≤ length book)
   pub others : Fine book → (blamed ≡ 0) × (place ≡ 0)
   pub unwritten : (number ≡ 0 → ⊥) → (count ≡ 0) × (left ≡ slice)
 
-module _ (book slice : List ℕ) where
+module _ (press : ℕ) (book slice : List ℕ) where
   abbrev Obeys : Outcome → Type 0
-  Obeys o = Answered book slice (o .answer .number) (o .answer .blamed) (o .answer .place) (o .sizes) (o .slice)
+  Obeys o = Answered press book slice (o .answer .number) (o .answer .blamed) (o .answer .place) (o .sizes) (o .slice)
 
-  refuses : (Fine book → ⊥) → Obeys (sizeCard book slice)
+  refuses : (Fine book → ⊥) → Obeys (sizeCard press book slice)
   refuses bad =
       let f = book-refused book bad .blamed in
-      rw (book-first book slice bad, ne-eqb (bookOf book .fault .number) 0 bad) (record {
+      rw (book-first press book slice bad, ne-eqb (bookOf book .fault .number) 0 bad) (record {
         listed = inl (f .known);
         zero = (λ z. absurd (bad z), λ x. absurd (bad (x .0)));
         faulty = (λ _. bad, λ _. (f .some, f .known));
@@ -51,9 +51,9 @@ module _ (book slice : List ℕ) where
       })
 
   module _ (fine : Fine book) where
-    lacks : length slice < greatest → Obeys (sizeCard book slice)
+    lacks : length slice < greatestOf press → Obeys (sizeCard press book slice)
     lacks h =
-        rw (no-room book slice fine h) (record {
+        rw (no-room press book slice fine h) (record {
           listed = inr refl;
           zero = (λ z. absurd (omega arith), λ x. absurd (omega (arith, x .1)));
           faulty = (λ x. absurd (not-input 13 (x .1) (omega arith) (λ u. omega arith)), λ bad. absurd (bad fine));
@@ -63,9 +63,9 @@ module _ (book slice : List ℕ) where
           unwritten = λ _. (refl, refl);
         })
 
-    writes : greatest ≤ length slice → Obeys (sizeCard book slice)
+    writes : greatestOf press ≤ length slice → Obeys (sizeCard press book slice)
     writes h =
-        rw (with-room book slice fine h) (record {
+        rw (with-room press book slice fine h) (record {
           listed = inl (inl (omega arith));
           zero = (λ _. (fine, h), λ _. refl);
           faulty = (λ x. absurd (omega (arith, x .0)), λ bad. absurd (bad fine));
@@ -75,22 +75,22 @@ module _ (book slice : List ℕ) where
           unwritten = λ n. absurd (n refl);
         })
 
-  pub obeys : Obeys (sizeCard book slice)
+  pub obeys : Obeys (sizeCard press book slice)
   obeys = go (ℕ-discrete (bookOf book .fault .number) 0)
     where
-      go : Dec (Fine book) → Obeys (sizeCard book slice)
-      go (yes fine) = ⊎-elim (lacks fine) (writes fine) (lt-or-le (length slice) greatest)
+      go : Dec (Fine book) → Obeys (sizeCard press book slice)
+      go (yes fine) = ⊎-elim (lacks fine) (writes fine) (lt-or-le (length slice) (greatestOf press))
       go (no bad) = refuses bad
 
   -- ── The theorems ──
 
-  pub size-card-answered : (r : CardAnswer) (left : List ℕ) → Answers (sizeCard book slice) r left
-      → Answered book slice (r .answer .number) (r .answer .blamed) (r .answer .place) (r .sizes) left
+  pub size-card-answered : (r : CardAnswer) (left : List ℕ) → Answers (sizeCard press book slice) r left
+      → Answered press book slice (r .answer .number) (r .answer .blamed) (r .answer .place) (r .sizes) left
   size-card-answered r left a = rw (a .answers, a .counts, a .leaves) obeys
 
-  pub dv-size-card-answered : (r : ℕ) (left : List ℕ) → Leaves (sizeCard book slice) r left
-      → Answered book slice (r % 2 ^ 8) (r / 2 ^ 8 % 2 ^ 4) (r / 2 ^ 12 % 2 ^ 20) (r / 2 ^ 32) left
+  pub dv-size-card-answered : (r : ℕ) (left : List ℕ) → Leaves (sizeCard press book slice) r left
+      → Answered press book slice (r % 2 ^ 8) (r / 2 ^ 8 % 2 ^ 4) (r / 2 ^ 12 % 2 ^ 20) (r / 2 ^ 32) left
   dv-size-card-answered r left l =
-      let o = sizeCard book slice in
-      let parts = apart (o .answer) (o .sizes) (card-packs book slice) in
+      let o = sizeCard press book slice in
+      let parts = apart (o .answer) (o .sizes) (card-packs press book slice) in
       rw (l .answers, l .leaves) (rw (parts .number-is, parts .blamed-is, parts .place-is, parts .count-is) obeys)

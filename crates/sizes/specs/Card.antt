@@ -5,7 +5,8 @@ use mathlib.Core.List.{List, [], _∷_}
 use lib.Count.{ones}
 use Rattle.names.specs.Pick.{pick, andThen}
 use Rattle.books.specs.Contents.{Contents}
-use Rattle.books.specs.Size.{greatest, within?, sizeBy as by}
+use Rattle.books.specs.Press.{greatestOf}
+use Rattle.books.specs.Size.{within?, sizeBy as by}
 use Rattle.names.specs.Counted.{each}
 use Rattle.names.specs.Bits.{bits}
 use Rattle.books.specs.declared.size.Size.{Size}
@@ -31,6 +32,6 @@ unfoldable pub setBits : List ℕ → ℕ
 setBits [] = 0
 setBits (x ∷ xs) = ones x + setBits xs
 
--- whether the card of a family has the size of m rows and n columns
-unfoldable pub hasOn : Contents → ℕ → ℕ → Bool
-hasOn b m n = andThen (within? greatest m n) (λ _. sized? b (m - 1) (n - 1))
+-- whether the card of a family on a press has the size of m rows and n columns
+unfoldable pub hasOn : ℕ → Contents → ℕ → ℕ → Bool
+hasOn press b m n = andThen (within? (greatestOf press) m n) (λ _. sized? b (m - 1) (n - 1))

@@ -9,11 +9,11 @@ use Rattle.pieces.specs.Area.{whole, treeSize}
 use Rattle.pieces.specs.Derivation.{derivation, LeavesPacked}
 use Rattle.pieces.specs.Pieces.{total}
 
--- some bytes of a sheet of r rows and c columns get 0 from `dv_derive`, whatever the slices, if they are long enough
-pub record Gets0 (book : List ℕ) (r c : ℕ) : Type 0 where
+-- some bytes of a sheet of a press, of r rows and c columns get 0 from `dv_derive`, whatever the slices, if they are long enough
+pub record Gets0 (press : ℕ) (book : List ℕ) (r c : ℕ) : Type 0 where
   pub sheet : List ℕ
   pub bytes : Bytes sheet
-  pub rows-are : sizeOf sheet .rows ≡ r
-  pub cols-are : sizeOf sheet .cols ≡ c
+  pub rows-are : sizeOf press sheet .rows ≡ r
+  pub cols-are : sizeOf press sheet .cols ≡ c
   pub gets-0 : (work tree work-left tree-left : List ℕ) (n : ℕ) → total r c ≤ length work → treeSize (whole r c) ≤ length tree
-      → LeavesPacked (derivation book sheet work tree) n work-left tree-left → n % 2 ^ 8 ≡ 0
+      → LeavesPacked (derivation press book sheet work tree) n work-left tree-left → n % 2 ^ 8 ≡ 0

@@ -8,7 +8,7 @@ use Rattle.names.specs.Pick.{pick}
 use Rattle.books.specs.Answer.{plain, packed}
 use Rattle.books.specs.Contents.{Contents}
 use Rattle.books.specs.Lent.{lentBook}
-use Rattle.books.specs.Size.{greatest}
+use Rattle.books.specs.Press.{greatestOf}
 use Rattle.books.specs.declared.answer.Answer.{Answer}
 use Rattle.sizes.specs.declared.calls.CardAnswer.{CardAnswer}
 use Rattle.sizes.specs.Card.{card, sizesOf}
@@ -23,17 +23,19 @@ pub record Outcome : Type 0 where
 abbrev pub refused : Answer → List ℕ → Outcome
 refused a slice = record { answer = a; sizes = 0; slice = slice }
 
--- the card of a family stands at the front of the slice, and the slice beyond is as it was
-abbrev pub carded : Contents → List ℕ → Outcome
-carded b slice = record { answer = plain 0; sizes = length (sizesOf b greatest); slice = card b greatest ++ drop greatest slice }
+-- the card of a family on a press stands at the front of the slice, and the slice beyond is as it was
+abbrev pub carded : ℕ → Contents → List ℕ → Outcome
+carded press b slice =
+    let most = greatestOf press in
+    record { answer = plain 0; sizes = length (sizesOf b most); slice = card b most ++ drop most slice }
 
 -- 13 where the slice is shorter than the card
-unfoldable pub roomed : Contents → List ℕ → Outcome
-roomed b slice = pick (ltb (length slice) greatest) (refused (plain 13) slice) (carded b slice)
+unfoldable pub roomed : ℕ → Contents → List ℕ → Outcome
+roomed press b slice = pick (ltb (length slice) (greatestOf press)) (refused (plain 13) slice) (carded press b slice)
 
-unfoldable pub sizeCard : List ℕ → List ℕ → Outcome
-sizeCard book slice =
-    lentBook 1 book (λ a. refused a slice) (λ b. roomed b slice)
+unfoldable pub sizeCard : ℕ → List ℕ → List ℕ → Outcome
+sizeCard press book slice =
+    lentBook 1 book (λ a. refused a slice) (λ b. roomed press b slice)
 
 -- what the call answers, and the slice as it leaves it, are those of an outcome
 pub record Answers (o : Outcome) (r : CardAnswer) (slice : List ℕ) : Type 0 where

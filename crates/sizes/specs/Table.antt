@@ -8,7 +8,8 @@ use lib.ListN.{getD, set, replicate}
 use Rattle.names.specs.Bits.{bit}
 use Rattle.names.specs.Pick.{andThen}
 use Rattle.books.specs.Keeps.{mostMotifs}
-use Rattle.books.specs.Size.{greatest, room, within?, sizeBy as by}
+use Rattle.books.specs.Press.{greatestOf}
+use Rattle.books.specs.Size.{room, within?, sizeBy as by}
 use Rattle.books.specs.declared.rule.Dir.the-variants.{Across as across, Down as down}
 use Rattle.books.specs.declared.rule.Dir.{Dir}
 use Rattle.pieces.specs.Filling.{cutsOf}
@@ -54,8 +55,8 @@ sizesBy fire painted n end t = withEntries fire n (end - 1) (set t 0 painted)
 abbrev pub tableBy : List ℕ → Joins → ℕ → ℕ → List ℕ
 tableBy masks j n end = sizesBy (fireOf masks j) (paintedOf masks) n end (replicate room 0)
 
--- whether a motif has the size of m rows and n columns: its bit in the last entry of a table that is no larger. No size beyond a card is had, and none
--- by a motif beyond the last.
-unfoldable pub hasSizeBy : List ℕ → Joins → ℕ → ℕ → ℕ → Bool
-hasSizeBy masks j a m n =
-    andThen (ltb a mostMotifs) (λ _. andThen (within? greatest m n) (λ _. eqb (bit (getD (tableBy masks j n (m * n)) (m * n - 1) 0) a) 1))
+-- whether a motif has the size of m rows and n columns: its bit in the last entry of a table that is no larger. No size beyond the card of the
+-- press is had, and none by a motif beyond the last.
+unfoldable pub hasSizeBy : ℕ → List ℕ → Joins → ℕ → ℕ → ℕ → Bool
+hasSizeBy press masks j a m n =
+    andThen (ltb a mostMotifs) (λ _. andThen (within? (greatestOf press) m n) (λ _. eqb (bit (getD (tableBy masks j n (m * n)) (m * n - 1) 0) a) 1))

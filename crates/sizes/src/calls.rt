@@ -2,7 +2,7 @@
 use crate::card::write_card;
 use books::answer;
 use books::answer::Answer;
-use books::size::GREATEST;
+use books::press::greatest;
 use pieces::asking;
 use pieces::masks::ALL_MASKS;
 ghost use Rattle.sizes.specs.Outcome.{sizeCard, Answers, Leaves};
@@ -15,7 +15,7 @@ pub struct CardAnswer {
 
 // Writes the size card of a book's family: bit c - 1 of number r - 1 is set exactly when the family has a sheet of r rows and c columns.
 pub fn size_card(book: &[u8], card: &mut [u32]) -> CardAnswer
-    ensures { λ r. ⌜ Answers (sizeCard (now (book .entry)) (now (card .entry))) r (now (card .exit)) ⌝ }
+    ensures { λ r. ⌜ Answers (sizeCard 0 (now (book .entry)) (now (card .entry))) r (now (card .exit)) ⌝ }
 {
     let mut masks = [0u32; ALL_MASKS];
     let split = asking::split_book(book, &mut masks);
@@ -25,13 +25,14 @@ pub fn size_card(book: &[u8], card: &mut [u32]) -> CardAnswer
             sizes: 0,
         };
     }
-    if card.len() < GREATEST {
+    let most = greatest(0);
+    if card.len() < most {
         return CardAnswer {
             answer: answer::unblamed(13),
             sizes: 0,
         };
     }
-    let sizes = write_card(&masks, split.joins, split.start, GREATEST, card);
+    let sizes = write_card(&masks, split.joins, split.start, most, card);
     CardAnswer {
         answer: answer::unblamed(0),
         sizes,
@@ -41,7 +42,7 @@ pub fn size_card(book: &[u8], card: &mut [u32]) -> CardAnswer
 // The same for the C host.
 #[no_mangle]
 pub extern "C" fn dv_size_card(book: &[u8], card: &mut [u32]) -> u64
-    ensures { λ r. ⌜ Leaves (sizeCard (now (book .entry)) (now (card .entry))) r (now (card .exit)) ⌝ }
+    ensures { λ r. ⌜ Leaves (sizeCard 0 (now (book .entry)) (now (card .entry))) r (now (card .exit)) ⌝ }
 {
     let r = size_card(book, card);
     answer::pack(r.answer, r.sizes)

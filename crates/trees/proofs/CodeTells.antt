@@ -58,36 +58,36 @@ module _ (b : Contents) (p : Picture) (ns : List Node) where
           rw (lt-leb (length ns) e some)
       by-judged (failed e) said = refl
 
-module _ (book sheet : List ℕ) (bytes-book : Bytes book) (bytes-sheet : Bytes sheet) (fine : Accepted book sheet) where
+module _ (press : ℕ) (book sheet : List ℕ) (bytes-book : Bytes book) (bytes-sheet : Bytes sheet) (fine : Accepted press book sheet) where
   abbrev f : Family
   f = bookOf book .family
 
   abbrev g : Sheet
-  g = sheetOf sheet .sheet
+  g = sheetOf press sheet .sheet
 
   abbrev b : Contents
   b = contentsOf book
 
   abbrev p : Picture
-  p = pictureOf sheet
+  p = pictureOf press sheet
 
-  held-judged : (ns : List Node) → judgedHeld (heldTo book sheet) ns ≡ verdict (judge b (b .start) p ns 0)
+  held-judged : (ns : List Node) → judgedHeld (heldTo press book sheet) ns ≡ verdict (judge b (b .start) p ns 0)
   unfolding heldTo judgedAt
   held-judged ns =
-      let s = sheet-lies sheet (fine .sheet-fine) .within in
+      let s = sheet-lies press sheet (fine .sheet-fine) .within in
       rw (numbers-for book (f .colours) sheet g (book-places book .few))
-      (ap verdict (sheet-judged b p (numbersOf book (f .colours) sheet g) (sheet-numbered book sheet bytes-book bytes-sheet fine) (b .start) ns 0 (s .rows-some) (s .cols-some)))
+      (ap verdict (sheet-judged b p (numbersOf book (f .colours) sheet g) (sheet-numbered press book sheet bytes-book bytes-sheet fine) (b .start) ns 0 (s .rows-some) (s .cols-some)))
 
   -- what the code tells of a whole row is the answer
-  told : (ns : List Node) → treeAnswer book sheet ns ≡ heldAnswer (heldTo book sheet) ns
+  told : (ns : List Node) → treeAnswer press book sheet ns ≡ heldAnswer (heldTo press book sheet) ns
   unfolding heldTo
   told ns =
-      answered book sheet ns fine (ends b p ns) ∙ sym (ended-alike b p ns)
+      answered press book sheet ns fine (ends b p ns) ∙ sym (ended-alike b p ns)
       ∙ ap (λ v. ended16 v (length ns)) (sym (held-judged ns))
-      ∙ sym (then-judged (heldTo book sheet) ns (fine .book-fine) (fine .sheet-fine))
+      ∙ sym (then-judged (heldTo press book sheet) ns (fine .book-fine) (fine .sheet-fine))
 
   -- nodes beyond the first 2mn change nothing
-  far : (ns : List Node) → treeAnswer book sheet ns ≡ treeAnswer book sheet (take (min (length ns) (2 * (g .size .rows * g .size .cols))) ns)
+  far : (ns : List Node) → treeAnswer press book sheet ns ≡ treeAnswer press book sheet (take (min (length ns) (2 * (g .size .rows * g .size .cols))) ns)
   far ns =
       let cells : ℕ = 2 * (g .size .rows * g .size .cols) in
       ⊎-elim
@@ -96,36 +96,36 @@ module _ (book sheet : List ℕ) (bytes-book : Bytes book) (bytes-sheet : Bytes 
       rw (all, take-all (length ns) ns (omega arith)))
       (λ (h : cells ≤ length ns).
       let some : min (length ns) cells ≡ cells = omega arith in
-      let s = sheet-lies sheet (fine .sheet-fine) .within in
+      let s = sheet-lies press sheet (fine .sheet-fine) .within in
       let enough : cells ≤ length (take cells ns) = omega (arith, length-take-le cells ns h) in
       let apart : checked b p ns ≡ checked b p (take cells ns) =
       ap (checked b p) (sym (take-append-drop cells ns)) ∙ far-nodes b p (record { tall = s .rows-some; wide = s .cols-some }) (take cells ns) (drop cells ns) enough in
       rw some
-      (answered book sheet ns fine (ends b p ns) ∙ ap (λ (x : Fault). blaming 0 x) apart ∙ sym (answered book sheet (take cells ns) fine (ends b p (take cells ns)))))
+      (answered press book sheet ns fine (ends b p ns) ∙ ap (λ (x : Fault). blaming 0 x) apart ∙ sym (answered press book sheet (take cells ns) fine (ends b p (take cells ns)))))
       (lt-or-le (length ns) cells)
 
 -- The code looks at no more than that of a lent row, and answers by it.
-module _ (book sheet : List ℕ) (bytes-book : Bytes book) (bytes-sheet : Bytes sheet) where
-  tells : (ns : List Node) → heldAnswer (heldTo book sheet) (take (lookedAt (length ns) (heldTo book sheet)) ns) ≡ treeAnswer book sheet ns
+module _ (press : ℕ) (book sheet : List ℕ) (bytes-book : Bytes book) (bytes-sheet : Bytes sheet) where
+  tells : (ns : List Node) → heldAnswer (heldTo press book sheet) (take (lookedAt (length ns) (heldTo press book sheet)) ns) ≡ treeAnswer press book sheet ns
   unfolding treeAnswer heldTo
   tells ns = by-book (ℕ-discrete (bookOf book .fault .number) 0)
     where
       some : List Node
-      some = take (lookedAt (length ns) (heldTo book sheet)) ns
+      some = take (lookedAt (length ns) (heldTo press book sheet)) ns
 
-      by-sheet : bookOf book .fault .number ≡ 0 → Dec (sheetOf sheet .fault .number ≡ 0) → heldAnswer (heldTo book sheet) some ≡ treeAnswer book sheet ns
+      by-sheet : bookOf book .fault .number ≡ 0 → Dec (sheetOf press sheet .fault .number ≡ 0) → heldAnswer (heldTo press book sheet) some ≡ treeAnswer press book sheet ns
       by-sheet z (yes y) =
-          let fine : Accepted book sheet = record { book-fine = z; sheet-fine = y } in
-          sym (far book sheet bytes-book bytes-sheet fine ns ∙ told book sheet bytes-book bytes-sheet fine some)
+          let fine : Accepted press book sheet = record { book-fine = z; sheet-fine = y } in
+          sym (far press book sheet bytes-book bytes-sheet fine ns ∙ told press book sheet bytes-book bytes-sheet fine some)
       by-sheet z (no n) =
-          sheet-second (heldTo book sheet) some z n
-          ∙ sym (sheet-refused-second book (λ a. a) sheet (λ b p. blaming 0 (checked b p ns)) z n)
+          sheet-second (heldTo press book sheet) some z n
+          ∙ sym (sheet-refused-second book (λ a. a) press sheet (λ b p. blaming 0 (checked b p ns)) z n)
 
-      by-book : Dec (bookOf book .fault .number ≡ 0) → heldAnswer (heldTo book sheet) some ≡ treeAnswer book sheet ns
-      by-book (yes z) = by-sheet z (ℕ-discrete (sheetOf sheet .fault .number) 0)
+      by-book : Dec (bookOf book .fault .number ≡ 0) → heldAnswer (heldTo press book sheet) some ≡ treeAnswer press book sheet ns
+      by-book (yes z) = by-sheet z (ℕ-discrete (sheetOf press sheet .fault .number) 0)
       by-book (no n) =
-          book-first (heldTo book sheet) some n
-          ∙ sym (book-refused-first book (λ a. a) 1 (λ b. lentSheet 2 sheet (λ a. a) (λ p. blaming 0 (checked b p ns))) n)
+          book-first (heldTo press book sheet) some n
+          ∙ sym (book-refused-first book (λ a. a) 1 (λ b. lentSheet press 2 sheet (λ a. a) (λ p. blaming 0 (checked b p ns))) n)
 
-  pub holds : {o : Held} → o ≡ heldTo book sheet → Holds book sheet o
-  holds e = rw e (record { small = held-size book sheet; fine = held-fine book sheet; tells = tells })
+  pub holds : {o : Held} → o ≡ heldTo press book sheet → Holds press book sheet o
+  holds e = rw e (record { small = held-size press book sheet; fine = held-fine press book sheet; tells = tells })

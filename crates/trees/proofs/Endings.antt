@@ -18,30 +18,30 @@ use Rattle.trees.specs.Judge.{checked}
 use Rattle.trees.specs.Outcome.{treeAnswer}
 use Rattle.trees.proofs.Theorems.{ends, ends-checked}
 
-module _ (book sheet : List ℕ) (nodes : List Node) where
+module _ (press : ℕ) (book sheet : List ℕ) (nodes : List Node) where
   abbrev b : Contents
   b = contentsOf book
 
   abbrev p : Picture
-  p = pictureOf sheet
+  p = pictureOf press sheet
 
   pub record Cases (P : Answer → Type 0) : Type 0 where
     pub in-book : (bookOf book .fault .number ≡ 0 → ⊥) → P (answer (bookOf book .fault .number) 1 (bookOf book .fault .place))
-    pub in-sheet : bookOf book .fault .number ≡ 0 → (sheetOf sheet .fault .number ≡ 0 → ⊥) → P (answer (sheetOf sheet .fault .number) 2 (sheetOf sheet .fault .place))
-    pub failing : Accepted book sheet → (i : ℕ) → FailsAt b (b .start) p nodes i → P (answer 16 0 i)
-    pub over : Accepted book sheet → (xs : List Node) (v : Node) (vs : List Node) → nodes ≡ xs ++ (v ∷ vs) → TreeOf b (b .start) p xs → P (answer 16 0 (length xs))
-    pub derived : Accepted book sheet → TreeOf b (b .start) p nodes → P (plain 0)
+    pub in-sheet : bookOf book .fault .number ≡ 0 → (sheetOf press sheet .fault .number ≡ 0 → ⊥) → P (answer (sheetOf press sheet .fault .number) 2 (sheetOf press sheet .fault .place))
+    pub failing : Accepted press book sheet → (i : ℕ) → FailsAt b (b .start) p nodes i → P (answer 16 0 i)
+    pub over : Accepted press book sheet → (xs : List Node) (v : Node) (vs : List Node) → nodes ≡ xs ++ (v ∷ vs) → TreeOf b (b .start) p xs → P (answer 16 0 (length xs))
+    pub derived : Accepted press book sheet → TreeOf b (b .start) p nodes → P (plain 0)
 
   module _ (P : Answer → Type 0) (cases : Cases P) where
-    by-end : Accepted book sheet → (ns : List Node) (f : Fault) → nodes ≡ ns → Ends b p ns f → P (blaming 0 f)
+    by-end : Accepted press book sheet → (ns : List Node) (f : Fault) → nodes ≡ ns → Ends b p ns f → P (blaming 0 f)
     by-end fine _ _ e (a-tree t) = cases .derived fine (rw e t)
     by-end fine _ _ e (fails {i = i} x) = cases .failing fine i (rw e x)
     by-end fine _ _ e (left-over {xs} v vs t) = cases .over fine xs v vs e t
 
-    pub tree-ends : P (treeAnswer book sheet nodes)
+    pub tree-ends : P (treeAnswer press book sheet nodes)
     unfolding treeAnswer
     tree-ends =
-        both-end P (λ a. a) book sheet (λ b p. blaming 0 (checked b p nodes))
+        both-end P (λ a. a) press book sheet (λ b p. blaming 0 (checked b p nodes))
         (record {
           in-book = cases .in-book;
           in-sheet = cases .in-sheet;
@@ -49,7 +49,7 @@ module _ (book sheet : List ℕ) (nodes : List Node) where
         })
 
   -- Where both inputs are accepted, the answer is that of the one way in which the row ends.
-  pub answered : Accepted book sheet → {f : Fault} → Ends b p nodes f → treeAnswer book sheet nodes ≡ blaming 0 f
+  pub answered : Accepted press book sheet → {f : Fault} → Ends b p nodes f → treeAnswer press book sheet nodes ≡ blaming 0 f
   unfolding treeAnswer
   answered fine x =
-      both-go-on book (λ a. a) sheet (λ b p. blaming 0 (checked b p nodes)) fine ∙ ap (λ (g : Fault). blaming 0 g) (ends-checked b p x)
+      both-go-on book (λ a. a) press sheet (λ b p. blaming 0 (checked b p nodes)) fine ∙ ap (λ (g : Fault). blaming 0 g) (ends-checked b p x)

@@ -13,21 +13,22 @@ use Rattle.books.specs.Answer.{blaming}
 use Rattle.books.specs.Book.{bookOf}
 use Rattle.books.specs.Numbering.{Numbers}
 use Rattle.books.specs.Sheet.{sheetOf}
-use Rattle.books.specs.Size.{greatest}
 use Rattle.books.specs.declared.answer.Answer.{Answer}
 use Rattle.books.specs.declared.book.BookRead.{BookRead}
 use Rattle.books.specs.declared.sheet.SheetFigures.{SheetFigures}
 use Rattle.books.proofs.NumberedCells.{numbers-room}
 use Rattle.books.proofs.ReadingBooks.{book-count, book-size}
+use Rattle.books.proofs.Presses.{greatest-few}
 use Rattle.books.proofs.ReadingSheets.{sheet-lies, sheet-refused}
 use Rattle.books.proofs.SizesWithin.{within-more}
+use Rattle.pieces.specs.Most.{most}
 use Rattle.trees.specs.declared.held.Held.{Held}
 use Rattle.trees.specs.declared.judge.Verdict.{Verdict}
 use Rattle.trees.specs.declared.node.Node.{Node}
 use Rattle.trees.specs.inner.Held.{heldTo, HeldFine, ended16, judgedHeld, heldAnswer}
 
-pub held-made : (book sheet : List ℕ) {b : BookRead} {s : SheetFigures} {cells : List ℕ} → b ≡ bookOf book
-    → Numbers book (b .family .colours) sheet s cells
+pub held-made : (press : ℕ) (book sheet : List ℕ) {b : BookRead} {s : SheetFigures} {cells : List ℕ} → b ≡ bookOf book
+    → Numbers press book (b .family .colours) sheet s cells
     → _≡_ {A = Held} (record {
       book = b .fault;
       sheet = s .fault;
@@ -36,26 +37,26 @@ pub held-made : (book sheet : List ℕ) {b : BookRead} {s : SheetFigures} {cells
       start = b .family .start;
       size = s .size;
       cells = cells;
-    }) (heldTo book sheet)
+    }) (heldTo press book sheet)
 unfolding heldTo
-held-made book sheet read shown = rw (shown .cells, shown .figures, read)
+held-made press book sheet read shown = rw (shown .cells, shown .figures, read)
 
-pub held-size : (book sheet : List ℕ) → (heldTo book sheet .size .rows ≤ greatest) × (heldTo book sheet .size .cols ≤ greatest)
+pub held-size : (press : ℕ) (book sheet : List ℕ) → (heldTo press book sheet .size .rows ≤ most) × (heldTo press book sheet .size .cols ≤ most)
 unfolding heldTo
-held-size book sheet =
+held-size press book sheet =
     ⊎-elim
-    (λ t. let within = sheet-lies sheet (eqb-true _ 0 t) .within in (within .rows-few, within .cols-few))
-    (λ t. rw (heldTo, sheet-refused sheet (eqb-false _ 0 t) .none) (omega arith, omega arith))
-    (true-or-false (eqb (sheetOf sheet .fault .number) 0))
+    (λ t. let within = within-more (greatest-few press) (sheet-lies press sheet (eqb-true _ 0 t) .within) in (within .rows-few, within .cols-few))
+    (λ t. rw (heldTo, sheet-refused press sheet (eqb-false _ 0 t) .none) (omega arith, omega arith))
+    (true-or-false (eqb (sheetOf press sheet .fault .number) 0))
 
-pub held-fine : (book sheet : List ℕ) → heldTo book sheet .sheet .number ≡ 0 → HeldFine (heldTo book sheet)
+pub held-fine : (press : ℕ) (book sheet : List ℕ) → heldTo press book sheet .sheet .number ≡ 0 → HeldFine (heldTo press book sheet)
 unfolding heldTo
-held-fine book sheet y =
+held-fine press book sheet y =
     record {
       rules-few = book-count book;
       rules-held = omega (arith, book-count book, book-size book);
-      cells-all = numbers-room book (bookOf book .family .colours) sheet;
-      sizes = within-more (omega arith) (sheet-lies sheet y .within);
+      cells-all = numbers-room press book (bookOf book .family .colours) sheet;
+      sizes = within-more (greatest-few press) (sheet-lies press sheet y .within);
     }
 
 -- ── The order of the answers ──

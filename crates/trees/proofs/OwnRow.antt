@@ -18,32 +18,32 @@ use Rattle.trees.specs.Outcome.{treeAnswer}
 use Rattle.trees.proofs.Endings.{answered}
 use Rattle.trees.proofs.OwnTree.{given-tree}
 
-module _ (book sheet work tree work-left tree-left : List ℕ) where
+module _ (press : ℕ) (book sheet work tree work-left tree-left : List ℕ) where
   -- the nodes that stand in the tree slice
   abbrev pub written : List Node
-  written = nodesOf (take (numbersNeeded (pictureOf sheet)) tree-left)
+  written = nodesOf (take (numbersNeeded (pictureOf press sheet)) tree-left)
 
-  own-row : Accepted book sheet → Roomy (pictureOf sheet) work tree → Member (contentsOf book) (pictureOf sheet) → tree-left ≡ derivation book sheet work tree .numbers
-      → treeAnswer book sheet written ≡ plain 0
+  own-row : Accepted press book sheet → Roomy (pictureOf press sheet) work tree → Member (contentsOf book) (pictureOf press sheet) → tree-left ≡ derivation press book sheet work tree .numbers
+      → treeAnswer press book sheet written ≡ plain 0
   own-row fine room member leaves =
       let b = contentsOf book in
-      let p = pictureOf sheet in
-      let given = derived-accepted book sheet work tree fine room member in
+      let p = pictureOf press sheet in
+      let given = derived-accepted press book sheet work tree fine room member in
       let numbers : take (numbersNeeded p) tree-left ≡ given .nodes =
       ap (take (numbersNeeded p)) (leaves ∙ given .written)
       ∙ take-at (given .nodes) (drop (length (given .nodes)) tree) (numbersNeeded p) (given-length b (b .start) p (given .nodes) (given .given)) in
-      ap (λ (xs : List ℕ). treeAnswer book sheet (nodesOf xs)) numbers ∙ answered book sheet (nodesOf (given .nodes)) fine (a-tree (given-tree (given .given)))
+      ap (λ (xs : List ℕ). treeAnswer press book sheet (nodesOf xs)) numbers ∙ answered press book sheet (nodesOf (given .nodes)) fine (a-tree (given-tree (given .given)))
 
   -- ── The theorems ──
 
-  pub own-tree-accepted : {r : Answer} → Leaves (derivation book sheet work tree) r work-left tree-left → r .number ≡ 0
-      → (q : Answer) → q ≡ treeAnswer book sheet written → q ≡ plain 0
+  pub own-tree-accepted : {r : Answer} → Leaves (derivation press book sheet work tree) r work-left tree-left → r .number ≡ 0
+      → (q : Answer) → q ≡ treeAnswer press book sheet written → q ≡ plain 0
   own-tree-accepted left zero q e =
-      let (fine, room, member) = derive-numbers book sheet work tree left .zero .0 zero in
+      let (fine, room, member) = derive-numbers press book sheet work tree left .zero .0 zero in
       e ∙ own-row fine room member (left .leaves-tree)
 
-  pub dv-own-tree-accepted : {r : ℕ} → LeavesPacked (derivation book sheet work tree) r work-left tree-left → r % 2 ^ 8 ≡ 0
-      → (q : ℕ) → q ≡ packed (treeAnswer book sheet written) 0 → q ≡ 0
+  pub dv-own-tree-accepted : {r : ℕ} → LeavesPacked (derivation press book sheet work tree) r work-left tree-left → r % 2 ^ 8 ≡ 0
+      → (q : ℕ) → q ≡ packed (treeAnswer press book sheet written) 0 → q ≡ 0
   dv-own-tree-accepted left zero q e =
-      let (fine, room, member) = dv-derive-numbers book sheet work tree left .zero .0 zero in
+      let (fine, room, member) = dv-derive-numbers press book sheet work tree left .zero .0 zero in
       e ∙ ap (λ (x : Answer). packed x 0) (own-row fine room member (left .leaves-tree))

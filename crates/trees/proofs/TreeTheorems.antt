@@ -1,7 +1,7 @@
 -- What the answer about a tree means, from the bytes: 0 exactly where both inputs are accepted and the row is a tree of the sheet, 16 exactly where they are accepted and it is none,
 -- with the place of the first node that fails; and some row is accepted exactly where the family has the sheet. Stated on the parts of the answer, and for the C host on the number
 -- taken apart as the header does.
-use Prim.Native.Nat.{ℕ, _/_, _%_, _^_, _≤_, _<_}
+use Prim.Native.Nat.{ℕ, _*_, _/_, _%_, _^_, _≤_, _<_}
 use mathlib.Core.Path.{_≡_, refl, ap, subst}
 use mathlib.Core.List.{List, _∷_, _++_}
 use mathlib.Core.Logic.{_↔_, _⊎_, inl, inr}
@@ -16,6 +16,7 @@ use Rattle.books.specs.Contents.{Contents}
 use Rattle.books.specs.Derives.{Member}
 use Rattle.books.specs.Lent.{contentsOf, pictureOf, Accepted}
 use Rattle.books.specs.Picture.{Picture}
+use Rattle.books.specs.Size.{room}
 use Rattle.books.specs.Sheet.{sheetOf}
 use Rattle.books.specs.declared.answer.Answer.{Answer}
 use Rattle.books.proofs.Packing.{apart, plain-packs, book-placed, sheet-placed}
@@ -41,12 +42,12 @@ pub record LeftOver (b : Contents) (p : Picture) (nodes : List Node) (count : �
   pub derives : TreeOf b (b .start) p tree
   pub counted : count ≡ length tree
 
-module _ (book sheet : List ℕ) (nodes : List Node) where
+module _ (press : ℕ) (book sheet : List ℕ) (nodes : List Node) where
   abbrev b : Contents
   b = contentsOf book
 
   abbrev p : Picture
-  p = pictureOf sheet
+  p = pictureOf press sheet
 
   -- the lent row is a tree of the lent sheet for the start motif of the lent book
   abbrev pub IsTree : Type 0
@@ -55,10 +56,10 @@ module _ (book sheet : List ℕ) (nodes : List Node) where
   -- A call that was lent a book, a sheet and a row of nodes answers so.
   pub record Answered (number blamed place : ℕ) : Type 0 where
     pub listed : InputsNumber number ⊎ (number ≡ 16)
-    pub faulty : ((1 ≤ number) × InputsNumber number) ↔ (Accepted book sheet → ⊥)
-    pub sixteen : (number ≡ 16) ↔ (Accepted book sheet × (IsTree → ⊥))
-    pub zero : (number ≡ 0) ↔ (Accepted book sheet × IsTree)
-    pub faults : 1 ≤ number → InputsNumber number → InBook book number blamed place ⊎ InSheet book sheet number blamed place
+    pub faulty : ((1 ≤ number) × InputsNumber number) ↔ (Accepted press book sheet → ⊥)
+    pub sixteen : (number ≡ 16) ↔ (Accepted press book sheet × (IsTree → ⊥))
+    pub zero : (number ≡ 0) ↔ (Accepted press book sheet × IsTree)
+    pub faults : 1 ≤ number → InputsNumber number → InBook book number blamed place ⊎ InSheet press book sheet number blamed place
     pub unblamed : (number ≡ 0) ⊎ (number ≡ 16) → blamed ≡ 0
     pub at-start : number ≡ 0 → place ≡ 0
     -- 16 stands at the first node that fails or is missing, or after the tree where nodes are left over: every node before it is right for what it is due for
@@ -68,7 +69,7 @@ module _ (book sheet : List ℕ) (nodes : List Node) where
   abbrev Obeys : Answer → Type 0
   Obeys a = Answered (a .number) (a .blamed) (a .place)
 
-  in-input : (n blamed place : ℕ) → 1 ≤ n → InputsNumber n → (Accepted book sheet → ⊥) → InBook book n blamed place ⊎ InSheet book sheet n blamed place → Answered n blamed place
+  in-input : (n blamed place : ℕ) → 1 ≤ n → InputsNumber n → (Accepted press book sheet → ⊥) → InBook book n blamed place ⊎ InSheet press book sheet n blamed place → Answered n blamed place
   in-input n blamed place h g bad which =
       record {
         listed = inl g;
@@ -86,7 +87,7 @@ module _ (book sheet : List ℕ) (nodes : List Node) where
       unlisted (inl e) = omega arith
       unlisted (inr e) = not-input 16 (subst InputsNumber e g) (omega arith) (λ u. omega arith)
 
-  no-tree : (place : ℕ) → Accepted book sheet → Ends b p nodes (record { number = 16; place = place }) → ((i : ℕ) → i < place → RightAt b (b .start) p nodes i)
+  no-tree : (place : ℕ) → Accepted press book sheet → Ends b p nodes (record { number = 16; place = place }) → ((i : ℕ) → i < place → RightAt b (b .start) p nodes i)
       → WrongAt b (b .start) p nodes place ⊎ LeftOver b p nodes place → Answered 16 0 place
   no-tree place fine end right found =
       let none : IsTree → ⊥ = λ t. omega (arith, ap (λ (f : Fault). f .number) (one-end b p end (a-tree t))) in
@@ -102,14 +103,14 @@ module _ (book sheet : List ℕ) (nodes : List Node) where
         there = λ _. found;
       }
 
-  obeys : Obeys (treeAnswer book sheet nodes)
+  obeys : Obeys (treeAnswer press book sheet nodes)
   obeys =
-      tree-ends book sheet nodes Obeys
+      tree-ends press book sheet nodes Obeys
       (record {
         in-book = λ n. let f = book-refused book n .blamed in
             in-input _ _ _ (f .some) (f .known) (λ fine. n (fine .book-fine))
             (inl (record { number-is = refl; place-is = refl; first = refl; inside = f .inside }));
-        in-sheet = λ z n. let f = sheet-refused sheet n .blamed in
+        in-sheet = λ z n. let f = sheet-refused press sheet n .blamed in
             in-input _ _ _ (f .some) (inl (f .known)) (λ fine. n (fine .sheet-fine))
             (inr (record { book-fine = z; number-is = refl; place-is = refl; second = refl; inside = f .inside }));
         failing = λ fine i x. no-tree i fine (fails x) (right-before b x) (inl (wrong-there b x));
@@ -133,45 +134,46 @@ module _ (book sheet : List ℕ) (nodes : List Node) where
   -- ── Packing ──
 
   -- an accepted sheet has cells, and not too many
-  some : Accepted book sheet → Some p × (cells p ≤ 576)
+  some : Accepted press book sheet → Some p × (cells p ≤ room)
   some fine =
-      let s = sheet-lies sheet (fine .sheet-fine) in
+      let s = sheet-lies press sheet (fine .sheet-fine) in
       (record { tall = s .within .rows-some; wide = s .within .cols-some }, omega (arith, s .area-few))
 
-  pub tree-packs : Packs (treeAnswer book sheet nodes) 0
+  pub tree-packs : Packs (treeAnswer press book sheet nodes) 0
   tree-packs =
-      tree-ends book sheet nodes (λ a. Packs a 0)
+      tree-ends press book sheet nodes (λ a. Packs a 0)
       (record {
         in-book = λ n. rw (ne-eqb (bookOf book .fault .number) 0 n) at (book-placed book 1 (omega arith) .packs);
-        in-sheet = λ z n. rw (ne-eqb (sheetOf sheet .fault .number) 0 n) at (sheet-placed sheet 2 (omega arith) .packs);
+        in-sheet = λ z n. rw (ne-eqb (sheetOf press sheet .fault .number) 0 n) at (sheet-placed press sheet 2 (omega arith) .packs);
         failing = λ fine i x. at-place i (omega (arith, fails-count x (some fine .0), some fine .1));
         over = λ fine xs v vs e t. at-place (length xs) (omega (arith, tree-count t, some fine .1));
         derived = λ fine t. plain-packs 0 0 (omega arith) (omega arith);
       })
     where
-      at-place : (i : ℕ) → i < 1152 → Packs (answer 16 0 i) 0
+      at-place : (i : ℕ) → i < 2 * room → Packs (answer 16 0 i) 0
       at-place i h = record { number-fits = omega arith; blamed-fits = omega arith; place-fits = omega arith; count-fits = omega arith }
 
   -- ── The theorems ──
 
   -- 1 to 8 exactly where an input is refused, 0 exactly where both are accepted and the row is a tree of the whole sheet for the start motif, 16 exactly where it is none
-  pub check-tree-answered : (r : Answer) → r ≡ treeAnswer book sheet nodes → Answered (r .number) (r .blamed) (r .place)
+  pub check-tree-answered : (r : Answer) → r ≡ treeAnswer press book sheet nodes → Answered (r .number) (r .blamed) (r .place)
   check-tree-answered r e = rw e obeys
 
   pub record Called (r : ℕ) : Type 0 where
     pub parts : Answered (r % 2 ^ 8) (r / 2 ^ 8 % 2 ^ 4) (r / 2 ^ 12 % 2 ^ 20)
     pub counted : r / 2 ^ 32 ≡ 0
 
-  pub dv-check-tree-called : (r : ℕ) → r ≡ packed (treeAnswer book sheet nodes) 0 → Called r
+  pub dv-check-tree-called : (r : ℕ) → r ≡ packed (treeAnswer press book sheet nodes) 0 → Called r
   dv-check-tree-called r e =
-      let parts = apart (treeAnswer book sheet nodes) 0 tree-packs in
+      let parts = apart (treeAnswer press book sheet nodes) 0 tree-packs in
       rw e (record { parts = rw (parts .number-is, parts .blamed-is, parts .place-is) obeys; counted = parts .count-is })
 
 -- Some row is accepted exactly where both inputs are and the family has the sheet.
-pub some-row : (book sheet : List ℕ) → ((nodes : List Node) × (treeAnswer book sheet nodes .number ≡ 0)) ↔ (Accepted book sheet × Member (contentsOf book) (pictureOf sheet))
-some-row book sheet =
+pub some-row : (press : ℕ) (book sheet : List ℕ) → ((nodes : List Node) × (treeAnswer press book sheet nodes .number ≡ 0))
+    ↔ (Accepted press book sheet × Member (contentsOf book) (pictureOf press sheet))
+some-row press book sheet =
     let b = contentsOf book in
-    let p = pictureOf sheet in (
-      λ (nodes, e). let (fine, t) = obeys book sheet nodes .zero .0 e in (fine, some-tree b p (b .start) .0 (nodes, t)),
-      λ (fine, x). let (nodes, t) = some-tree b p (b .start) .1 x in (nodes, obeys book sheet nodes .zero .1 (fine, t)),
+    let p = pictureOf press sheet in (
+      λ (nodes, e). let (fine, t) = obeys press book sheet nodes .zero .0 e in (fine, some-tree b p (b .start) .0 (nodes, t)),
+      λ (fine, x). let (nodes, t) = some-tree b p (b .start) .1 x in (nodes, obeys press book sheet nodes .zero .1 (fine, t)),
     )

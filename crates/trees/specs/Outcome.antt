@@ -1,4 +1,4 @@
--- What the call answers about a row of nodes: the book's fault, then the sheet's, then 16, which blames no input.
+-- What the call answers about a row of nodes, for a sheet of a press: the book's fault, then the sheet's, then 16, which blames no input.
 use Prim.Native.Nat.{ℕ}
 use mathlib.Core.List.{List}
 use Rattle.books.specs.Answer.{blaming}
@@ -7,5 +7,5 @@ use Rattle.books.specs.declared.answer.Answer.{Answer}
 use Rattle.trees.specs.declared.node.Node.{Node}
 use Rattle.trees.specs.Judge.{checked}
 
-unfoldable pub treeAnswer : List ℕ → List ℕ → List Node → Answer
-treeAnswer book sheet nodes = lentBoth book sheet (λ a. a) (λ b p. blaming 0 (checked b p nodes))
+unfoldable pub treeAnswer : ℕ → List ℕ → List ℕ → List Node → Answer
+treeAnswer press book sheet nodes = lentBoth press book sheet (λ a. a) (λ b p. blaming 0 (checked b p nodes))

@@ -14,7 +14,7 @@ ghost use Rattle.trees.specs.Outcome.{treeAnswer};
 
 // Asks whether a row of nodes is a tree that derives a sheet from the start motif of a book, with nothing left over.
 pub fn check_tree(book: &[u8], sheet: &[u8], nodes: &[Node]) -> Answer
-    ensures { λ r. ⌜ r ≡ treeAnswer (now (book .entry)) (now (sheet .entry)) (now (nodes .entry)) ⌝ }
+    ensures { λ r. ⌜ r ≡ treeAnswer 0 (now (book .entry)) (now (sheet .entry)) (now (nodes .entry)) ⌝ }
 {
     let held = hold(book, sheet);
     let count = looked_at(nodes.len(), held);
@@ -23,7 +23,7 @@ pub fn check_tree(book: &[u8], sheet: &[u8], nodes: &[Node]) -> Answer
 
 // The same of the first so many nodes of a row by value, or of all where there are fewer: to lend a row of its own a program would need a walk by hand.
 pub fn check_copied(book: &[u8], sheet: &[u8], nodes: [Node; MOST_NODES], count: usize) -> Answer
-    ensures { λ r. ⌜ r ≡ treeAnswer (now (book .entry)) (now (sheet .entry)) (take count nodes) ⌝ }
+    ensures { λ r. ⌜ r ≡ treeAnswer 0 (now (book .entry)) (now (sheet .entry)) (take count nodes) ⌝ }
 {
     let held = hold(book, sheet);
     let most = looked_at(MOST_NODES, held);
@@ -36,7 +36,7 @@ pub fn check_copied(book: &[u8], sheet: &[u8], nodes: [Node; MOST_NODES], count:
 // The same for the C host.
 #[no_mangle]
 pub extern "C" fn dv_check_tree(book: &[u8], sheet: &[u8], nodes: &[Node]) -> u64
-    ensures { λ r. ⌜ r ≡ packed (treeAnswer (now (book .entry)) (now (sheet .entry)) (now (nodes .entry))) 0 ⌝ }
+    ensures { λ r. ⌜ r ≡ packed (treeAnswer 0 (now (book .entry)) (now (sheet .entry)) (now (nodes .entry))) 0 ⌝ }
 {
     pack(check_tree(book, sheet, nodes), 0)
 }

@@ -8,7 +8,7 @@ use books::size::Size;
 use names::number::Fault;
 ghost use mathlib.Core.Path.{_≡_};
 ghost use Prim.Native.Nat.{_≤_};
-ghost use Rattle.books.specs.Size.{greatest};
+ghost use Rattle.pieces.specs.Most.{most};
 ghost use Rattle.trees.specs.inner.Held.{lookedAt, Holds};
 
 // The fault of each, or 0. The first `count` rules stand, and the first rows times columns cells, each by the number that its colour has in the book.
@@ -24,13 +24,13 @@ pub(crate) struct Held {
 
 // Reads both.
 pub(crate) fn hold(book: &[u8], sheet: &[u8]) -> Held
-    ensures { λ r. ⌜ Holds (now (book .entry)) (now (sheet .entry)) r ⌝ }
+    ensures { λ r. ⌜ Holds 0 (now (book .entry)) (now (sheet .entry)) r ⌝ }
 {
     let b = read_book(book);
     let f = b.family;
     let c = f.colours;
     let mut cells = [0u8; ROOM];
-    let s = number_sheet(book, c.count, &c.starts, &c.lens, sheet, &mut cells);
+    let s = number_sheet(0, book, c.count, &c.starts, &c.lens, sheet, &mut cells);
     let in_book = b.fault;
     let in_sheet = s.fault;
     let rules = f.rules;
@@ -48,7 +48,7 @@ pub(crate) fn hold(book: &[u8], sheet: &[u8]) -> Held
 
 // How many of so many lent nodes are looked at: a tree of the sheet has one less than twice its cells, and one node more tells that some are left over.
 pub(crate) fn looked_at(lent: usize, o: Held) -> usize
-    requires { ⌜ (o .size .rows ≤ greatest) × (o .size .cols ≤ greatest) ⌝ }
+    requires { ⌜ (o .size .rows ≤ most) × (o .size .cols ≤ most) ⌝ }
     ensures { λ r. ⌜ r ≡ lookedAt lent o ⌝ }
 {
     let most = 2 * (o.size.rows * o.size.cols);

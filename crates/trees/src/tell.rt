@@ -15,27 +15,8 @@ ghost use mathlib.Core.Path.{_≡_};
 ghost use Prim.Native.Nat.{_≤_};
 ghost use lib.ListN.{length, take};
 ghost use Rattle.trees.specs.inner.Gather.{mostNodes};
-ghost use Rattle.trees.specs.inner.Held.{HeldFine, laid, ended16, heldAnswer};
-
-// The numbers of the first so many nodes, a row for each.
-fn lay(
-    nodes: [Node; MOST_NODES],
-    count: usize,
-    rules: &mut [u16; MOST_NODES],
-    cuts: &mut [u16; MOST_NODES],
-)
-    requires { ⌜ (count ≤ mostNodes) × (length (now rules) ≡ mostNodes) × (length (now cuts) ≡ mostNodes) ⌝ }
-    ensures { λ _. ⌜ (now (rules .exit) ≡ laid (λ n. n .rule) nodes count (now (rules .entry)))
-        × (now (cuts .exit) ≡ laid (λ n. n .cut) nodes count (now (cuts .entry))) ⌝ }
-{
-    let mut i = 0;
-    while i < count {
-        let n = nodes[i];
-        rules[i] = n.rule;
-        cuts[i] = n.cut;
-        i += 1;
-    }
-}
+ghost use Rattle.trees.specs.inner.Held.{HeldFine, judgedHeld, ended16, heldAnswer};
+ghost use Rattle.trees.specs.inner.OnSheets.{nodesIn};
 
 // A verdict on so many nodes: 16 at the node that fails, or at the number of nodes read where some are left over; else 0.
 fn told(v: Verdict, count: usize) -> Answer
@@ -53,20 +34,11 @@ fn told(v: Verdict, count: usize) -> Answer
     }
 }
 
-// The book's fault, or else the sheet's, or what the first so many nodes come to, judged from the top.
-pub(crate) fn tell(o: Held, nodes: [Node; MOST_NODES], count: usize) -> Answer
-    requires { ⌜ (count ≤ mostNodes) × (o .sheet .number ≡ 0 → HeldFine o) ⌝ }
-    ensures { λ r. ⌜ r ≡ heldAnswer o (take count nodes) ⌝ }
+// The verdict on two rows of numbers, by the book and the sheet that were read.
+fn judge_held(o: Held, numbers: &[u16], cuts: &[u16]) -> Verdict
+    requires { ⌜ HeldFine o × (length (now cuts) ≡ length (now numbers)) ⌝ }
+    ensures { λ v. ⌜ v ≡ judgedHeld o (nodesIn (now (numbers .entry)) (now (cuts .entry))) ⌝ }
 {
-    if o.book.number != 0 {
-        return blame(1, o.book);
-    }
-    if o.sheet.number != 0 {
-        return blame(2, o.sheet);
-    }
-    let mut numbers = [0u16; MOST_NODES];
-    let mut cuts = [0u16; MOST_NODES];
-    lay(nodes, count, &mut numbers, &mut cuts);
     let end = o.count;
     let all = o.rules;
     let mut rules = [[0u8; 4]; MOST_RULES];
@@ -81,15 +53,28 @@ pub(crate) fn tell(o: Held, nodes: [Node; MOST_NODES], count: usize) -> Answer
         },
         motif: o.start,
     };
-    told(
-        judge(
-            &rules[..end],
-            &cells,
-            o.size,
-            &numbers[..count],
-            &cuts[..count],
-            sheet,
-        ),
-        count,
-    )
+    judge(&rules[..end], &cells, o.size, numbers, cuts, sheet)
+}
+
+// The book's fault, or else the sheet's, or what the first so many nodes come to, judged from the top: their numbers are laid out in a row for each.
+pub(crate) fn tell(o: Held, nodes: [Node; MOST_NODES], count: usize) -> Answer
+    requires { ⌜ (count ≤ mostNodes) × (o .sheet .number ≡ 0 → HeldFine o) ⌝ }
+    ensures { λ r. ⌜ r ≡ heldAnswer o (take count nodes) ⌝ }
+{
+    if o.book.number != 0 {
+        return blame(1, o.book);
+    }
+    if o.sheet.number != 0 {
+        return blame(2, o.sheet);
+    }
+    let mut numbers = [0u16; MOST_NODES];
+    let mut cuts = [0u16; MOST_NODES];
+    let mut i = 0;
+    while i < count {
+        let n = nodes[i];
+        numbers[i] = n.rule;
+        cuts[i] = n.cut;
+        i += 1;
+    }
+    told(judge_held(o, &numbers[..count], &cuts[..count]), count)
 }

@@ -2,6 +2,7 @@
 use mathlib.Core.Path.{sym}
 use native.Mathlib.Omega.{arith}
 use lib.Seq.{length-take-le}
+use Rattle.books.specs.Press.{greatestOf}
 use Rattle.belongs.proofs.NodesGiven.{nodes-few}
 use borrow.Author.Needs.{needs}
 use Rattle.belongs.proofs.main.Statement.{statement}
@@ -24,6 +25,7 @@ slice-aggregate-nodes c =
     sym (length-take-le (l .result) (l .last .1 .0) (omega (arith, l .ensures, l .kept .1 .0)))
 
 print-nodes-requires : tie.Need-print-nodes-requires
+unfolding greatestOf
 print-nodes-requires c κs = omega (arith, nodes-few _ _ (c .nodes .ensures))
 
 pub main-spec : {M : Type 1} → statement M

@@ -6,6 +6,7 @@ use denote.Ref.{now}
 use Rattle.books.specs.Lookups.{sizeOf}
 use Rattle.books.specs.Size.{room}
 use Rattle.books.specs.declared.size.Size.{Size}
+use Rattle.books.proofs.Area.{room-enough}
 use Rattle.belongs.proofs.NodesGiven.{cells-few}
 use borrow.Author.Needs.{needs}
 use Rattle.belongs.proofs.nodes.Statement.{statement}
@@ -13,12 +14,12 @@ use Rattle.belongs.proofs.nodes.Tie as tie
 
 -- After the size was asked for: the product is that of the sheet's rows and columns, ...
 cells : (c : tie.After-sheet-size) → let s = now (c .before .before .args .sheet) in
-    c .sheet-size .result .rows * c .sheet-size .result .cols ≡ sizeOf s .rows * sizeOf s .cols
+    c .sheet-size .result .rows * c .sheet-size .result .cols ≡ sizeOf 0 s .rows * sizeOf 0 s .cols
 cells c = ap (λ (z : Size). z .rows * z .cols) (c .sheet-size .ensures)
 
 -- ... and small.
 area : (c : tie.After-sheet-size) → c .sheet-size .result .rows * c .sheet-size .result .cols ≤ room
-area c = omega (arith, cells c, cells-few (now (c .before .before .args .sheet)))
+area c = omega (arith, cells c, cells-few (now (c .before .before .args .sheet)), room-enough 0)
 
 pub nodes-spec : {M : Type 1} → statement M
 nodes-spec =

@@ -40,9 +40,9 @@ pub record NextWith (m n row column : ℕ) (p q : Piece) : Type 0 where
 unfoldable pub dueBy : (Dir → ℕ → ℕ → ℕ) → ℕ → ℕ → ℕ → List ℕ → Piece → ℕ
 dueBy fire paint m n t q = pick (eqb (q .height + q .width) 2) paint (entryOf fire m n t q)
 
--- the painters of the cell at a place, row by row
-unfoldable pub paintersOf : List ℕ → Colours → List ℕ → List ℕ → ℕ → ℕ
-paintersOf book c masks sheet at = getD masks (paintersFrom + getD (numbersFor book c sheet (sheetOf sheet .sheet)) at 0) 0
+-- the painters of the cell of a press's sheet at a place, row by row
+unfoldable pub paintersOf : ℕ → List ℕ → Colours → List ℕ → List ℕ → ℕ → ℕ
+paintersOf press book c masks sheet at = getD masks (paintersFrom + getD (numbersFor book c sheet (sheetOf press sheet .sheet)) at 0) 0
 
 -- 19 where a sheet of a size with so many colours has not got the row, the column or the colour, 9 where so many entries are too few
 unfoldable pub lackingFor : Size → ℕ → ℕ → ℕ → ℕ → ℕ → ℕ
@@ -57,7 +57,7 @@ pub record CellDue (s : Size) (long row column colour : ℕ) : Type 0 where
   pub byte : colour < 256
 
 -- a cell of an accepted sheet, and so many masks
-pub record PaintersDue (sheet : List ℕ) (masks at : ℕ) : Type 0 where
-  pub accepted : sheetOf sheet .fault .number ≡ 0
+pub record PaintersDue (press : ℕ) (sheet : List ℕ) (masks at : ℕ) : Type 0 where
+  pub accepted : sheetOf press sheet .fault .number ≡ 0
   pub fit : masks ≡ allMasks
-  pub cell : at < sheetOf sheet .sheet .size .rows * sheetOf sheet .sheet .size .cols
+  pub cell : at < sheetOf press sheet .sheet .size .rows * sheetOf press sheet .sheet .size .cols

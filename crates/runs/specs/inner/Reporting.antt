@@ -15,33 +15,33 @@ use Rattle.runs.specs.Figures.{workRoom, figuresOf, noFigures, figuresLo
 use Rattle.runs.specs.Outcome.{Told, refusedRun}
 use Rattle.runs.specs.inner.Adding.{mostAdded, Spare}
 
--- what is refused of a book that was read with a fault or with none, of a run and of so many entries
-abbrev pub refusing : Fault → List ℕ → ℕ → Answer
-refusing f run entries = pick (eqb (f .number) 0) (refusedRun run entries) (blaming 1 f)
+-- what is refused of a book that was read with a fault or with none, of a run and of so many entries, where there must be room for so many
+abbrev pub refusing : ℕ → Fault → List ℕ → ℕ → Answer
+refusing room f run entries = pick (eqb (f .number) 0) (refusedRun room run entries) (blaming 1 f)
 
 -- a book that was split, a work slice with room for the greatest sheet, and figures with room for a sheet more
-pub record AddingDue (book : List ℕ) (split : Split) (masks work figures : List ℕ) : Type 0 where
+pub record AddingDue (press : ℕ) (book : List ℕ) (split : Split) (masks work figures : List ℕ) : Type 0 where
   pub from-book : SplitFrom book split masks
-  pub work-long : workRoom ≤ length work
+  pub work-long : workRoom press ≤ length work
   pub spare : Spare mostAdded figures
 
 -- the same with a run whose framing has no fault, and figures of no sheets
-pub record RunDue (book : List ℕ) (split : Split) (masks run work figures : List ℕ) : Type 0 where
+pub record RunDue (press : ℕ) (book : List ℕ) (split : Split) (masks run work figures : List ℕ) : Type 0 where
   pub from-book : SplitFrom book split masks
   pub run-fine : framing run .number ≡ 0
-  pub work-long : workRoom ≤ length work
+  pub work-long : workRoom press ≤ length work
   pub none : figures ≡ inARow noFigures ++ drop figuresLong figures
 
 -- the figures of any sheets become those of one sheet more; neither slice changes beyond what is lent for
-pub record Adds (book sheet work work-left figures left : List ℕ) : Type 0 where
-  pub counts : (so-far : List (List ℕ)) (rest : List ℕ) → figures ≡ inARow (figuresOf book so-far) ++ rest
-      → left ≡ inARow (figuresOf book (so-far ++ (sheet ∷ []))) ++ rest
-  pub work-same : drop workRoom work-left ≡ drop workRoom work
+pub record Adds (press : ℕ) (book sheet work work-left figures left : List ℕ) : Type 0 where
+  pub counts : (so-far : List (List ℕ)) (rest : List ℕ) → figures ≡ inARow (figuresOf press book so-far) ++ rest
+      → left ≡ inARow (figuresOf press book (so-far ++ (sheet ∷ []))) ++ rest
+  pub work-same : drop (workRoom press) work-left ≡ drop (workRoom press) work
 
 -- the figures are those of these sheets
-pub record Counts (book : List ℕ) (sheets : List (List ℕ)) (work work-left figures left : List ℕ) : Type 0 where
-  pub counts : left ≡ inARow (figuresOf book sheets) ++ drop figuresLong figures
-  pub work-same : drop workRoom work-left ≡ drop workRoom work
+pub record Counts (press : ℕ) (book : List ℕ) (sheets : List (List ℕ)) (work work-left figures left : List ℕ) : Type 0 where
+  pub counts : left ≡ inARow (figuresOf press book sheets) ++ drop figuresLong figures
+  pub work-same : drop (workRoom press) work-left ≡ drop (workRoom press) work
 
 -- an answer, and both slices as they are left
 abbrev pub telling : Answer → List ℕ → List ℕ → Told

@@ -10,7 +10,7 @@ use Rattle.books.specs.Book.{bookOf}
 use Rattle.books.specs.Keeps.{mostRules}
 use Rattle.books.specs.Numbering.{numbersFor}
 use Rattle.books.specs.Sheet.{sheetOf}
-use Rattle.books.specs.Size.{greatest, room, Within}
+use Rattle.books.specs.Size.{room, Within}
 use Rattle.books.specs.declared.answer.Answer.{Answer}
 use Rattle.pieces.specs.Area.{whole}
 use Rattle.pieces.specs.Most.{most}
@@ -20,17 +20,17 @@ use Rattle.trees.specs.declared.node.Node.{Node}
 use Rattle.trees.specs.Outcome.{treeAnswer}
 use Rattle.trees.specs.inner.OnSheets.{judgedAt}
 
--- a book and a sheet as they are read, with the cells numbered by the book's colours
-unfoldable pub heldTo : List ℕ → List ℕ → Held
-heldTo book sheet =
+-- a book and a sheet of a press as they are read, with the cells numbered by the book's colours
+unfoldable pub heldTo : ℕ → List ℕ → List ℕ → Held
+heldTo press book sheet =
     record {
       book = bookOf book .fault;
-      sheet = sheetOf sheet .fault;
+      sheet = sheetOf press sheet .fault;
       rules = bookOf book .family .rules;
       count = bookOf book .family .count;
       start = bookOf book .family .start;
-      size = sheetOf sheet .sheet .size;
-      cells = numbersFor book (bookOf book .family .colours) sheet (sheetOf sheet .sheet);
+      size = sheetOf press sheet .sheet .size;
+      cells = numbersFor book (bookOf book .family .colours) sheet (sheetOf press sheet .sheet);
     }
 
 -- what judging asks of it: no more rules than there is room for, a number for each cell, and a sheet with cells that the code's numbers have room for
@@ -65,7 +65,7 @@ abbrev pub lookedAt : ℕ → Held → ℕ
 lookedAt lent o = min lent (2 * (o .size .rows * o .size .cols))
 
 -- what was read of a book and a sheet answers for any row, by the nodes of it that are looked at
-pub record Holds (book sheet : List ℕ) (o : Held) : Type 0 where
-  pub small : (o .size .rows ≤ greatest) × (o .size .cols ≤ greatest)
+pub record Holds (press : ℕ) (book sheet : List ℕ) (o : Held) : Type 0 where
+  pub small : (o .size .rows ≤ most) × (o .size .cols ≤ most)
   pub fine : o .sheet .number ≡ 0 → HeldFine o
-  pub tells : (ns : List Node) → heldAnswer o (take (lookedAt (length ns) o) ns) ≡ treeAnswer book sheet ns
+  pub tells : (ns : List Node) → heldAnswer o (take (lookedAt (length ns) o) ns) ≡ treeAnswer press book sheet ns

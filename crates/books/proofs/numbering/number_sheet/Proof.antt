@@ -13,6 +13,7 @@ use Rattle.names.specs.Spelling.{mostColours}
 use Rattle.names.specs.declared.colours.Colours.{Colours}
 use Rattle.names.proofs.Finding.{find-few}
 use Rattle.names.proofs.ReadingColours.{Places}
+use Rattle.books.specs.Cells.{noCells}
 use Rattle.books.specs.Numbering.{numberOf, numbersFor}
 use Rattle.books.specs.inner.Key.{Key}
 use Rattle.books.specs.Sheet.{sheetOf}
@@ -24,27 +25,27 @@ use Rattle.books.proofs.numbering.number_sheet.Statement.{statement}
 use Rattle.books.proofs.numbering.number_sheet.Tie as tie
 
 abbrev Inv-loop : tie.InvT-loop
-Inv-loop book count starts lens sheet cells own-starts own-lens g own key₀ i₀ key i =
+Inv-loop press book count starts lens sheet cells own-starts own-lens g own key₀ i₀ key i =
     (i ≤ own) × Key book (listOf count starts lens) sheet (listOf own own-starts own-lens) i key
 
 abbrev μ-loop : tie.MeasureT-loop
-μ-loop book count starts lens sheet cells own-starts own-lens g own key₀ i₀ key i = own - i
+μ-loop press book count starts lens sheet cells own-starts own-lens g own key₀ i₀ key i = own - i
 
 -- the start, from where the sheet was read, and what was read
 abbrev began : tie.After-read-sheet-into Inv-loop μ-loop → tie.Start Inv-loop μ-loop
 began c = c .before .before .before .before .before .before
 
 abbrev seen : tie.After-read-sheet-into Inv-loop μ-loop → SheetRead
-seen c = let r = c .read-sheet-into in together (r .result) (r .last .1 .0) (r .last .1 .1 .0) (r .last .1 .1 .1 .0)
+seen c = let r = c .read-sheet-into in together (r .result) (r .last .1 .1 .0) (r .last .1 .1 .1 .0) (r .last .1 .1 .1 .1 .0)
 
-seen-is : (c : tie.After-read-sheet-into Inv-loop μ-loop) → seen c ≡ sheetOf (now (began c .args .sheet))
+seen-is : (c : tie.After-read-sheet-into Inv-loop μ-loop) → seen c ≡ sheetOf (began c .args .press) (now (began c .args .sheet))
 seen-is c = sheet-whole (c .read-sheet-into .ensures)
 
 fits : (c : tie.After-read-sheet-into Inv-loop μ-loop) → SheetFits (seen c .sheet)
-fits c = subst (λ (r : SheetRead). SheetFits (r .sheet)) (sym (seen-is c)) (sheet-cells (now (began c .args .sheet)))
+fits c = subst (λ (r : SheetRead). SheetFits (r .sheet)) (sym (seen-is c)) (sheet-cells (began c .args .press) (now (began c .args .sheet)))
 
 places : (c : tie.After-read-sheet-into Inv-loop μ-loop) → Places (now (began c .args .sheet)) (seen c .sheet .colours)
-places c = subst (λ (r : SheetRead). Places (now (began c .args .sheet)) (r .sheet .colours)) (sym (seen-is c)) (sheet-places (now (began c .args .sheet)))
+places c = subst (λ (r : SheetRead). Places (now (began c .args .sheet)) (r .sheet .colours)) (sym (seen-is c)) (sheet-places (began c .args .press) (now (began c .args .sheet)))
 
 -- from the head of the loop: where the sheet was read, and the book's colours
 abbrev read : tie.At-loop Inv-loop μ-loop → tie.After-read-sheet-into Inv-loop μ-loop
@@ -65,6 +66,7 @@ turn-few : (c : tie.In-loop Inv-loop μ-loop) → c .before .loop .i < mostColou
 turn-few c = omega (arith, c .loop-test .taken, fits (read (c .before)) .colours-few)
 
 returns : tie.Need-returns Inv-loop μ-loop
+unfolding noCells
 returns c =
     let r = c .before .before in
     record { figures = r .read-sheet-into .ensures .figures; cells = rw (lt-ltb mostColours (began r .args .count) (c .before .if1 .taken)) }

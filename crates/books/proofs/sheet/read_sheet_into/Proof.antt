@@ -7,7 +7,6 @@ use Rattle.names.specs.Number.{numberAt}
 use Rattle.names.specs.declared.number.Read.the-variants.{Value}
 use Rattle.names.proofs.ReadingColours.{colours-lie, colours-places}
 use Rattle.names.proofs.ToldInParts.{told-whole}
-use Rattle.books.specs.Size.{greatest}
 use Rattle.books.specs.Sheet.{sheetOf}
 use Rattle.books.proofs.Area.{within-room}
 use Rattle.books.proofs.ReadingSizes.{size-lies}
@@ -16,7 +15,7 @@ use Rattle.books.proofs.sheet.read_sheet_into.Tie as tie
 
 -- from where the size was read: where the ticket was, and where the colours were
 abbrev job : tie.After-read-size → tie.After-read-number
-job c = c .before .before .before .before
+job c = c .before .before .before .before .before
 
 abbrev list : tie.After-read-number → tie.After-read-list
 list c = c .before .before .before .before
@@ -24,8 +23,8 @@ list c = c .before .before .before .before
 -- the ticket stands right after the colours
 ticket-there : (c : tie.After-read-size) →
     numberAt (now (list (job c) .before .before .before .before .args .s)) (list (job c) .read-list .result .next)
-    ≡ Value (c .before .before .job2 .given .0 .0) (c .before .before .job2 .given .0 .1 .0)
-ticket-there c = sym (job c .read-number .ensures) ∙ c .before .before .job2 .given .1
+    ≡ Value (c .before .before .before .job2 .given .0 .0) (c .before .before .before .job2 .given .0 .1 .0)
+ticket-there c = sym (job c .read-number .ensures) ∙ c .before .before .before .job2 .given .1
 
 returns : tie.Need-returns
 unfolding sheetOf
@@ -39,11 +38,11 @@ fill-sheet-requires c κs =
     let z = read .before .before in
     let n = job z in
     let l = list n .read-list .ensures in
-    let size = size-lies _ _ greatest _ _ (sym (z .read-size .ensures) ∙ read .read2 .given .1) in
+    let size = size-lies _ _ _ _ _ (sym (z .read-size .ensures) ∙ read .read2 .given .1) in
     record {
       fine = l .fault ∙ colours-lie _ (rw (l .fault) at (n .before .if1 .left)) .fine;
       colours-few = rw (l .count) (colours-places _ .few);
-      area-few = within-room (size .within);
+      area-few = within-room (list n .before .before .before .before .args .press) (rw (z .before .greatest .ensures) at (size .within));
     }
 
 returns-2 : tie.Need-returns-2
@@ -64,6 +63,7 @@ returns-3 c =
       ← told-whole (list n .read-list .ensures),
       eq-eqb _ _ (n .before .if1 .left),
       ticket-there z,
+      ← z .before .greatest .ensures,
       ← z .read-size .ensures,
       refused .read .given .1,
     )
@@ -79,6 +79,7 @@ returns-4 c =
       ← told-whole (list n .read-list .ensures),
       eq-eqb _ _ (n .before .if1 .left),
       ticket-there z,
+      ← z .before .greatest .ensures,
       ← z .read-size .ensures,
       read .read2 .given .1,
     )
@@ -95,6 +96,7 @@ read-sheet-into-spec =
     (λ c. search needs)
     (λ c κs. search needs)
     (λ c. search needs)
+    (λ c κs. search needs)
     (λ c κs. search needs)
     (λ c. search needs)
     (λ c κs. search needs)

@@ -1,7 +1,8 @@
 -- Each turn goes on by one node.
 use borrow.Author.Needs.{needs}
 use native.Mathlib.Omega.{arith}
-use Prim.Native.Nat.{_-_}
+use Prim.Native.Nat.{_-_, _*_}
+use Rattle.books.specs.Size.{room}
 use Rattle.house.proofs.judging.row.Statement.{statement}
 use Rattle.house.proofs.judging.row.Tie as tie
 
@@ -9,7 +10,7 @@ abbrev Inv-loop : tie.InvT-loop
 Inv-loop bytes nodes₀ i₀ nodes i = Unit {0}
 
 abbrev μ-loop : tie.MeasureT-loop
-μ-loop bytes nodes₀ i₀ nodes i = 288 - i
+μ-loop bytes nodes₀ i₀ nodes i = 2 * room - i
 
 pub row-spec : {M : Type 1} → statement M
 row-spec =

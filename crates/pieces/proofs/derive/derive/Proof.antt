@@ -48,10 +48,10 @@ abbrev sheet-fine : (p : tie.After-split) → sheet-read (tested p) .number-shee
 sheet-fine p = tested p .before .if2 .left
 
 abbrev cells : tie.After-number-sheet → List ℕ
-cells n = n .number-sheet .last .1 .1 .1 .1 .1 .0
+cells n = n .number-sheet .last .1 .1 .1 .1 .1 .1 .0
 
 sheet-shows : (n : tie.After-number-sheet) → n .number-sheet .result .fault .number ≡ 0 → Shows (n .number-sheet .result) (cells n)
-sheet-shows n = let a = began (book-read n) .args in read-shows (now (a .book)) _ (now (a .sheet)) (n .number-sheet .ensures)
+sheet-shows n = let a = began (book-read n) .args in read-shows 0 (now (a .book)) _ (now (a .sheet)) (n .number-sheet .ensures)
 
 held : (r : tie.After-read-rules) → r .read-rules .result .rules ≤ length (r .read-rules .last .1 .0)
 held r = rows-held (now (began r .args .book)) (r .read-rules .ensures)
@@ -67,7 +67,7 @@ returns : tie.Need-returns
 returns c =
     let r = c .before .before .before in
     let a = began r .args in
-    rw (book-blamed (now (a .book)) (r .read-rules .ensures) (now (a .sheet)) (now (a .work)) (now (a .tree)) (c .before .if1 .taken))
+    rw (book-blamed (now (a .book)) (r .read-rules .ensures) 0 (now (a .sheet)) (now (a .work)) (now (a .tree)) (c .before .if1 .taken))
     (record { answers = c .blame .ensures; leaves-work = refl; leaves-tree = refl })
 
 returns-2 : tie.Need-returns-2
@@ -75,7 +75,7 @@ returns-2 c =
     let n = c .before .before .before in
     let r = book-read n in
     let a = began r .args in
-    rw (sheet-blamed (now (a .book)) (now (a .sheet)) (r .read-rules .ensures) (n .number-sheet .ensures) (book-fine n) (now (a .work)) (now (a .tree)) (c .before .if2 .taken))
+    rw (sheet-blamed 0 (now (a .book)) (now (a .sheet)) (r .read-rules .ensures) (n .number-sheet .ensures) (book-fine n) (now (a .work)) (now (a .tree)) (c .before .if2 .taken))
     (record { answers = c .blame2 .ensures; leaves-work = refl; leaves-tree = refl })
 
 returns-3 : tie.Need-returns-3
@@ -84,7 +84,7 @@ returns-3 c =
     let n = sheet-read l in
     let r = book-read n in
     let a = began r .args in
-    let lacks = room-lacks (now (a .book)) (now (a .sheet)) (r .read-rules .ensures) (n .number-sheet .ensures) (book-fine n) (now (a .work)) (now (a .tree)) in
+    let lacks = room-lacks 0 (now (a .book)) (now (a .sheet)) (r .read-rules .ensures) (n .number-sheet .ensures) (book-fine n) (now (a .work)) (now (a .tree)) in
     rw (lacks (l .before .if2 .left) (λ z. c .before .if3 .taken (l .lack .ensures ∙ z)))
     (record { answers = c .unblamed .ensures ∙ ap plain (l .lack .ensures); leaves-work = refl; leaves-tree = refl })
 
@@ -117,7 +117,7 @@ judge-requires c κs =
     let shows = sheet-shows n (sheet-fine p) in
     let enough = nothing-lacks _ _ _ _ (nothing p) in
     let long = le-trans (enough .0) (le-of-eq (sym (t .fill-from .kept .1 .1 .1 .1 .0))) in
-    let fit = nodes-fit (now (a .book)) (now (a .sheet)) (r .read-rules .ensures) (n .number-sheet .ensures) (book-fine n) (now (a .work)) (now (a .tree)) (sheet-fine p)
+    let fit = nodes-fit 0 (now (a .book)) (now (a .sheet)) (r .read-rules .ensures) (n .number-sheet .ensures) (book-fine n) (now (a .work)) (now (a .tree)) (sheet-fine p)
     (book-bytes r) (sheet-bytes r) (nothing p) (p .split .ensures) in
     record {
       ready = record { tabled = record { sizes = shows .sizes; entries = long }; cells = shows .painted .all };
@@ -134,7 +134,7 @@ returns-4 c =
     let n = sheet-read (tested p) in
     let r = book-read n in
     let a = began r .args in
-    let is = derived-as (now (a .book)) (now (a .sheet)) (r .read-rules .ensures) (n .number-sheet .ensures) (book-fine n) (now (a .work)) (now (a .tree)) (sheet-fine p)
+    let is = derived-as 0 (now (a .book)) (now (a .sheet)) (r .read-rules .ensures) (n .number-sheet .ensures) (book-fine n) (now (a .work)) (now (a .tree)) (sheet-fine p)
     (book-bytes r) (sheet-bytes r) (nothing p) (p .split .ensures) in
     let told = rw (t .fill-from .ensures) at (j .judge .ensures) in
     rw is (record { answers = c .unblamed2 .ensures ∙ ap plain (told .answers); leaves-work = t .fill-from .ensures; leaves-tree = told .leaves })

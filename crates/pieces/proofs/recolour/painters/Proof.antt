@@ -19,16 +19,16 @@ abbrev began : tie.After-number-sheet → tie.Start
 began n = n .before .before .before .before .before .before .before .before .before
 
 abbrev cells : tie.After-number-sheet → List ℕ
-cells n = n .number-sheet .last .1 .1 .1 .1 .1 .0
+cells n = n .number-sheet .last .1 .1 .1 .1 .1 .1 .0
 
 few : (n : tie.After-number-sheet) → getD (cells n) (began n .args .at) 0 ≤ mostColours
 few n =
     let s = began n in
     subst (λ (l : List ℕ). getD l (s .args .at) 0 ≤ mostColours) (sym (n .number-sheet .ensures .cells))
-    (numbers-few (now (s .args .book)) (s .args .split .colours) (now (s .args .sheet)) (s .args .at) (s .pre .cell))
+    (numbers-few 0 (now (s .args .book)) (s .args .split .colours) (now (s .args .sheet)) (s .args .at) (s .pre .cell))
 
 array-read-result : tie.Need-array-read-result
-array-read-result c = let s = began c in omega (arith, s .pre .cell, sheet-lies (now (s .args .sheet)) (s .pre .accepted) .area-few)
+array-read-result c = let s = began c in omega (arith, s .pre .cell, sheet-lies 0 (now (s .args .sheet)) (s .pre .accepted) .area-few)
 
 cast-result : tie.Need-cast-result
 cast-result c = omega (arith, few c)

@@ -49,27 +49,27 @@ returns c =
     let k = c .before .before .before .before in
     let a = began k .args in
     let same = kept-fault (now (a .book)) _ (k .split-book .ensures) in
-    rw (book-first (now (a .book)) (now (a .sheet)) (now (a .work)) (a .row) (a .column) (a .colour) (λ z. c .before .if1 .taken (ap (λ (x : Fault). x .number) same ∙ z)))
+    rw (book-first 0 (now (a .book)) (now (a .sheet)) (now (a .work)) (a .row) (a .column) (a .colour) (λ z. c .before .if1 .taken (ap (λ (x : Fault). x .number) same ∙ z)))
     (record { answers = c .blame .ensures ∙ ap (blaming 1) same; leaves-sheet = refl; leaves-work = refl })
 
 returns-2 : tie.Need-returns-2
 returns-2 c =
     let f = c .before .before .before in
     let a = began (book-kept f) .args in
-    rw (read-blamed (now (a .book)) (now (a .sheet)) (now (a .work)) (a .row) (a .column) (a .colour) (f .sheet-figures .ensures) (book-fine f) (c .before .if2 .taken))
+    rw (read-blamed 0 (now (a .book)) (now (a .sheet)) (now (a .work)) (a .row) (a .column) (a .colour) (f .sheet-figures .ensures) (book-fine f) (c .before .if2 .taken))
     (record { answers = c .blame2 .ensures; leaves-sheet = refl; leaves-work = refl })
 
 lack-requires : tie.Need-lack-requires
 lack-requires c κs =
     let f = c .before .before in
-    read-within (now (began (book-kept f) .args .sheet)) (f .sheet-figures .ensures) (c .if2 .left)
+    read-within 0 (now (began (book-kept f) .args .sheet)) (f .sheet-figures .ensures) (c .if2 .left)
 
 returns-3 : tie.Need-returns-3
 returns-3 c =
     let l = c .before .before in
     let f = sheet-read l in
     let a = began (book-kept f) .args in
-    rw (read-lacks (now (a .book)) (now (a .sheet)) (now (a .work)) (a .row) (a .column) (a .colour) (f .sheet-figures .ensures) (book-fine f) (l .before .if2 .left)
+    rw (read-lacks 0 (now (a .book)) (now (a .sheet)) (now (a .work)) (a .row) (a .column) (a .colour) (f .sheet-figures .ensures) (book-fine f) (l .before .if2 .left)
     (λ z. c .before .if3 .taken (l .lack .ensures ∙ z)))
     (record { answers = c .unblamed .ensures ∙ ap plain (l .lack .ensures); leaves-sheet = refl; leaves-work = refl })
 
@@ -77,7 +77,7 @@ returns-3 c =
 known : (l : tie.After-lack) → l .lack .result ≡ 0 → let f = sheet-read l in
     let k = book-kept f in
     let a = began k .args in
-    Known (now (a .book)) (now (a .sheet)) (now (a .work)) (a .row) (a .column) (a .colour) (k .split-book .result) (k .split-book .last .1 .0) (f .sheet-figures .result)
+    Known 0 (now (a .book)) (now (a .sheet)) (now (a .work)) (a .row) (a .column) (a .colour) (k .split-book .result) (k .split-book .last .1 .0) (f .sheet-figures .result)
 known l none =
     let f = sheet-read l in
     let k = book-kept f in

@@ -45,14 +45,14 @@ abbrev sheet-fine : (e : tie.Else3) → sheet-read e .number-sheet .result .faul
 sheet-fine e = e .before .before .before .if2 .left
 
 abbrev cells : tie.After-number-sheet → List ℕ
-cells n = n .number-sheet .last .1 .1 .1 .1 .1 .0
+cells n = n .number-sheet .last .1 .1 .1 .1 .1 .1 .0
 
 lies : (n : tie.After-number-sheet) → n .number-sheet .result .fault .number ≡ 0 → let size = n .number-sheet .result .size in
     Lies size (cells n) (whole (size .rows) (size .cols))
 lies n y =
     let r = book-read n in
     let a = began r .args in
-    whole-lies (now (a .book)) (now (a .sheet)) (r .read-rules .ensures) (n .number-sheet .ensures) (book-fine n) y
+    whole-lies 0 (now (a .book)) (now (a .sheet)) (r .read-rules .ensures) (n .number-sheet .ensures) (book-fine n) y
 
 held : (e : tie.Else3) → let r = book-read (sheet-read e) in r .read-rules .result .rules ≤ length (r .read-rules .last .1 .0)
 held e = let r = book-read (sheet-read e) in rows-held (now (began r .args .book)) (r .read-rules .ensures)
@@ -61,14 +61,14 @@ returns : tie.Need-returns
 returns c =
     let r = c .before .before .before in
     let a = began r .args in
-    c .blame .ensures ∙ sym (book-blamed (now (a .book)) (now (a .sheet)) (r .read-rules .ensures) (c .before .if1 .taken))
+    c .blame .ensures ∙ sym (book-blamed 0 (now (a .book)) (now (a .sheet)) (r .read-rules .ensures) (c .before .if1 .taken))
 
 returns-2 : tie.Need-returns-2
 returns-2 c =
     let n = c .before .before .before in
     let r = book-read n in
     let a = began r .args in
-    c .blame2 .ensures ∙ sym (sheet-blamed (now (a .book)) (now (a .sheet)) (r .read-rules .ensures) (n .number-sheet .ensures) (book-fine n) (c .before .if2 .taken))
+    c .blame2 .ensures ∙ sym (sheet-blamed 0 (now (a .book)) (now (a .sheet)) (r .read-rules .ensures) (n .number-sheet .ensures) (book-fine n) (c .before .if2 .taken))
 
 mul-if3 : tie.Need-mul-if3
 mul-if3 c =
@@ -82,20 +82,20 @@ returns-3 c =
     let r = book-read n in
     let a = began r .args in
     c .unblamed .ensures
-    ∙ sym (too-many (now (a .book)) (now (a .sheet)) (r .read-rules .ensures) (n .number-sheet .ensures) (book-fine n) (s .if2 .left) (omega (arith, c .before .if3 .taken)))
+    ∙ sym (too-many 0 (now (a .book)) (now (a .sheet)) (r .read-rules .ensures) (n .number-sheet .ensures) (book-fine n) (s .if2 .left) (omega (arith, c .before .if3 .taken)))
 
 derives-requires : tie.Need-derives-requires
 derives-requires c κs = let e = c .before .before in lies (sheet-read e) (sheet-fine e)
 
 -- After the search: what was found is what the answer tells.
 answered : (d : tie.After-derives) (v : Bool) → d .derives .result ≡ v → let a = began (book-read (sheet-read (d .before .before .before))) .args in
-    plainAnswer (now (a .book)) (now (a .sheet)) ≡ pick v (plain 0) (plain 11)
+    plainAnswer 0 (now (a .book)) (now (a .sheet)) ≡ pick v (plain 0) (plain 11)
 answered d v is =
     let e = d .before .before .before in
     let n = sheet-read e in
     let r = book-read n in
     let a = began r .args in
-    told (now (a .book)) (now (a .sheet)) (r .read-rules .ensures) (n .number-sheet .ensures) (book-fine n) (sheet-fine e) (book-bytes r) (sheet-bytes r) (omega (arith, e .if3 .left))
+    told 0 (now (a .book)) (now (a .sheet)) (r .read-rules .ensures) (n .number-sheet .ensures) (book-fine n) (sheet-fine e) (book-bytes r) (sheet-bytes r) (omega (arith, e .if3 .left))
     ∙ ap (λ (t : Bool). pick {A = Answer} t (plain 0) (plain 11)) (sym (d .derives .ensures) ∙ is)
 
 returns-4 : tie.Need-returns-4
@@ -123,7 +123,7 @@ plain-spec =
     let n = sheet-read (c .before .before) in
     let r = book-read n in
     let a = began r .args in
-    sym (cells-room (now (a .book)) (now (a .sheet)) (r .read-rules .ensures) (n .number-sheet .ensures) (book-fine n)))
+    sym (cells-room 0 (now (a .book)) (now (a .sheet)) (r .read-rules .ensures) (n .number-sheet .ensures) (book-fine n)))
     derives-requires
     (λ c κs. search needs)
     returns-4

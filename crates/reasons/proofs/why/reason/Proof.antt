@@ -1,9 +1,9 @@
 -- The cells stand first in the table, so that there is an entry for each; the three tests are made one after the other.
 use Prim.Native.Nat.{_*_, _≤_}
 use mathlib.Core.Path.{sym, ap, _∙_}
-use native.Mathlib.Nat.{mul-le-mul}
 use native.Mathlib.Omega.{arith}
 use Rattle.books.specs.Size.{room}
+use Rattle.books.proofs.Area.{within-room}
 use Rattle.pieces.proofs.CellsFirst.{cells-few}
 use Rattle.reasons.specs.Why.{pieceReason}
 use Rattle.reasons.proofs.FromTables.{cell-found, size-found, piece-found}
@@ -12,7 +12,7 @@ use Rattle.reasons.proofs.why.reason.Statement.{statement}
 use Rattle.reasons.proofs.why.reason.Tie as tie
 
 few : (c : tie.Start) → c .args .size .rows * c .args .size .cols ≤ room
-few c = mul-le-mul (c .pre .0 .rows-few) (c .pre .0 .cols-few)
+few c = within-room (c .args .press) (c .pre .0)
 
 mul-cells : tie.Need-mul-cells
 mul-cells c = omega (arith, few (c .before .before .before))

@@ -5,7 +5,7 @@ use Rattle.runs.proofs.calls.report.Statement.{statement}
 use Rattle.runs.proofs.calls.report.Tie as tie
 
 returns : tie.Need-returns
-returns c = answers-report _ _ _ _ _ _ _ _ (c .before .before .before .before .before .report-into .ensures) (c .named .ensures)
+returns c = answers-report _ _ _ _ _ _ _ _ _ (c .before .before .before .before .before .report-into .ensures) (c .named .ensures)
 
 pub report-spec : {M : Type 1} → statement M
 report-spec =

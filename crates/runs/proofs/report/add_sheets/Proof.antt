@@ -11,13 +11,13 @@ use Rattle.runs.proofs.report.add_sheets.Statement.{statement}
 use Rattle.runs.proofs.report.add_sheets.Tie as tie
 
 abbrev Inv-loop : tie.InvT-loop
-Inv-loop book split masks run work₀ figures₀ at₀ cells₀ work figures at cells = SoFar book run work₀ figures₀ work figures at
+Inv-loop press book split masks run work₀ figures₀ at₀ cells₀ work figures at cells = SoFar press book run work₀ figures₀ work figures at
 
 abbrev μ-loop : tie.MeasureT-loop
-μ-loop book split masks run work₀ figures₀ at₀ cells₀ work figures at cells = length run - at
+μ-loop press book split masks run work₀ figures₀ at₀ cells₀ work figures at cells = length run - at
 
 loop-holds : tie.Need-loop-holds Inv-loop μ-loop
-loop-holds c = let s = c .before .before .before .before .before in begins _ _ _ _ (s .pre .run-fine) (s .pre .none)
+loop-holds c = let s = c .before .before .before .before .before in begins _ _ _ _ _ (s .pre .run-fine) (s .pre .none)
 
 -- A length was read: where the loop and the call began, and that its sheet lies after it, within the run.
 abbrev turn : tie.After-frame-at Inv-loop μ-loop → tie.At-loop Inv-loop μ-loop
@@ -31,7 +31,7 @@ before-end k = omega (arith, k .before .loop-test .taken)
 
 lies : (k : tie.After-frame-at Inv-loop μ-loop) → FrameLies (now (began k .args .run)) (turn k .loop .at) (k .frame-at .result)
 lies k =
-    let good = frame-good _ _ _ _ (began k .pre .run-fine) _ _ _ (turn k .loop .inv) (before-end k) in
+    let good = frame-good _ _ _ _ _ (began k .pre .run-fine) _ _ _ (turn k .loop .inv) (before-end k) in
     subst (FrameLies (now (began k .args .run)) (turn k .loop .at)) (sym (k .frame-at .ensures)) (frame-lies _ _ good)
 
 add-sheet-requires : tie.Need-add-sheet-requires Inv-loop μ-loop
@@ -39,7 +39,7 @@ add-sheet-requires c κs =
     let k = c .before .before .before .before in
     let p = began k .pre in
     let inv = turn k .loop .inv in
-    record { from-book = p .from-book; work-long = omega (arith, inv .work-long, p .work-long); spare = has-spare _ _ _ _ (p .run-fine) _ _ _ inv }
+    record { from-book = p .from-book; work-long = omega (arith, inv .work-long, p .work-long); spare = has-spare _ _ _ _ _ (p .run-fine) _ _ _ inv }
 
 loop-less : tie.Need-loop-less Inv-loop μ-loop
 loop-less c =
@@ -50,15 +50,15 @@ loop-again : tie.Need-loop-again Inv-loop μ-loop
 loop-again c =
     let a = c .before .before .before .before in
     let k = a .before .before .before .before .before in
-    let kept = a .add-sheet .kept .1 .1 .1 .1 in
-    one-more _ _ _ _ (began k .pre .run-fine) _ _ _ (turn k .loop .inv) (before-end k) _ (k .frame-at .ensures) _ _ (a .add-sheet .ensures) (kept .1 .0) (kept .1 .1 .0)
+    let kept = a .add-sheet .kept .1 .1 .1 .1 .1 in
+    one-more _ _ _ _ _ (began k .pre .run-fine) _ _ _ (turn k .loop .inv) (before-end k) _ (k .frame-at .ensures) _ _ (a .add-sheet .ensures) (kept .1 .0) (kept .1 .1 .0)
 
 returns : tie.Need-returns Inv-loop μ-loop
 returns c =
     let t = c .before in
     let s = t .before .before .before .before .before .before in
     let ended : length (now (s .args .run)) ≤ t .loop .at = omega (arith, c .loop-test .left) in
-    all-counted _ _ _ _ (s .pre .run-fine) _ _ _ (t .loop .inv) ended
+    all-counted _ _ _ _ _ (s .pre .run-fine) _ _ _ (t .loop .inv) ended
 
 pub add-sheets-spec : {M : Type 1} → statement M
 add-sheets-spec =

@@ -117,7 +117,7 @@ module _ {M : Type 1} (𝓤 : URA M) (H : Heap 𝓤) (A : Atoms 𝓤) (W : Given
         ∷ ‵ (fat fullShare (bytes 1) l₂ 0 (sliceVal (sheet .ptr) (length (sheet .now)))) ∷ ‵ (fdies (bytes 1) l₂)
         ∷ ‵ (fat fullShare (bytes 0) l₁ 0 (sliceVal (book .ptr) (length (book .now)))) ∷ ‵ (fdies (bytes 0) l₁) ∷ ‵ (froom An′.mir l₀ 0) ∷ ‵ (fdies An′.mir l₀) ∷ []
 
-    module _ (o : Held) (u : Val) (os : Is Hd.the-row o (u ∷ [])) (holds : Holds (now book) (now sheet) o) where
+    module _ (o : Held) (u : Val) (os : Is Hd.the-row o (u ∷ [])) (holds : Holds 0 (now book) (now sheet) o) where
       module _ (n : ℕ) (v : Val) (ns : Is usize n (v ∷ [])) (looked : n ≡ lookedAt (length ys) o) where
         -- with the copies: `tell` gives the answer, which is returned
         tells : (len : Val) → Triple 𝓤 (𝓣 .C #tell) (tripleOf 𝓤 H A tell.signature (tell.spec 𝓤 H A mem run)) → (xs : List Node) (w : Val) → Is Nodes xs (w ∷ []) → xs ≡ firstNodes ys n
@@ -201,7 +201,7 @@ module _ {M : Type 1} (𝓤 : URA M) (H : Heap 𝓤) (A : Atoms 𝓤) (W : Given
       use0 W (raw (hold.clauses 𝓤 H A mem run (κ, (κ′, tt)) (book, (sheet, tt)) .requires tt)) (id⊢ 𝓤 (emp 𝓤)) $ move ! (1 ∷ 0 ∷ []) $ join ! $
       move ! (2 ∷ 1 ∷ []) $ join ! $ move ! (1 ∷ 0 ∷ []) $ done !)
       (qed W ((‵ (flft κ p) ⊛ (‵ (flft κ′ p′) ⊛ ‵ ftrue)) ∷ (‵ (Own u8 κ book) ⊛ ‵ (Own u8 κ′ sheet)) ∷ []) ∵ move ! (1 ∷ 0 ∷ []) $ done !)
-      (λ o. Holds (now book) (now sheet) o) (λ o e. id⊢ 𝓤 _)
+      (λ o. Holds 0 (now book) (now sheet) o) (λ o e. id⊢ 𝓤 _)
       (and-then ! (load ! (from ! (stop !)) (look ! 15 refl)) (and-then ! (load ! (from ! (stop !)) (look ! 13 refl)) (no-more !)))
       (λ o u os e. looks l₀ l₁ l₂ l₃ l₄ l₅ l₆ l₇ o u os e (ir .0 .1) known-looked known-gather known-tell)))))))))
 

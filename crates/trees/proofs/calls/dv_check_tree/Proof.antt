@@ -91,7 +91,7 @@ module _ {M : Type 1} (𝓤 : URA M) (H : Heap 𝓤) (A : Atoms 𝓤) (W : Given
       move ! (0 ∷ 2 ∷ []) $ fjoin ! $ move ! (2 ∷ 0 ∷ []) $ fjoin ! $ move ! (3 ∷ 0 ∷ []) $ fjoin ! $
       nothing ! $ move ! (2 ∷ 0 ∷ []) $ fjoin ! $ move ! (2 ∷ 0 ∷ []) $ fjoin ! $ move ! (2 ∷ 0 ∷ []) $ fjoin ! $ move ! (2 ∷ 1 ∷ []) $ join ! $
       use0 W (raw (check-tree.clauses 𝓤 H A mem run (κ, (κ′, (κ″, tt))) (book, (sheet, (row, tt))) .requires tt)) (id⊢ 𝓤 (emp 𝓤)) $ move ! (1 ∷ 0 ∷ []) $ join ! $ done !)
-      (qed W (Tokens ∷ ‵ Slices ∷ []) ∵ move ! (1 ∷ 0 ∷ []) $ done !) (λ a. a ≡ treeAnswer (now book) (now sheet) (now row)) (λ a e. id⊢ 𝓤 _)
+      (qed W (Tokens ∷ ‵ Slices ∷ []) ∵ move ! (1 ∷ 0 ∷ []) $ done !) (λ a. a ≡ treeAnswer 0 (now book) (now sheet) (now row)) (λ a e. id⊢ 𝓤 _)
       (and-then ! (load ! (from ! (stop !)) (look ! 8 refl)) (and-then ! (load ! (from ! (stop !)) (look ! 6 refl)) (and-then ! (load ! (from ! (stop !)) (look ! 4 refl)) (no-more !)))) (λ a z zs e.
       land ! (from ! (stop !)) (init ! 1 refl (LL.lawful An.the-type An′.the-laws 𝓤 H A W .typed a _ zs .0)) $
       calls-plain ! (fmOf 𝓤 H (W .laws) 𝓣) (pack.signature .params) u64 (pack.ended .kept) (pack.clauses 𝓤 H A mem run) known-pack

@@ -22,8 +22,8 @@ returns c =
     let n = c .before .before .before .before .before in
     let b = book-read n in
     let a = b .before .before .before .args in
-    holds (now (a .book)) (now (a .sheet)) (λ i. b .before .before .shared-slice-known .given i .fits) (λ i. b .before .shared-slice-known2 .given i .fits)
-    (held-made (now (a .book)) (now (a .sheet)) (b .read-book .ensures) (n .number-sheet .ensures))
+    holds 0 (now (a .book)) (now (a .sheet)) (λ i. b .before .before .shared-slice-known .given i .fits) (λ i. b .before .shared-slice-known2 .given i .fits)
+    (held-made 0 (now (a .book)) (now (a .sheet)) (b .read-book .ensures) (n .number-sheet .ensures))
 
 pub hold-spec : {M : Type 1} → statement M
 hold-spec = tie.close (tie.spec (λ c κs. search needs) (λ c κs. search needs) cast-t16 returns)
