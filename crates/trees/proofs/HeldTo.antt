@@ -6,8 +6,7 @@ use mathlib.Core.Logic.{⊎-elim}
 use native.Mathlib.Omega.{arith}
 use borrow.Author.Tests.{eqb-true, eqb-false, eq-eqb, ne-eqb}
 use lib.Dec.{eqb}
-use lib.ListN.{length, take}
-use lib.Seq.{length-take-le}
+use lib.ListN.{length}
 use Rattle.names.proofs.Tests.{true-or-false}
 use Rattle.books.specs.Answer.{blaming}
 use Rattle.books.specs.Book.{bookOf}
@@ -75,9 +74,8 @@ module _ (o : Held) (ns : List Node) where
     unfolding heldAnswer
     then-judged y = rw (eq-eqb (o .book .number) 0 z, eq-eqb (o .sheet .number) 0 y)
 
--- a verdict on the first so many nodes, and what was told of it
-pub told-held : (o : Held) (nodes : List Node) (count : ℕ) {v : Verdict} {a : Answer} → count ≤ length nodes → o .book .number ≡ 0 → o .sheet .number ≡ 0
-    → v ≡ judgedHeld o (take count nodes) → a ≡ ended16 v count → a ≡ heldAnswer o (take count nodes)
-told-held o nodes count {v} h z y judged told =
-    told ∙ ap (λ (w : Verdict). ended16 w count) judged ∙ ap (ended16 (judgedHeld o (take count nodes))) (sym (length-take-le count nodes h))
-    ∙ sym (then-judged o (take count nodes) z y)
+-- a verdict on so many nodes, and what was told of it
+pub told-held : (o : Held) (ns : List Node) (count : ℕ) {v : Verdict} {a : Answer} → length ns ≡ count → o .book .number ≡ 0 → o .sheet .number ≡ 0
+    → v ≡ judgedHeld o ns → a ≡ ended16 v count → a ≡ heldAnswer o ns
+told-held o ns count {v} all z y judged told =
+    told ∙ ap (λ (w : Verdict). ended16 w count) judged ∙ ap (ended16 (judgedHeld o ns)) (sym all) ∙ sym (then-judged o ns z y)

@@ -4,7 +4,7 @@ use Prim.Native.Nat.{ℕ, zero, suc, _+_, _≤_, _<_}
 use mathlib.Core.Path.{_≡_, refl, sym, ap, _∙_, subst}
 use mathlib.Core.List.{List, [], _∷_}
 use native.Mathlib.Omega.{arith}
-use lib.ListN.{length, getD}
+use lib.ListN.{length, getD, length-map}
 use Rattle.books.specs.Search.{Cutting}
 use Rattle.books.specs.declared.rule.Dir.{Dir}
 use Rattle.books.specs.declared.rule.Rule.{Rule}
@@ -23,25 +23,17 @@ use Rattle.trees.specs.declared.step.Step.{Step}
 use Rattle.trees.specs.declared.step.Step.the-variants.{Wrong, Cell, Join}
 use Rattle.trees.specs.Trees.{noNode}
 use Rattle.trees.specs.Judge.{Judged, past, failed, followed, step}
-use Rattle.trees.specs.inner.OnSheets.{node, nodesIn, verdict, judgedAt, Lying}
+use Rattle.trees.specs.inner.OnSheets.{nodeIn, nodesIn, verdict, judgedAt, Lying}
 use Rattle.trees.specs.inner.Waiting.{after}
 use Rattle.trees.proofs.Steps.{PartsAt, Means, step-means}
 use Rattle.trees.proofs.Places.{judgeAt, at-end, at-wrong, at-cell, at-parts}
 
--- ── Two rows of numbers as one of nodes ──
+-- ── Rows of numbers as nodes ──
 
-pub nodes-length : (is ks : List ℕ) → length ks ≡ length is → length (nodesIn is ks) ≡ length is
-unfolding nodesIn
-nodes-length [] ks e = refl
-nodes-length (i ∷ is) [] e = absurd (omega arith)
-nodes-length (i ∷ is) (k ∷ ks) e = ap suc (nodes-length is ks (omega arith))
-
-pub node-at : (is ks : List ℕ) (n : ℕ) → length ks ≡ length is → n < length is → getD (nodesIn is ks) n noNode ≡ node (getD is n 0) (getD ks n 0)
-unfolding nodesIn
-node-at [] ks n e h = absurd (omega arith)
-node-at (i ∷ is) [] n e h = absurd (omega arith)
-node-at (i ∷ is) (k ∷ ks) zero e h = refl
-node-at (i ∷ is) (k ∷ ks) (suc n) e h = node-at is ks n (omega arith) (omega arith)
+pub node-at : (rows : List (List ℕ)) (n : ℕ) → getD (nodesIn rows) n noNode ≡ nodeIn (getD rows n [])
+node-at [] n = refl
+node-at (r ∷ rs) zero = refl
+node-at (r ∷ rs) (suc n) = node-at rs n
 
 -- ── What a verdict says of judging ──
 
@@ -53,7 +45,7 @@ verdict-followed (failed e) go = refl
 abbrev pub wrongAt : ℕ → Verdict
 wrongAt i = record { wrong = 1; place = i }
 
-module _ (s : Size) (cells : List ℕ) (rules : List Rule) (x : Part) (numbers cuts : List ℕ) (at : ℕ) (lying : Lying s (x .piece) numbers cuts) where
+module _ (s : Size) (cells : List ℕ) (rules : List Rule) (x : Part) (rows : List (List ℕ)) (at : ℕ) (lying : Lying s (x .piece)) where
   abbrev c : Cutting Piece
   c = onSheet s cells
 
@@ -61,24 +53,24 @@ module _ (s : Size) (cells : List ℕ) (rules : List Rule) (x : Part) (numbers c
   q = x .piece
 
   abbrev ns : List Node
-  ns = nodesIn numbers cuts
+  ns = nodesIn rows
 
   abbrev v : Node
-  v = node (getD numbers at 0) (getD cuts at 0)
+  v = nodeIn (getD rows at [])
 
   abbrev k : ℕ
-  k = getD cuts at 0
+  k = v .cut
 
-  all : length ns ≡ length numbers
-  all = nodes-length numbers cuts (lying .even)
+  all : length ns ≡ length rows
+  all = length-map rows nodeIn
 
-  pub none-left : length numbers ≤ at → wrongAt at ≡ judgedAt s cells rules x ns at
+  pub none-left : length rows ≤ at → wrongAt at ≡ judgedAt s cells rules x ns at
   unfolding judgedAt
   none-left h = ap verdict (sym (at-end c rules bulk (pieces-lessen s cells) (x .motif) q ns at (omega (arith, all))))
 
-  module _ (below : at < length numbers) where
+  module _ (below : at < length rows) where
     here : getD ns at noNode ≡ v
-    here = node-at numbers cuts at (lying .even) below
+    here = node-at rows at
 
     stepped : (t : Step) → t ≡ step c rules (x .motif) q v → step c rules (x .motif) q (getD ns at noNode) ≡ t
     stepped t e = ap (λ (n : Node). step c rules (x .motif) q n) here ∙ sym e

@@ -15,7 +15,6 @@ pub mod Agreeing
 pub mod Places
 pub mod Calling
 pub mod Copying
-pub mod LaidOut
 pub mod HeldTo
 pub mod CodeTells
 pub mod ThinCall

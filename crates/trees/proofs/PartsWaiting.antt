@@ -1,6 +1,6 @@
 -- What is judged, with the part that is due and those that wait, is the whole: each node leaves the same to judge, held to other parts.
 use Prim.Native.Nat.{ℕ, zero, suc, _+_, _-_, _≤_, _<_}
-use mathlib.Core.Path.{_≡_, refl, sym, ap, _∙_, subst}
+use mathlib.Core.Path.{_≡_, refl, sym, ap, _∙_}
 use mathlib.Core.Bool.{Bool, true, false}
 use mathlib.Core.List.{List, [], _∷_}
 use native.Mathlib.Decide.{ℕ-discrete}
@@ -22,7 +22,7 @@ use Rattle.trees.specs.declared.judge.Verdict.{Verdict}
 use Rattle.trees.specs.declared.node.Node.{Node}
 use Rattle.trees.specs.declared.step.Step.the-variants.{Wrong, Cell, Join}
 use Rattle.trees.specs.Judge.{step}
-use Rattle.trees.specs.inner.OnSheets.{node, nodesIn, judgedAt, Lying}
+use Rattle.trees.specs.inner.OnSheets.{nodeIn, nodesIn, judgedAt, Lying}
 use Rattle.trees.specs.inner.Waiting.{mostWaiting, after, judgedAll, noPart, lined}
 use Rattle.trees.proofs.JudgingSheets.{wrongAt, none-left, wrong-here, cell-here, both-lie, both-less, parts-in-turn}
 
@@ -59,9 +59,9 @@ pub record Waits (s : Size) (x : Part) (i : ℕ) : Type 0 where
   pub inside : Inside (s .rows) (s .cols) (x .piece)
   pub few : bulk (x .piece) + i < s .rows + s .cols
 
-module _ (s : Size) (cells : List ℕ) (rules : List Rule) (x : Part) (numbers cuts : List ℕ) where
+module _ (s : Size) (cells : List ℕ) (rules : List Rule) (x : Part) (rows : List (List ℕ)) where
   abbrev ns : List Node
-  ns = nodesIn numbers cuts
+  ns = nodesIn rows
 
   -- the part that is due and those that wait, from a place on, are what is left of the whole
   pub record Judging (waiting : List Part) (count : ℕ) (due : Part) (at : ℕ) : Type 0 where
@@ -71,7 +71,7 @@ module _ (s : Size) (cells : List ℕ) (rules : List Rule) (x : Part) (numbers c
     pub each : (i : ℕ) → i < count → Waits s (getD waiting i noPart) i
     pub goes : judgedAll s cells rules (due ∷ lined waiting count) ns at ≡ judgedAt s cells rules x ns 0
 
-  module _ (lying : Lying s (x .piece) numbers cuts) where
+  module _ (lying : Lying s (x .piece)) where
     pub judging-starts : Judging (replicate mostWaiting noPart) 0 x 0
     unfolding judgedAll lined
     judging-starts =
@@ -84,8 +84,8 @@ module _ (s : Size) (cells : List ℕ) (rules : List Rule) (x : Part) (numbers c
         }
 
     module _ (waiting : List Part) (count : ℕ) (due : Part) (at : ℕ) (j : Judging waiting count due at) where
-      pub on : Lying s (due .piece) numbers cuts
-      on = record { rows-few = lying .rows-few; cols-few = lying .cols-few; inside = j .inside; even = lying .even }
+      pub on : Lying s (due .piece)
+      on = record { rows-few = lying .rows-few; cols-few = lying .cols-few; inside = j .inside }
 
       pub few-wait : count < mostWaiting
       few-wait = omega (arith, j .few, j .inside, lying .rows-few, lying .cols-few)
@@ -94,22 +94,22 @@ module _ (s : Size) (cells : List ℕ) (rules : List Rule) (x : Part) (numbers c
       abbrev then : ℕ → Verdict
       then e = judgedAll s cells rules (lined waiting count) ns e
 
-      pub none-due : length numbers ≤ at → wrongAt at ≡ judgedAt s cells rules x ns 0
+      pub none-due : length rows ≤ at → wrongAt at ≡ judgedAt s cells rules x ns 0
       unfolding judgedAll
-      none-due h = ap (λ (v : Verdict). after v then) (none-left s cells rules due numbers cuts at on h) ∙ j .goes
+      none-due h = ap (λ (v : Verdict). after v then) (none-left s cells rules due rows at on h) ∙ j .goes
 
-      module _ (below : at < length numbers) where
+      module _ (below : at < length rows) where
         abbrev v : Node
-        v = node (getD numbers at 0) (getD cuts at 0)
+        v = nodeIn (getD rows at [])
 
         pub wrong-due : Wrong ≡ step (onSheet s cells) rules (due .motif) (due .piece) v → wrongAt at ≡ judgedAt s cells rules x ns 0
         unfolding judgedAll
-        wrong-due e = ap (λ (v : Verdict). after v then) (wrong-here s cells rules due numbers cuts at on below e) ∙ j .goes
+        wrong-due e = ap (λ (v : Verdict). after v then) (wrong-here s cells rules due rows at on below e) ∙ j .goes
 
         module _ (e : Cell ≡ step (onSheet s cells) rules (due .motif) (due .piece) v) where
           next-due : then (at + 1) ≡ judgedAt s cells rules x ns 0
           unfolding judgedAll
-          next-due = ap (λ (v : Verdict). after v then) (cell-here s cells rules due numbers cuts at on below e) ∙ j .goes
+          next-due = ap (λ (v : Verdict). after v then) (cell-here s cells rules due rows at on below e) ∙ j .goes
 
           pub last-due : count ≡ 0 → rightAt (at + 1) ≡ judgedAt s cells rules x ns 0
           unfolding judgedAll lined
@@ -138,8 +138,8 @@ module _ (s : Size) (cells : List ℕ) (rules : List Rule) (x : Part) (numbers c
           pub join-due : Judging (set waiting count rest) (count + 1) first (at + 1)
           unfolding judgedAll lined
           join-due =
-              let (first-lies, rest-lies) = both-lie s cells rules due numbers cuts at on below d l r e in
-              let (first-less, rest-less) = both-less s cells rules due numbers cuts at on below d l r e in
+              let (first-lies, rest-lies) = both-lie s cells rules due rows at on below d l r e in
+              let (first-less, rest-less) = both-less s cells rules due rows at on below d l r e in
               let same = getD-set-same waiting count rest noPart (omega (arith, j .room, few-wait)) in
               let behind : ℕ → Verdict = λ f. judgedAll s cells rules (lined waiting count) ns f in
               let lines : lined (set waiting count rest) (count + 1) ≡ rest ∷ lined waiting count =
@@ -151,7 +151,7 @@ module _ (s : Size) (cells : List ℕ) (rules : List Rule) (x : Part) (numbers c
                 each = λ i h. waits i h same rest-lies rest-less (ℕ-discrete i count);
                 goes = rw lines
                     (sym (after-after (judgedAt s cells rules first ns (at + 1)) (λ f. judgedAt s cells rules rest ns f) behind)
-                    ∙ ap (λ (w : Verdict). after w behind) (sym (parts-in-turn s cells rules due numbers cuts at on below d l r e)) ∙ j .goes);
+                    ∙ ap (λ (w : Verdict). after w behind) (sym (parts-in-turn s cells rules due rows at on below d l r e)) ∙ j .goes);
               }
             where
               waits : (i : ℕ) → i < count + 1 → getD (set waiting count rest) count noPart ≡ rest → Inside (s .rows) (s .cols) (rest .piece) → bulk (rest .piece) < bulk (due .piece)

@@ -12,20 +12,23 @@ use Rattle.trees.specs.declared.node.Node.{Node}
 use Rattle.trees.specs.Outcome.{treeAnswer}
 use Rattle.trees.specs.inner.Gather.{mostNodes, firstNodes}
 use Rattle.trees.specs.inner.Held.{heldAnswer, lookedAt, Holds}
+use Rattle.trees.specs.inner.OnSheets.{nodesIn}
 use Rattle.trees.proofs.Copying.{copied-first}
 
 module _ {press : ℕ} {book sheet : List ℕ} {o : Held} (holds : Holds press book sheet o) (ys : List Node) {n : ℕ} (looked : n ≡ lookedAt (length ys) o) where
   pub looked-fits : (n ≤ length ys) × (n ≤ mostNodes)
   looked-fits = let few = mul-le-mul (holds .small .0) (holds .small .1) in (omega arith, omega arith)
 
-  pub told-of-copies : {xs : List Node} {a : Answer} → xs ≡ firstNodes ys n → a ≡ heldAnswer o (take n xs) → a ≡ treeAnswer press book sheet ys
+  pub told-of-copies : {rows : List (List ℕ)} {a : Answer} → rows ≡ firstNodes ys n → a ≡ heldAnswer o (nodesIn (take n rows)) → a ≡ treeAnswer press book sheet ys
   told-of-copies copied told =
-      told ∙ ap (λ (l : List Node). heldAnswer o (take n l)) copied ∙ ap (heldAnswer o) (copied-first ys n (looked-fits .0))
+      told ∙ ap (λ (l : List (List ℕ)). heldAnswer o (nodesIn (take n l))) copied ∙ ap (heldAnswer o) (copied-first ys n (looked-fits .0))
       ∙ ap (λ (k : ℕ). heldAnswer o (take k ys)) looked ∙ holds .tells ys
 
 -- The same of a row by value: of its first so many nodes no more are looked at than of all.
-pub told-of-first : {press : ℕ} {book sheet : List ℕ} {o : Held} → Holds press book sheet o → (ys : List Node) (count n : ℕ) {a : Answer} → length ys ≡ mostNodes
-    → a ≡ heldAnswer o (take n ys) → n ≡ min count (lookedAt mostNodes o) → a ≡ treeAnswer press book sheet (take count ys)
-told-of-first {o = o} holds ys count n all told is =
+pub told-of-first : {press : ℕ} {book sheet : List ℕ} {o : Held} → Holds press book sheet o → (ys : List Node) (count n : ℕ) {rows : List (List ℕ)} {a : Answer} → length ys ≡ mostNodes
+    → rows ≡ firstNodes ys n → a ≡ heldAnswer o (nodesIn (take n rows)) → n ≡ min count (lookedAt mostNodes o) → a ≡ treeAnswer press book sheet (take count ys)
+told-of-first {o = o} holds ys count n all copied told is =
     let looked : n ≡ lookedAt (length (take count ys)) o = omega (arith, all, length-take count ys) in
-    told ∙ ap (heldAnswer o) (sym (take-take n count ys (omega arith))) ∙ ap (λ (k : ℕ). heldAnswer o (take k (take count ys))) looked ∙ holds .tells (take count ys)
+    told ∙ ap (λ (l : List (List ℕ)). heldAnswer o (nodesIn (take n l))) copied
+    ∙ ap (heldAnswer o) (copied-first ys n (omega (arith, all)) ∙ sym (take-take n count ys (omega arith)))
+    ∙ ap (λ (k : ℕ). heldAnswer o (take k (take count ys))) looked ∙ holds .tells (take count ys)

@@ -1,5 +1,6 @@
 // A tree that a plug-in lends, as a call.
 use crate::gather::gather;
+use crate::gather::gather_own;
 use crate::held::hold;
 use crate::held::looked_at;
 use crate::node::MOST_NODES;
@@ -28,9 +29,9 @@ pub fn check_copied(book: &[u8], sheet: &[u8], nodes: [Node; MOST_NODES], count:
     let held = hold(book, sheet);
     let most = looked_at(MOST_NODES, held);
     if count < most {
-        return tell(held, nodes, count);
+        return tell(held, gather_own(nodes, count), count);
     }
-    tell(held, nodes, most)
+    tell(held, gather_own(nodes, most), most)
 }
 
 // The same for the C host.

@@ -1,4 +1,4 @@
-// A row of nodes, as two rows of numbers, held to a piece: a node by its motif and its piece, then each part in turn.
+// Nodes, as rows of two numbers, held to a piece: a node by its motif and its piece, then each part in turn.
 use crate::step::Step;
 use crate::step::step_of;
 use crate::step::wide;
@@ -41,22 +41,22 @@ pub(crate) fn judge(
     rules: &[[u8; 4]],
     cells: &[u8],
     size: Size,
-    numbers: &[u16],
-    cuts: &[u16],
+    nodes: &[[u16; 2]],
     x: Part,
 ) -> Verdict
-    requires { ⌜ Lying size (x .piece) (now numbers) (now cuts) ⌝ }
-    ensures { λ v. ⌜ v ≡ judgedAt size (now (cells .entry)) (rulesIn (now (rules .entry))) x (nodesIn (now (numbers .entry)) (now (cuts .entry))) 0 ⌝ }
+    requires { ⌜ Lying size (x .piece) ⌝ }
+    ensures { λ v. ⌜ v ≡ judgedAt size (now (cells .entry)) (rulesIn (now (rules .entry))) x (nodesIn (now (nodes .entry))) 0 ⌝ }
 {
     let mut waiting = [no_part(); MOST_WAITING];
     let mut count = 0;
     let mut due = x;
     let mut next = 0;
-    while next < numbers.len() {
+    while next < nodes.len() {
         let at = next;
         next += 1;
-        let k = wide(cuts[at]);
-        let step = step_of(rules, cells, size, due, wide(numbers[at]), k);
+        let n = nodes[at];
+        let k = wide(n[1]);
+        let step = step_of(rules, cells, size, due, wide(n[0]), k);
         match step {
             Step::Wrong => {
                 return Verdict {

@@ -3,7 +3,6 @@ use crate::held::Held;
 use crate::judge::Verdict;
 use crate::judge::judge;
 use crate::node::MOST_NODES;
-use crate::node::Node;
 use books::answer::Answer;
 use books::answer::blame;
 use books::answer::unblamed;
@@ -13,7 +12,7 @@ use pieces::part::Part;
 use pieces::piece::Piece;
 ghost use mathlib.Core.Path.{_≡_};
 ghost use Prim.Native.Nat.{_≤_};
-ghost use lib.ListN.{length, take};
+ghost use lib.ListN.{take};
 ghost use Rattle.trees.specs.inner.Gather.{mostNodes};
 ghost use Rattle.trees.specs.inner.Held.{HeldFine, judgedHeld, ended16, heldAnswer};
 ghost use Rattle.trees.specs.inner.OnSheets.{nodesIn};
@@ -34,10 +33,10 @@ fn told(v: Verdict, count: usize) -> Answer
     }
 }
 
-// The verdict on two rows of numbers, by the book and the sheet that were read.
-fn judge_held(o: Held, numbers: &[u16], cuts: &[u16]) -> Verdict
-    requires { ⌜ HeldFine o × (length (now cuts) ≡ length (now numbers)) ⌝ }
-    ensures { λ v. ⌜ v ≡ judgedHeld o (nodesIn (now (numbers .entry)) (now (cuts .entry))) ⌝ }
+// The verdict on nodes as rows of numbers, by the book and the sheet that were read.
+fn judge_held(o: Held, nodes: &[[u16; 2]]) -> Verdict
+    requires { ⌜ HeldFine o ⌝ }
+    ensures { λ v. ⌜ v ≡ judgedHeld o (nodesIn (now (nodes .entry))) ⌝ }
 {
     let end = o.count;
     let all = o.rules;
@@ -53,13 +52,13 @@ fn judge_held(o: Held, numbers: &[u16], cuts: &[u16]) -> Verdict
         },
         motif: o.start,
     };
-    judge(&rules[..end], &cells, o.size, numbers, cuts, sheet)
+    judge(&rules[..end], &cells, o.size, nodes, sheet)
 }
 
-// The book's fault, or else the sheet's, or what the first so many nodes come to, judged from the top: their numbers are laid out in a row for each.
-pub(crate) fn tell(o: Held, nodes: [Node; MOST_NODES], count: usize) -> Answer
+// The book's fault, or else the sheet's, or what the first so many nodes come to, judged from the top.
+pub(crate) fn tell(o: Held, nodes: [[u16; 2]; MOST_NODES], count: usize) -> Answer
     requires { ⌜ (count ≤ mostNodes) × (o .sheet .number ≡ 0 → HeldFine o) ⌝ }
-    ensures { λ r. ⌜ r ≡ heldAnswer o (take count nodes) ⌝ }
+    ensures { λ r. ⌜ r ≡ heldAnswer o (nodesIn (take count nodes)) ⌝ }
 {
     if o.book.number != 0 {
         return blame(1, o.book);
@@ -67,14 +66,5 @@ pub(crate) fn tell(o: Held, nodes: [Node; MOST_NODES], count: usize) -> Answer
     if o.sheet.number != 0 {
         return blame(2, o.sheet);
     }
-    let mut numbers = [0u16; MOST_NODES];
-    let mut cuts = [0u16; MOST_NODES];
-    let mut i = 0;
-    while i < count {
-        let n = nodes[i];
-        numbers[i] = n.rule;
-        cuts[i] = n.cut;
-        i += 1;
-    }
-    told(judge_held(o, &numbers[..count], &cuts[..count]), count)
+    told(judge_held(o, &nodes[..count]), count)
 }

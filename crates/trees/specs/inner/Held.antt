@@ -1,9 +1,9 @@
 -- What the code holds a row of nodes to, and what the row comes to by it.
 use Prim.Native.Nat.{ℕ, _*_, _≤_, min}
 use mathlib.Core.Path.{_≡_}
-use mathlib.Core.List.{List, _++_, map}
+use mathlib.Core.List.{List}
 use lib.Dec.{eqb, leb}
-use lib.ListN.{length, take, drop}
+use lib.ListN.{length, take}
 use Rattle.names.specs.Pick.{pick, andThen}
 use Rattle.books.specs.Answer.{answer, plain, blaming}
 use Rattle.books.specs.Book.{bookOf}
@@ -39,10 +39,6 @@ pub record HeldFine (o : Held) : Type 0 where
   pub rules-held : o .count ≤ length (o .rules)
   pub cells-all : length (o .cells) ≡ room
   pub sizes : Within most (o .size .rows) (o .size .cols)
-
--- one number of each of the first so many nodes, over what stood there
-unfoldable pub laid : (Node → ℕ) → List Node → ℕ → List ℕ → List ℕ
-laid f nodes count base = map f (take count nodes) ++ drop count base
 
 -- 16 at the node that fails, or at the number of nodes read where some are left over; else 0
 abbrev pub ended16 : Verdict → ℕ → Answer
