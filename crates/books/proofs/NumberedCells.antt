@@ -1,14 +1,15 @@
--- What callers use of the numbers of a sheet's cells: each stands at its cell's place, since they are those of the cells in order, and past the last
--- cell there is 0, as in the sheet itself.
+-- What callers use of the cells of a sheet and of their numbers: each stands at its cell's place, whatever stood in the array; and in a fresh array there
+-- is 0 past the last, as in the sheet itself.
 use Prim.Native.Nat.{ℕ, zero, suc, _+_, _*_, _<_, _≤_}
-use mathlib.Core.Path.{_≡_, refl, sym, _∙_, ap, ap₂, subst}
+use mathlib.Core.Path.{_≡_, refl, sym, _∙_, ap, ap₂}
 use mathlib.Core.List.{List, [], _∷_, map, _++_, map-append, append-assoc}
 use mathlib.Core.Logic.{⊎-elim}
+use native.Mathlib.Nat.{mul-pos}
 use native.Mathlib.Numerals.{add-one}
 use native.Mathlib.Omega.{arith}
-use borrow.Author.Tests.{eqb-true, eqb-false, ltb-false, le-ltb}
+use borrow.Author.Tests.{eqb-true, eqb-false, ltb-false, le-ltb, ne-eqb}
 use lib.Dec.{eqb, ltb}
-use lib.ListN.{length, getD, getD-replicate, take, drop, set, length-append, length-drop, length-map, List·getD-append}
+use lib.ListN.{length, getD, getD-replicate, replicate, take, drop, take-append-drop, set, length-append, length-drop, length-map, List·getD-append}
 use lib.Seq.{length-take-le, take-suc, drop-cons, set-at, getD-at, getD-take}
 use Rattle.names.specs.Colours.{nameIn}
 use Rattle.names.specs.Spelling.{mostColours}
@@ -17,32 +18,92 @@ use Rattle.names.proofs.Finding.{find-few}
 use Rattle.names.proofs.Picking.{pick-ind}
 use Rattle.names.proofs.Tests.{true-or-false}
 use Rattle.books.specs.Cells.{noCells}
-use Rattle.books.specs.Numbering.{numberOf, numbersOf, numbersFor}
-use Rattle.books.specs.Sheet.{sheetOf}
+use Rattle.books.specs.Numbering.{numberOf, numbersOf, numbersFor, Numbers}
+use Rattle.books.specs.Sheet.{sheetOf, cellsOver, over}
 use Rattle.books.specs.Size.{room}
 use Rattle.books.specs.declared.sheet.Sheet.{Sheet}
+use Rattle.books.specs.declared.sheet.SheetFigures.{SheetFigures}
+use Rattle.books.specs.declared.sheet.SheetRead.{SheetRead}
 use Rattle.books.specs.inner.Key.{Key, numbered}
 use Rattle.books.proofs.ReadingCells.{no-cells}
-use Rattle.books.proofs.ReadingSheets.{sheet-lies, sheet-refused}
+use Rattle.books.proofs.ReadingSheets.{SheetLies, sheet-lies, sheet-refused}
 
 -- ── What is read, refused or not ──
 
--- the cells of a sheet fit their room, and their numbers its colours; past them there is 0
+-- the cells of a sheet fit their room, and their numbers its colours
 pub record SheetFits (g : Sheet) : Type 0 where
   pub colours-few : g .colours .count ≤ mostColours
   pub area-few : g .size .rows * g .size .cols ≤ room
-  pub cells-all : length (g .cells) ≡ room
+  pub cells-all : g .size .rows * g .size .cols ≤ length (g .cells)
   pub cells-fit : (i : ℕ) → i < g .size .rows * g .size .cols → getD (g .cells) i 0 < g .colours .count
-  pub cells-end : drop (g .size .rows * g .size .cols) (g .cells) ≡ drop (g .size .rows * g .size .cols) noCells
 
-pub sheet-cells : (press : ℕ) (s : List ℕ) → SheetFits (sheetOf press s .sheet)
-sheet-cells press s =
+-- the cells of an accepted sheet stand first, whatever stood in the array
+module _ (before : List ℕ) (press : ℕ) (s : List ℕ) (z : sheetOf press s .fault .number ≡ 0) where
+  abbrev g : Sheet
+  g = sheetOf press s .sheet
+
+  abbrev n : ℕ
+  n = g .size .rows * g .size .cols
+
+  lies : SheetLies press s (sheetOf press s)
+  lies = sheet-lies press s z
+
+  first-long : length (take n (g .cells)) ≡ n
+  first-long = length-take-le n (g .cells) (omega (arith, lies .area-few, lies .cells-all))
+
+  pub over-is : cellsOver before g ≡ take n (g .cells) ++ drop n before
+  over-is = let some : (n ≡ 0 → ⊥) = λ e. absurd (omega (arith, mul-pos (lies .within .rows-some) (lies .within .cols-some))) in rw (ne-eqb n 0 some)
+
+  pub over-long : n ≤ length (cellsOver before g)
+  over-long = rw (over-is, length-append) (omega (arith, first-long))
+
+  pub over-at : (i : ℕ) → i < n → getD (cellsOver before g) i 0 ≡ getD (g .cells) i 0
+  over-at i h =
+      ap (λ (l : List ℕ). getD l i 0) over-is
+      ∙ List·getD-append (take n (g .cells)) (drop n before) 0 i (omega (arith, first-long)) ∙ getD-take n (g .cells) i 0 h
+
+fresh-cells : (press : ℕ) (s : List ℕ) → cellsOver noCells (sheetOf press s .sheet) ≡ sheetOf press s .sheet .cells
+fresh-cells press s =
     ⊎-elim
     (λ t.
-    let l = sheet-lies press s (eqb-true _ 0 t) in
-    record { colours-few = l .places .few; area-few = l .area-few; cells-all = l .cells-all; cells-fit = l .cells-fit; cells-end = l .cells-end })
-    (λ t. subst SheetFits (sym (sheet-refused press s (eqb-false _ 0 t) .none))
-    (record { colours-few = omega arith; area-few = omega arith; cells-all = no-cells; cells-fit = λ i h. absurd (omega arith); cells-end = refl }))
+    let z = eqb-true (sheetOf press s .fault .number) 0 t in
+    let l = sheet-lies press s z in
+    let g = sheetOf press s .sheet in
+    let n = g .size .rows * g .size .cols in
+    over-is noCells press s z ∙ ap (λ (x : List ℕ). take n (g .cells) ++ x) (sym (l .cells-end)) ∙ take-append-drop n (g .cells))
+    (λ t. rw (sheet-refused press s (eqb-false (sheetOf press s .fault .number) 0 t) .none) refl)
+    (true-or-false (eqb (sheetOf press s .fault .number) 0))
+
+-- a sheet that is read into a fresh array is the sheet, with 0 past its cells
+pub over-fresh : (press : ℕ) (s : List ℕ) → over noCells (sheetOf press s) ≡ sheetOf press s
+over-fresh press s =
+    let r = sheetOf press s in
+    let g = r .sheet in
+    ap (λ (l : List ℕ).
+    record { fault = r .fault; sheet = record { colours = g .colours; ticket = g .ticket; most = g .most; size = g .size; cells = l } })
+    (fresh-cells press s)
+
+pub sheet-cells : (before : List ℕ) (press : ℕ) (s : List ℕ) → SheetFits (over before (sheetOf press s) .sheet)
+sheet-cells before press s =
+    ⊎-elim
+    (λ t.
+    let z = eqb-true (sheetOf press s .fault .number) 0 t in
+    let l = sheet-lies press s z in
+    record {
+      colours-few = l .places .few;
+      area-few = l .area-few;
+      cells-all = over-long before press s z;
+      cells-fit = λ i h. rw (over-at before press s z i h) (l .cells-fit i h);
+    })
+    (λ t. rw (sheet-refused press s (eqb-false (sheetOf press s .fault .number) 0 t) .none)
+    (record { colours-few = omega arith; area-few = omega arith; cells-all = omega arith; cells-fit = λ i h. absurd (omega arith) }))
+    (true-or-false (eqb (sheetOf press s .fault .number) 0))
+
+cells-room : (press : ℕ) (s : List ℕ) → length (sheetOf press s .sheet .cells) ≡ room
+cells-room press s =
+    ⊎-elim
+    (λ t. sheet-lies press s (eqb-true (sheetOf press s .fault .number) 0 t) .cells-all)
+    (λ t. rw (sheet-refused press s (eqb-false (sheetOf press s .fault .number) 0 t) .none) no-cells)
     (true-or-false (eqb (sheetOf press s .fault .number) 0))
 
 -- ── The first cells numbered, over what stands after them ──
@@ -86,12 +147,12 @@ same-numbers f h (x ∷ l) e = ap₂ (λ (v : ℕ) (r : List ℕ). v ∷ r) (e 0
 
 pub number-at : (book : List ℕ) (c : Colours) (sheet : List ℕ) (g : Sheet) (i : ℕ) → i < g .size .rows * g .size .cols
     → g .size .rows * g .size .cols ≤ length (g .cells) → getD (numbersOf book c sheet g) i 0 ≡ numberOf book c sheet (g .colours) (getD (g .cells) i 0)
-number-at book c sheet g i h few = begun-at (numberOf book c sheet (g .colours)) (g .cells) noCells (g .size .rows * g .size .cols) i h few
+number-at book c sheet g i h few = begun-at (numberOf book c sheet (g .colours)) (g .cells) (g .cells) (g .size .rows * g .size .cols) i h few
 
-pub numbers-all : (book : List ℕ) (c : Colours) (sheet : List ℕ) (g : Sheet) → g .size .rows * g .size .cols ≤ room → length (g .cells) ≡ room
-    → length (numbersOf book c sheet g) ≡ room
-numbers-all book c sheet g few all =
-    begun-size (numberOf book c sheet (g .colours)) (g .cells) noCells (g .size .rows * g .size .cols) (omega arith) (omega (arith, no-cells)) ∙ no-cells
+pub numbers-all : (book : List ℕ) (c : Colours) (sheet : List ℕ) (g : Sheet) → g .size .rows * g .size .cols ≤ length (g .cells)
+    → length (numbersOf book c sheet g) ≡ length (g .cells)
+numbers-all book c sheet g few =
+    begun-size (numberOf book c sheet (g .colours)) (g .cells) (g .cells) (g .size .rows * g .size .cols) few few
 
 -- by at most 64 colours the cells are numbered
 pub numbers-for : (book : List ℕ) (c : Colours) (sheet : List ℕ) (g : Sheet) → c .count ≤ mostColours → numbersFor book c sheet g ≡ numbersOf book c sheet g
@@ -102,32 +163,52 @@ pub key-numbers : (book : List ℕ) (c : Colours) (sheet : List ℕ) (g : Sheet)
     → numbered (λ (v : ℕ). getD key v 0) (g .size .rows * g .size .cols) (g .cells) ≡ numbersOf book c sheet g
 key-numbers book c sheet g key fit k =
     let n = g .size .rows * g .size .cols in
-    let there : length (take n (g .cells)) ≡ n = length-take-le n (g .cells) (omega (arith, fit .area-few, fit .cells-all)) in
+    let there : length (take n (g .cells)) ≡ n = length-take-le n (g .cells) (fit .cells-all) in
     let low : (i : ℕ) → i < length (take n (g .cells)) → getD (take n (g .cells)) i 0 < g .colours .count =
     λ i h. rw (getD-take n (g .cells) i 0 (omega arith)) (fit .cells-fit i (omega arith)) in
-    ap₂ (λ (x y : List ℕ). x ++ y)
-    (same-numbers (λ (v : ℕ). getD key v 0) (numberOf book c sheet (g .colours)) (take n (g .cells)) (λ i h. k .numbers _ (low i h))) (fit .cells-end)
+    ap (λ (x : List ℕ). x ++ drop n (g .cells))
+    (same-numbers (λ (v : ℕ). getD key v 0) (numberOf book c sheet (g .colours)) (take n (g .cells)) (λ i h. k .numbers _ (low i h)))
 
 module _ (press : ℕ) (book : List ℕ) (c : Colours) (sheet : List ℕ) where
+  -- a fresh array is left with the numbers of the sheet
+  pub numbers-fresh : {r : SheetFigures} {numbers : List ℕ} → Numbers press book c sheet (replicate room 0) r numbers
+      → numbers ≡ numbersFor book c sheet (sheetOf press sheet .sheet)
+  unfolding noCells
+  numbers-fresh shown = shown .cells ∙ ap (λ (r : SheetRead). numbersFor book c sheet (r .sheet)) (over-fresh press sheet)
+
   pub numbers-room : length (numbersFor book c sheet (sheetOf press sheet .sheet)) ≡ room
   numbers-room =
-      let fit = sheet-cells press sheet in
       pick-ind (λ (l : List ℕ). length l ≡ room) (ltb mostColours (c .count)) noCells (numbersOf book c sheet (sheetOf press sheet .sheet))
       (λ _. no-cells)
-      (λ _. numbers-all book c sheet (sheetOf press sheet .sheet) (fit .area-few) (fit .cells-all))
+      (λ _.
+      let all = cells-room press sheet in
+      numbers-all book c sheet (sheetOf press sheet .sheet) (omega (arith, sheet-cells noCells press sheet .area-few, all)) ∙ all)
+
+  pub fresh-room : {r : SheetFigures} {numbers : List ℕ} → Numbers press book c sheet (replicate room 0) r numbers → length numbers ≡ room
+  fresh-room shown = ap length (numbers-fresh shown) ∙ numbers-room
+
+  -- there is a number for each cell, whatever stood in the array
+  pub numbers-long : (before : List ℕ)
+      → sheetOf press sheet .sheet .size .rows * sheetOf press sheet .sheet .size .cols ≤ length (numbersFor book c sheet (over before (sheetOf press sheet) .sheet))
+  numbers-long before =
+      let g = over before (sheetOf press sheet) .sheet in
+      let fit = sheet-cells before press sheet in
+      pick-ind (λ (l : List ℕ). g .size .rows * g .size .cols ≤ length l) (ltb mostColours (c .count)) noCells (numbersOf book c sheet g)
+      (λ _. omega (arith, fit .area-few, no-cells))
+      (λ _. omega (arith, fit .cells-all, numbers-all book c sheet g (fit .cells-all)))
 
   -- a cell's number is at most 64
-  pub numbers-few : (i : ℕ) → i < sheetOf press sheet .sheet .size .rows * sheetOf press sheet .sheet .size .cols
-      → getD (numbersFor book c sheet (sheetOf press sheet .sheet)) i 0 ≤ mostColours
+  pub numbers-few : (before : List ℕ) (i : ℕ) → i < sheetOf press sheet .sheet .size .rows * sheetOf press sheet .sheet .size .cols
+      → getD (numbersFor book c sheet (over before (sheetOf press sheet) .sheet)) i 0 ≤ mostColours
   unfolding noCells
-  numbers-few i h =
-      let g = sheetOf press sheet .sheet in
-      let fit = sheet-cells press sheet in
+  numbers-few before i h =
+      let g = over before (sheetOf press sheet) .sheet in
+      let fit = sheet-cells before press sheet in
       pick-ind (λ (l : List ℕ). getD l i 0 ≤ mostColours) (ltb mostColours (c .count)) noCells (numbersOf book c sheet g)
       (λ _. omega (arith, getD-replicate {A = ℕ} room i 0 0 (omega (arith, fit .area-few))))
       (λ e. omega (
         arith,
-        number-at book c sheet g i h (omega (arith, fit .area-few, fit .cells-all)),
+        number-at book c sheet g i h (fit .cells-all),
         find-few book c (nameIn sheet (g .colours) (getD (g .cells) i 0)),
         ltb-false mostColours (c .count) e,
       ))

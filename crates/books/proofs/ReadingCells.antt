@@ -1,7 +1,7 @@
 -- What callers use of cells that were read: their numbers, each below that of the colours, are stored in order, they end within the
 -- input, and what stood there is their spelling. One number is read after the other, and each gives its part.
 use Prim.Native.Nat.{ℕ, zero, suc, _+_, _*_, _<_, _≤_}
-use mathlib.Core.Path.{_≡_, refl, ap, _∙_}
+use mathlib.Core.Path.{_≡_, refl, sym, ap, ap₂, _∙_}
 use mathlib.Core.List.{List, [], _∷_, _++_, append-assoc}
 use mathlib.Core.Logic.{_⊎_, inl, inr, ⊎-elim}
 use native.Mathlib.Omega.{arith}
@@ -12,7 +12,9 @@ use lib.Seq.{sets, sets-eq, take-append-seam, drop-append-seam}
 use Rattle.names.specs.Pick.{fault}
 use Rattle.names.specs.Number.{numberBelow}
 use Rattle.names.specs.declared.number.Fault.{Fault}
-use Rattle.names.specs.declared.number.Read.the-variants.{Value}
+use Rattle.names.specs.Onward.{onward}
+use Rattle.names.specs.declared.number.Read.{Read}
+use Rattle.names.specs.declared.number.Read.the-variants.{Value, Refused}
 use Rattle.names.proofs.Onwards.{onward-ind}
 use Rattle.names.proofs.ReadingNumbers.{Blamed, blamed-later, number-below, number-below-there, number-below-refused}
 use Rattle.names.specs.Bytes.{Bytes}
@@ -103,3 +105,69 @@ module _ (s : List ℕ) (colours limit at count : ℕ) (h : at ≤ length s) (l 
 
   pub cells-refused : (cellsAt s colours at count .fault .number ≡ 0 → ⊥) → Blamed s limit (cellsAt s colours at count .fault)
   cells-refused z = ⊎-elim (λ t. absurd (z (ap (λ (f : Fault). f .number) (t .fine)))) (λ b. b) cells-ended
+
+-- ── The same cells over two arrays ──
+
+-- what holds of the same fault, and of what follows where there is none, holds of reading onward in two ways
+onward-both : {A : Type 0} (P : A → A → Type 0) (refuse : Fault → A) (r : Read) (f g : ℕ → ℕ → A)
+    → ((e : Fault) → r ≡ Refused e → P (refuse e) (refuse e)) → ((v next : ℕ) → P (f v next) (g v next)) → P (onward refuse r f) (onward refuse r g)
+onward-both P refuse (Value v next) f g bad good = good v next
+onward-both P refuse (Refused e) f g bad good = bad e refl
+
+-- the same numbers, so many of them, are stored from the i-th cell on
+record BothStored (k i : ℕ) (a b left right : List ℕ) : Type 0 where
+  new : List ℕ
+  count : length new ≡ k
+  first : left ≡ sets a i new
+  second : right ≡ sets b i new
+
+record Both (k i : ℕ) (a b : List ℕ) (r c : CellsRead) : Type 0 where
+  fault : r .fault ≡ c .fault
+  next : r .next ≡ c .next
+  cells : c .fault .number ≡ 0 → BothStored k i a b (r .cells) (c .cells)
+
+both-more : (k i v : ℕ) (a b : List ℕ) (r c : CellsRead) → Both k (i + 1) (set a i v) (set b i v) r c → Both (suc k) i a b r c
+both-more k i v a b r c h =
+    record {
+      fault = h .fault;
+      next = h .next;
+      cells = λ z. let t = h .cells z in
+          record { new = v ∷ t .new; count = ap suc (t .count); first = rw add-one at (t .first); second = rw add-one at (t .second) };
+    }
+
+both-read : (s : List ℕ) (colours k : ℕ) (a b : List ℕ) (i at : ℕ) → Both k i a b (cellsOnward s colours a i at k) (cellsOnward s colours b i at k)
+both-read s colours zero a b i at =
+    record { fault = refl; next = refl; cells = λ _. record { new = []; count = refl; first = refl; second = refl } }
+both-read s colours (suc k) a b i at =
+    onward-both (Both (suc k) i a b) refusedCells (numberBelow s at colours 6) _ _
+    (λ f e.
+    let refused = number-below-refused s at colours 6 f e (omega arith) (omega arith) in
+    record { fault = refl; next = refl; cells = λ z. absurd (omega (arith, refused .some)) })
+    (λ v next. both-more k i v a b _ _ (both-read s colours k (set a i v) (set b i v) (i + 1) next))
+
+-- cells that are read over what stood in an array are those that are read into none, and past them it is as it was
+module _ (s : List ℕ) (colours at count : ℕ) (before : List ℕ) where
+  abbrev r : CellsRead
+  r = cellsOnward s colours before 0 at count
+
+  abbrev c : CellsRead
+  c = cellsAt s colours at count
+
+  both : Both count 0 before noCells r c
+  unfolding cellsAt
+  both = both-read s colours count before noCells 0 at
+
+  pub over-fault : r .fault ≡ c .fault
+  over-fault = both .fault
+
+  pub over-next : r .next ≡ c .next
+  over-next = both .next
+
+  pub over-cells : length before ≡ room → count ≤ room → c .fault .number ≡ 0 → r .cells ≡ take count (c .cells) ++ drop count before
+  over-cells all few z =
+      let t = both .cells z in
+      let there : length (t .new) ≤ length noCells = omega (arith, t .count, no-cells) in
+      let first : take count (c .cells) ≡ t .new =
+      ap (take count) (t .second) ∙ ap (λ (n : ℕ). take n (sets noCells 0 (t .new))) (sym (t .count)) ∙ stored-first noCells (t .new) there in
+      let end : 0 + length (t .new) ≡ count = omega (arith, t .count) in
+      t .first ∙ sets-eq (t .new) before 0 (omega (arith, t .count)) ∙ ap₂ (λ (x : List ℕ) (n : ℕ). x ++ drop n before) (sym first) end

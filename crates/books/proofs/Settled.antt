@@ -10,7 +10,7 @@ use Rattle.names.proofs.Settled.{Settles, settles, SettlesPart, part-settles}
 pub use Rattle.names.proofs.Settled.{settled}
 use Rattle.books.specs.Book.{noFamily, bookOf}
 use Rattle.books.specs.Size.{within?}
-use Rattle.books.specs.Sheet.{sheetOf, sheetFigures, SheetInto}
+use Rattle.books.specs.Sheet.{sheetOf, over, sheetFigures, SheetInto}
 use Rattle.books.specs.Numbering.{Numbers}
 use Rattle.books.specs.RuleBytes.{lentRules, BookInto, kindDir}
 use Rattle.books.specs.Answer.{plain, blaming, packed}
@@ -52,15 +52,15 @@ read-sheet-settled press s = settles _
 pub sheet-figures-settled : (press : ℕ) (s : List ℕ) → Settles (sheetFigures (sheetOf press s))
 sheet-figures-settled press s = settles _
 
-pub read-sheet-into-settled : (press : ℕ) (s : List ℕ) (r q : SheetFigures) (starts lens cells places sizes numbers : List ℕ)
-    → SheetInto (sheetOf press s) r starts lens cells → SheetInto (sheetOf press s) q places sizes numbers
+pub read-sheet-into-settled : (press : ℕ) (s before : List ℕ) (r q : SheetFigures) (starts lens cells places sizes numbers : List ℕ)
+    → SheetInto (over before (sheetOf press s)) r starts lens cells → SheetInto (over before (sheetOf press s)) q places sizes numbers
     → (r ≡ q) × (starts ≡ places) × (lens ≡ sizes) × (cells ≡ numbers)
-read-sheet-into-settled press s r q starts lens cells places sizes numbers x y =
+read-sheet-into-settled press s before r q starts lens cells places sizes numbers x y =
     (settled (x .figures) (y .figures), settled (x .starts) (y .starts), settled (x .lens) (y .lens), settled (x .cells) (y .cells))
 
-pub number-sheet-settled : (press : ℕ) (book : List ℕ) (c : Colours) (sheet : List ℕ) (r q : SheetFigures) (cells numbers : List ℕ)
-    → Numbers press book c sheet r cells → Numbers press book c sheet q numbers → (r ≡ q) × (cells ≡ numbers)
-number-sheet-settled press book c sheet r q cells numbers x y = (settled (x .figures) (y .figures), settled (x .cells) (y .cells))
+pub number-sheet-settled : (press : ℕ) (book : List ℕ) (c : Colours) (sheet before : List ℕ) (r q : SheetFigures) (cells numbers : List ℕ)
+    → Numbers press book c sheet before r cells → Numbers press book c sheet before q numbers → (r ≡ q) × (cells ≡ numbers)
+number-sheet-settled press book c sheet before r q cells numbers x y = (settled (x .figures) (y .figures), settled (x .cells) (y .cells))
 
 pub lend-settled : (rules : List Rule) (count : ℕ) → Settles (lentRules rules count)
 lend-settled rules count = settles _

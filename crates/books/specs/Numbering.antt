@@ -9,7 +9,7 @@ use Rattle.names.specs.Colours.{nameIn, findName}
 use Rattle.names.specs.Spelling.{mostColours}
 use Rattle.names.specs.declared.colours.Colours.{Colours}
 use Rattle.books.specs.Cells.{noCells}
-use Rattle.books.specs.Sheet.{sheetOf, sheetFigures}
+use Rattle.books.specs.Sheet.{sheetOf, over, sheetFigures}
 use Rattle.books.specs.declared.sheet.Sheet.{Sheet}
 use Rattle.books.specs.declared.sheet.SheetFigures.{SheetFigures}
 
@@ -17,16 +17,16 @@ use Rattle.books.specs.declared.sheet.SheetFigures.{SheetFigures}
 abbrev pub numberOf : List ℕ → Colours → List ℕ → Colours → ℕ → ℕ
 numberOf book c sheet d i = findName book c (nameIn sheet d i)
 
--- those of the cells, 0 past the last
+-- those of the cells; past the last nothing changes
 abbrev pub numbersOf : List ℕ → Colours → List ℕ → Sheet → List ℕ
 numbersOf book c sheet g =
-    map (numberOf book c sheet (g .colours)) (take (g .size .rows * g .size .cols) (g .cells)) ++ drop (g .size .rows * g .size .cols) noCells
+    map (numberOf book c sheet (g .colours)) (take (g .size .rows * g .size .cols) (g .cells)) ++ drop (g .size .rows * g .size .cols) (g .cells)
 
 -- by more than 64 colours, which no book has, no cell is numbered
 abbrev pub numbersFor : List ℕ → Colours → List ℕ → Sheet → List ℕ
 numbersFor book c sheet g = pick (ltb mostColours (c .count)) noCells (numbersOf book c sheet g)
 
--- a sheet that is read for a book, told in parts: its figures, and the numbers of its cells, which are in an array
-pub record Numbers (press : ℕ) (book : List ℕ) (c : Colours) (sheet : List ℕ) (r : SheetFigures) (numbers : List ℕ) : Type 0 where
+-- a sheet that is read for a book, told in parts: its figures, and the numbers of its cells, which are in an array over what stood there before
+pub record Numbers (press : ℕ) (book : List ℕ) (c : Colours) (sheet before : List ℕ) (r : SheetFigures) (numbers : List ℕ) : Type 0 where
   pub figures : r ≡ sheetFigures (sheetOf press sheet)
-  pub cells : numbers ≡ numbersFor book c sheet (sheetOf press sheet .sheet)
+  pub cells : numbers ≡ numbersFor book c sheet (over before (sheetOf press sheet) .sheet)

@@ -1,8 +1,10 @@
 -- What reading a sheet of a press finds: a colour list, the job ticket, rows and columns, one colour number per cell, and nothing after them.
 use Prim.Native.Nat.{ℕ, _*_}
 use mathlib.Core.Path.{_≡_}
-use mathlib.Core.List.{List}
-use Rattle.names.specs.Pick.{fault}
+use mathlib.Core.List.{List, _++_}
+use lib.Dec.{eqb}
+use lib.ListN.{take, drop}
+use Rattle.names.specs.Pick.{pick, fault}
 use Rattle.names.specs.Onward.{onward, ending}
 use Rattle.names.specs.Number.{numberAt}
 use Rattle.names.specs.Colours.{noColours, coloursOf, afterColours}
@@ -36,6 +38,18 @@ sheetOf press s =
     onward refusedSheet (numberAt s at) (λ ticket then.
     afterSize refusedSheet (sizeAt s then (greatestOf press)) (λ size next.
     filledAt s (greatestOf press) c ticket size (cellsAt s (c .count) next (size .rows * size .cols)))))
+
+-- the cells of a sheet over what stood in an array: past them it is as it was; a refused sheet has none, and leaves 0
+abbrev pub cellsOver : List ℕ → Sheet → List ℕ
+cellsOver before g =
+    let n = g .size .rows * g .size .cols in
+    pick (eqb n 0) noCells (take n (g .cells) ++ drop n before)
+
+-- a sheet that is read into such an array
+abbrev pub over : List ℕ → SheetRead → SheetRead
+over before g =
+    let s = g .sheet in
+    record { fault = g .fault; sheet = record { colours = s .colours; ticket = s .ticket; most = s .most; size = s .size; cells = cellsOver before s } }
 
 -- what is told of a sheet that was read, beside its names and cells
 abbrev pub sheetFigures : SheetRead → SheetFigures

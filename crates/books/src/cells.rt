@@ -7,7 +7,7 @@ use names::number::Read;
 ghost use Prim.Native.Nat.{_≤_};
 ghost use Rattle.names.specs.Spelling.{mostColours};
 ghost use Rattle.books.specs.Size.{room};
-ghost use Rattle.books.specs.Cells.{refusedCells, cellsAt};
+ghost use Rattle.books.specs.Cells.{refusedCells, cellsOnward};
 ghost use Rattle.books.specs.inner.Parts.{CellsInto};
 
 // Cells that went into a lent array: the place after them, 0 where they are refused.
@@ -24,8 +24,8 @@ fn refuse_cells(f: Fault, cells: &mut [u8; ROOM]) -> CellsEnd
     CellsEnd { fault: f, next: 0 }
 }
 
-// So many cells from a place on, each the number of one of so many colours, read into a lent array: whatever it held, it ends with the cells and
-// 0 past the last.
+// So many cells from a place on, each the number of one of so many colours, read into a lent array. Past the last it stays as it was, since a run reads
+// thousands of small sheets into one array.
 pub(crate) fn read_cells(
     s: &[u8],
     from: usize,
@@ -34,9 +34,8 @@ pub(crate) fn read_cells(
     cells: &mut [u8; ROOM],
 ) -> CellsEnd
     requires { ⌜ (colours ≤ mostColours) × (count ≤ room) ⌝ }
-    ensures { λ r. ⌜ CellsInto (cellsAt (now (s .entry)) colours from count) r (now (cells .exit)) ⌝ }
+    ensures { λ r. ⌜ CellsInto (cellsOnward (now (s .entry)) colours (now (cells .entry)) 0 from count) r (now (cells .exit)) ⌝ }
 {
-    *cells = [0; ROOM];
     let mut at = from;
     for i in 0..count {
         let r = number::read_below(s, at, colours, 6);

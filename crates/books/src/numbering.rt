@@ -25,8 +25,9 @@ fn number_cells(key: &[u8; MOST_COLOURS], count: usize, cells: &mut [u8; ROOM])
 }
 
 // Reads a sheet of a press for a book whose colours were read, into a lent array: each of its cells has the number of its colour in the book, or the count
-// of the book's colours where the book lacks it. A colour is looked for once, and not at each of its cells. No book has more than 64 colours: by
-// more, no cell is numbered. The book's colours are lent in their parts, since a struct would be copied at every sheet of a run.
+// of the book's colours where the book lacks it. Past them the array is as it was; a refused sheet leaves 0 in all of it. A colour is looked for once, and
+// not at each of its cells. No book has more than 64 colours: by more, no cell is numbered. The book's colours are lent in their parts, since a struct would
+// be copied at every sheet of a run.
 pub fn number_sheet<'a>(
     press: usize,
     book: &[u8],
@@ -36,7 +37,8 @@ pub fn number_sheet<'a>(
     sheet: &[u8],
     cells: &mut [u8; ROOM],
 ) -> SheetFigures
-    ensures { λ r. ⌜ Numbers press (now (book .entry)) (listOf count (now (starts .entry)) (now (lens .entry))) (now (sheet .entry)) r (now (cells .exit)) ⌝ }
+    ensures { λ r. ⌜ Numbers press (now (book .entry)) (listOf count (now (starts .entry)) (now (lens .entry))) (now (sheet .entry)) (now (cells .entry))
+        r (now (cells .exit)) ⌝ }
 {
     let mut own_starts = [0u16; MOST_COLOURS];
     let mut own_lens = [0u8; MOST_COLOURS];

@@ -14,9 +14,11 @@ use names::number::Fault;
 use names::number::Read;
 ghost use mathlib.Core.Path.{_≡_};
 ghost use Prim.Native.Nat.{_*_};
+ghost use lib.ListN.{length};
 ghost use Rattle.names.specs.Colours.{listOf};
 ghost use Rattle.books.specs.Cells.{cellsAt};
-ghost use Rattle.books.specs.Sheet.{refusedSheet, filledAt, sheetOf, sheetFigures, SheetInto};
+ghost use Rattle.books.specs.Size.{room};
+ghost use Rattle.books.specs.Sheet.{refusedSheet, filledAt, sheetOf, over, sheetFigures, SheetInto};
 ghost use Rattle.books.specs.inner.Parts.{Fillable};
 
 // The colours are places in the lent sheet; the ticket has no part in what is derived; the first rows times columns cells stand, row by row, and
@@ -65,6 +67,11 @@ fn refuse_sheet(
     }
 }
 
+// An array has all its cells. Of a lent one that is known only where its value is passed on; nothing of this is left in the machine code.
+fn all_cells(cells: [u8; ROOM])
+    ensures { λ _. ⌜ length cells ≡ room ⌝ }
+{}
+
 // The cells of a sheet whose figures and colours were read: the input ends with them.
 fn fill_sheet(
     s: &[u8],
@@ -75,9 +82,11 @@ fn fill_sheet(
     cells: &mut [u8; ROOM],
 ) -> SheetFigures
     requires { ⌜ Fillable g ⌝ }
-    ensures { λ r. ⌜ SheetInto (filledAt (now (s .entry)) (g .most) (listOf (g .colours) (now (starts .entry)) (now (lens .entry))) (g .ticket) (g .size)
-        (cellsAt (now (s .entry)) (g .colours) from (g .size .rows * g .size .cols))) r (now (starts .exit)) (now (lens .exit)) (now (cells .exit)) ⌝ }
+    ensures { λ r. ⌜ SheetInto (over (now (cells .entry)) (filledAt (now (s .entry)) (g .most) (listOf (g .colours) (now (starts .entry)) (now (lens .entry)))
+        (g .ticket) (g .size) (cellsAt (now (s .entry)) (g .colours) from (g .size .rows * g .size .cols))))
+        r (now (starts .exit)) (now (lens .exit)) (now (cells .exit)) ⌝ }
 {
+    all_cells(*cells);
     let end = cells::read_cells(s, from, g.colours, g.size.rows * g.size.cols, cells);
     let f = end.fault;
     if f.number != 0 {
@@ -89,8 +98,8 @@ fn fill_sheet(
     g
 }
 
-// The sheet of a press that the input is, read into lent arrays: whatever they held, they end with the places and lengths of its colours' names and with its
-// cells, and 0 past them.
+// The sheet of a press that the input is, read into lent arrays. Whatever they held, those of its colours' names end with the places and lengths and 0 past
+// them. Its cells stand first in theirs, which is as it was past them; a refused sheet leaves 0 in all of it.
 pub fn read_sheet_into(
     press: usize,
     s: &[u8],
@@ -98,7 +107,7 @@ pub fn read_sheet_into(
     lens: &mut [u8; MOST_COLOURS],
     cells: &mut [u8; ROOM],
 ) -> SheetFigures
-    ensures { λ r. ⌜ SheetInto (sheetOf press (now (s .entry))) r (now (starts .exit)) (now (lens .exit)) (now (cells .exit)) ⌝ }
+    ensures { λ r. ⌜ SheetInto (over (now (cells .entry)) (sheetOf press (now (s .entry)))) r (now (starts .exit)) (now (lens .exit)) (now (cells .exit)) ⌝ }
 {
     let list = colours::read_list(s, starts, lens);
     let f = list.fault;

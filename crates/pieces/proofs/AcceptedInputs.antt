@@ -1,6 +1,6 @@
 -- Reading gives what the table asks: rules that fit their masks, and for each cell the number of its colour.
 use Prim.Native.Nat.{ℕ, _≤_, _<_}
-use mathlib.Core.Path.{_≡_}
+use mathlib.Core.Path.{_≡_, _∙_, ap}
 use mathlib.Core.List.{List}
 use native.Mathlib.Omega.{arith}
 use lib.ListN.{length, getD}
@@ -10,14 +10,14 @@ use Rattle.names.specs.Bytes.{Bytes}
 use Rattle.books.specs.Book.{bookOf}
 use Rattle.books.specs.Keeps.{BodyFits, mostMotifs}
 use Rattle.books.specs.Lent.{contentsOf}
-use Rattle.books.specs.Numbering.{numbersOf}
+use Rattle.books.specs.Numbering.{numberOf, numbersOf}
 use Rattle.books.specs.Rules.{noRule}
-use Rattle.books.specs.Sheet.{sheetOf}
+use Rattle.books.specs.Sheet.{sheetOf, over}
 use Rattle.books.specs.declared.family.Family.{Family}
 use Rattle.books.specs.declared.sheet.Sheet.{Sheet}
 use Rattle.books.specs.declared.rule.Body.{Body}
 use Rattle.books.specs.declared.rule.Body.the-variants.{Colour, Across, Down}
-use Rattle.books.proofs.NumberedCells.{number-at, numbers-all}
+use Rattle.books.proofs.NumberedCells.{over-long, over-at, number-at, numbers-all}
 use Rattle.books.proofs.ReadingBooks.{book-lies, book-accepted}
 use Rattle.books.proofs.ReadingSheets.{sheet-lies}
 use Rattle.books.proofs.SpellingSheets.{sheet-accepted}
@@ -62,6 +62,16 @@ module _ (book : List ℕ) (book-fine : bookOf book .fault .number ≡ 0) where
     cells-numbered =
         let s = sheet-lies press sheet sheet-fine in
         record {
-          all = omega (arith, s .area-few, numbers-all book (f .colours) sheet g (s .area-few) (s .cells-all));
+          all = omega (arith, s .area-few, s .cells-all, numbers-all book (f .colours) sheet g (omega (arith, s .area-few, s .cells-all)));
           each = λ i h. number-at book (f .colours) sheet g i h (omega (arith, s .area-few, s .cells-all));
+        }
+
+    -- the same over what stood in an array
+    pub cells-over : (before : List ℕ) → Numbered book f sheet g (numbersOf book (f .colours) sheet (over before (sheetOf press sheet) .sheet))
+    cells-over before =
+        let long = over-long before press sheet sheet-fine in
+        let r = over before (sheetOf press sheet) .sheet in
+        record {
+          all = omega (arith, long, numbers-all book (f .colours) sheet r long);
+          each = λ i h. number-at book (f .colours) sheet r i h long ∙ ap (numberOf book (f .colours) sheet (g .colours)) (over-at before press sheet sheet-fine i h);
         }

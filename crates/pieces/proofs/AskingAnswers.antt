@@ -133,10 +133,10 @@ module _ (press : ℕ) (book sheet entries numbers : List ℕ) (fine : bookOf bo
 pub split-book-settled : (book masks : List ℕ) → SettlesBoth (λ (r : Split) (left : List ℕ). keptWith r left ≡ splitBook book masks)
 split-book-settled book masks r q x y e f = let same = settled e f in (ap (λ (s : SplitBook). s .split) same, ap (λ (s : SplitBook). s .masks) same)
 
-pub ask-sheet-settled : (press : ℕ) (book : List ℕ) (split : Split) (masks sheet entries : List ℕ) (r q : Asked) (cells numbers left after : List ℕ)
-    → askedWith r cells left ≡ askSheet press book split masks sheet entries → askedWith q numbers after ≡ askSheet press book split masks sheet entries
+pub ask-sheet-settled : (press : ℕ) (book : List ℕ) (split : Split) (masks sheet before entries : List ℕ) (r q : Asked) (cells numbers left after : List ℕ)
+    → askedWith r cells left ≡ askSheet press book split masks sheet before entries → askedWith q numbers after ≡ askSheet press book split masks sheet before entries
     → (r ≡ q) × (cells ≡ numbers) × (left ≡ after)
-ask-sheet-settled press book split masks sheet entries r q cells numbers left after e f =
+ask-sheet-settled press book split masks sheet before entries r q cells numbers left after e f =
     let same = settled e f in (ap (λ (s : AskedSheet). s .asked) same, ap (λ (s : AskedSheet). s .cells) same, ap (λ (s : AskedSheet). s .entries) same)
 
 pub fire-settled : (masks : List ℕ) (j : Joins) (d : Dir) (l r : ℕ) → Settles (fireOf masks j d l r)

@@ -14,11 +14,11 @@ use Rattle.books.specs.Book.{bookOf}
 use Rattle.books.specs.Contents.{Contents}
 use Rattle.books.specs.Numbering.{numbersOf, numbersFor, Numbers}
 use Rattle.books.specs.Picture.{Picture}
-use Rattle.books.specs.Sheet.{sheetOf, sheetFigures}
+use Rattle.books.specs.Sheet.{sheetOf, over, sheetFigures}
 use Rattle.books.specs.declared.family.Family.{Family}
 use Rattle.books.specs.declared.sheet.SheetFigures.{SheetFigures}
 use Rattle.books.specs.declared.sheet.Sheet.{Sheet}
-use Rattle.books.proofs.NumberedCells.{numbers-for, numbers-room, numbers-few}
+use Rattle.books.proofs.NumberedCells.{numbers-for, numbers-long, numbers-few}
 use Rattle.books.proofs.Presses.{greatest-few}
 use Rattle.books.proofs.SizesWithin.{within-more}
 use Rattle.books.proofs.LentRules.{rows-back}
@@ -36,7 +36,7 @@ use Rattle.pieces.specs.Rights.{Serves}
 use Rattle.pieces.specs.declared.asking.Asked.{Asked}
 use Rattle.pieces.specs.declared.asking.Split.{Split}
 use Rattle.pieces.specs.inner.ForTable.{Shows}
-use Rattle.pieces.proofs.AcceptedInputs.{rules-read, as-read, cells-numbered}
+use Rattle.pieces.proofs.AcceptedInputs.{rules-read, as-read, cells-over}
 use Rattle.pieces.proofs.Cutting.{whole-inside, cut-whole}
 use Rattle.books.specs.Lent.{contentsOf, pictureOf}
 use Rattle.pieces.proofs.Entries.{entry-tests}
@@ -52,17 +52,16 @@ pub read-split : (book before : List ℕ) {b : BookFigures} {rows : List (List �
 unfolding splitBook
 read-split book before read is = rw (is, rows-back book read, read .figures)
 
-pub read-shows : (press : ℕ) (book : List ℕ) (c : Colours) (sheet : List ℕ) {g : SheetFigures} {cells : List ℕ} → Numbers press book c sheet g cells → g .fault .number ≡ 0 → Shows g cells
-read-shows press book c sheet n = rw (n .figures, n .cells) shows
+pub read-shows : (press : ℕ) (book : List ℕ) (c : Colours) (sheet before : List ℕ) {g : SheetFigures} {cells : List ℕ} → Numbers press book c sheet before g cells
+    → g .fault .number ≡ 0 → Shows g cells
+read-shows press book c sheet before n = rw (n .figures, n .cells) shows
   where
-    shows : sheetOf press sheet .fault .number ≡ 0 → Shows (sheetFigures (sheetOf press sheet)) (numbersFor book c sheet (sheetOf press sheet .sheet))
+    shows : sheetOf press sheet .fault .number ≡ 0 → Shows (sheetFigures (sheetOf press sheet)) (numbersFor book c sheet (over before (sheetOf press sheet) .sheet))
     shows z =
         let k = sheet-lies press sheet z in
-        let all = numbers-room press book c sheet in
         record {
           sizes = within-more (greatest-few press) (k .within);
-          cells-room = all;
-          painted = record { all = omega (arith, k .area-few, all); low = λ i h. omega (arith, numbers-few press book c sheet i h) };
+          painted = record { all = numbers-long press book c sheet before; low = λ i h. omega (arith, numbers-few press book c sheet before i h) };
         }
 
 -- ── What is kept of a book ──
@@ -110,7 +109,7 @@ start-tells b p entries rows-some cols-some low =
 -- ── What is told ──
 
 module _ (press : ℕ) (book sheet : List ℕ) (bytes-book : Bytes book) (bytes-sheet : Bytes sheet) (split : Split) (masks : List ℕ) (from : SplitFrom book split masks)
-    (entries : List ℕ) where
+    (before entries : List ℕ) where
   abbrev f : Family
   f = bookOf book .family
 
@@ -123,19 +122,22 @@ module _ (press : ℕ) (book sheet : List ℕ) (bytes-book : Bytes book) (bytes-
   abbrev figures : SheetFigures
   figures = sheetFigures (sheetOf press sheet)
 
+  abbrev left : Sheet
+  left = over before (sheetOf press sheet) .sheet
+
   abbrev numbers : List ℕ
-  numbers = numbersFor book (f .colours) sheet g
+  numbers = numbersFor book (f .colours) sheet left
 
   serves : Serves (contentsOf book .rules) masks (split .joins)
   serves = book-serves book split masks from
 
   by-table : sheetOf press sheet .fault .number ≡ 0 → entriesNeeded p ≤ length entries
-      → judgedBy (g .size .rows) (g .size .cols) (f .start) (filledBy masks (split .joins) (numbersOf book (f .colours) sheet g) (g .size .rows) (g .size .cols) entries)
+      → judgedBy (g .size .rows) (g .size .cols) (f .start) (filledBy masks (split .joins) (numbersOf book (f .colours) sheet left) (g .size .rows) (g .size .cols) entries)
       ≡ tabled (contentsOf book) p entries
   by-table fine enough =
       let read = as-read book (from .accepted) press sheet fine bytes-book bytes-sheet in
       let k = read .sheet-keeps .within in
-      ap (judgedBy (g .size .rows) (g .size .cols) (f .start)) (whole-table read _ (cells-numbered book (from .accepted) press sheet fine) masks (split .joins) serves entries enough)
+      ap (judgedBy (g .size .rows) (g .size .cols) (f .start)) (whole-table read _ (cells-over book (from .accepted) press sheet fine before) masks (split .joins) serves entries enough)
       ∙ start-tells (contentsOf book) p entries (k .rows-some) (k .cols-some) (read .book-keeps .sound .start-fits)
 
   told : toldBy figures numbers (f .start) (split .joins) masks entries ≡ asking press book sheet entries
@@ -147,26 +149,27 @@ module _ (press : ℕ) (book sheet : List ℕ) (bytes-book : Bytes book) (bytes-
       go (yes z) (yes l) = rw (eq-eqb (sheetOf press sheet .fault .number) 0 z, lt-ltb (length entries) (entriesNeeded p) l)
       go (yes z) (no l) =
           let enough : entriesNeeded p ≤ length entries = omega arith in
-          rw (eq-eqb (sheetOf press sheet .fault .number) 0 z, le-ltb (length entries) (entriesNeeded p) enough, serves .fits, numbers-for book (f .colours) sheet g (book-places book .few))
+          rw (eq-eqb (sheetOf press sheet .fault .number) 0 z, le-ltb (length entries) (entriesNeeded p) enough, serves .fits, numbers-for book (f .colours) sheet left (book-places book .few))
           (by-table z enough)
 
   -- the whole outcome of ask_sheet, by the book alone
-  pub asked-of-book : askSheet press book split masks sheet entries ≡ sheetTold figures numbers (asking press book sheet entries)
+  pub asked-of-book : askSheet press book split masks sheet before entries ≡ sheetTold figures numbers (asking press book sheet entries)
   unfolding askSheet
   asked-of-book =
       ap (λ (x : SplitBook).
-      let cells = numbersFor book (x .split .colours) sheet g in
+      let cells = numbersFor book (x .split .colours) sheet left in
       sheetTold figures cells (toldBy figures cells (x .split .start) (split .joins) masks entries))
       (is-split book split masks from)
       ∙ ap (sheetTold figures numbers) told
 
-  pub book-asks : (r : Asked) (cells left : List ℕ) → askedWith r cells left ≡ askSheet press book split masks sheet entries → Asks press book sheet entries r cells left
-  book-asks r cells left e =
+  pub book-asks : (r : Asked) (cells work : List ℕ) → askedWith r cells work ≡ askSheet press book split masks sheet before entries
+      → Asks press book sheet before entries r cells work
+  book-asks r cells work e =
       let is = e ∙ asked-of-book in
       record {
         answers = ap (λ (x : AskedSheet). x .asked .answer) is;
         ticket = ap (λ (x : AskedSheet). x .asked .ticket) is;
         size = ap (λ (x : AskedSheet). x .asked .size) is;
-        cells-are = ap (λ (x : AskedSheet). x .cells) is ∙ numbers-for book (f .colours) sheet g (book-places book .few);
+        cells-are = ap (λ (x : AskedSheet). x .cells) is ∙ numbers-for book (f .colours) sheet left (book-places book .few);
         leaves-work = ap (λ (x : AskedSheet). x .entries) is;
       }

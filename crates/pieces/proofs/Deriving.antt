@@ -12,13 +12,14 @@ use Rattle.books.specs.Lent.{contentsOf, pictureOf}
 use Rattle.books.specs.Numbering.{numbersOf, numbersFor, Numbers}
 use Rattle.books.specs.RuleBytes.{BookInto, rulesIn}
 use Rattle.books.specs.Sheet.{sheetOf}
+use Rattle.books.specs.Size.{room}
 use Rattle.books.specs.declared.family.Family.{Family}
 use Rattle.books.specs.declared.lent.BookFigures.{BookFigures}
 use Rattle.books.specs.declared.rule.Rule.{Rule}
 use Rattle.books.specs.declared.sheet.Sheet.{Sheet}
 use Rattle.books.specs.declared.sheet.SheetFigures.{SheetFigures}
 use Rattle.books.proofs.LentRules.{rows-back}
-use Rattle.books.proofs.NumberedCells.{numbers-for}
+use Rattle.books.proofs.NumberedCells.{numbers-for, numbers-fresh}
 use Rattle.books.proofs.ReadingBooks.{book-places}
 use Rattle.pieces.specs.Derivation.{leaving, derivation}
 use Rattle.pieces.specs.Filling.{filledBy}
@@ -62,7 +63,7 @@ module _ (book : List ℕ) {b : BookFigures} {rows : List (List ℕ)} (read : Bo
 -- ── The book and the sheet ──
 
 module _ (press : ℕ) (book sheet : List ℕ) {b : BookFigures} {rows : List (List ℕ)} (read : BookInto book b rows) {s : SheetFigures} {cells : List ℕ}
-    (shown : Numbers press book (b .colours) sheet s cells) (z : b .fault .number ≡ 0) (entries numbers : List ℕ) where
+    (shown : Numbers press book (b .colours) sheet (replicate room 0) s cells) (z : b .fault .number ≡ 0) (entries numbers : List ℕ) where
   pub sheet-blamed : (s .fault .number ≡ 0 → ⊥) → derivation press book sheet entries numbers ≡ leaving (blaming 2 (s .fault)) entries numbers
   sheet-blamed n = rw (shown .figures) (sheet-second press book sheet entries numbers (rw (read .figures) at z) (rw (shown .figures) at n))
 
@@ -96,7 +97,8 @@ module _ (press : ℕ) (book sheet : List ℕ) {b : BookFigures} {rows : List (L
       numbered : Numbered book f sheet g cells
       numbered =
           let is : cells ≡ numbersOf book (f .colours) sheet g =
-          shown .cells ∙ ap (λ (x : BookFigures). numbersFor book (x .colours) sheet g) (read .figures) ∙ numbers-for book (f .colours) sheet g (book-places book .few) in
+          numbers-fresh press book (b .colours) sheet shown ∙ ap (λ (x : BookFigures). numbersFor book (x .colours) sheet g) (read .figures)
+          ∙ numbers-for book (f .colours) sheet g (book-places book .few) in
           rw is (cells-numbered book book-fine press sheet sheet-fine)
 
       abbrev pub made : List ℕ

@@ -11,7 +11,7 @@ use Rattle.books.specs.Picture.{Picture}
 use Rattle.books.specs.Lent.{contentsOf, lentSheet}
 use Rattle.books.specs.Decide.{derives?}
 use Rattle.books.specs.Book.{bookOf}
-use Rattle.books.specs.Sheet.{sheetOf, sheetFigures}
+use Rattle.books.specs.Sheet.{sheetOf, over, sheetFigures}
 use Rattle.books.specs.Numbering.{numbersOf, numbersFor}
 use Rattle.books.specs.Answer.{plain, blaming}
 use Rattle.books.specs.declared.answer.Answer.{Answer}
@@ -82,11 +82,11 @@ askedWith r cells entries = record { asked = r; cells = cells; entries = entries
 abbrev pub sheetTold : SheetFigures → List ℕ → Asking → AskedSheet
 sheetTold g cells a = askedWith (record { answer = a .answer; ticket = g .ticket; size = g .size }) cells (a .entries)
 
--- a sheet whose cells are numbered by the colours kept; of what is told the masks change the answer 0 or 11 alone
-unfoldable pub askSheet : ℕ → List ℕ → Split → List ℕ → List ℕ → List ℕ → AskedSheet
-askSheet press book split masks sheet entries =
+-- a sheet whose cells are numbered by the colours kept, over what stood in their array; of what is told the masks change the answer 0 or 11 alone
+unfoldable pub askSheet : ℕ → List ℕ → Split → List ℕ → List ℕ → List ℕ → List ℕ → AskedSheet
+askSheet press book split masks sheet before entries =
     let g = sheetFigures (sheetOf press sheet) in
-    let cells = numbersFor book (split .colours) sheet (sheetOf press sheet .sheet) in
+    let cells = numbersFor book (split .colours) sheet (over before (sheetOf press sheet) .sheet) in
     sheetTold g cells (toldBy g cells (split .start) (split .joins) masks entries)
 
 -- ── A sheet by a book ──
@@ -109,9 +109,9 @@ pub record SplitFrom (book : List ℕ) (split : Split) (masks : List ℕ) : Type
   pub is : keptWith split masks ≡ splitBook book before
 
 -- by these a sheet is told what asking the book says; its cells have the numbers of their colours in the book
-pub record Asks (press : ℕ) (book sheet entries : List ℕ) (r : Asked) (cells left : List ℕ) : Type 0 where
+pub record Asks (press : ℕ) (book sheet before entries : List ℕ) (r : Asked) (cells left : List ℕ) : Type 0 where
   pub answers : r .answer ≡ asking press book sheet entries .answer
   pub ticket : r .ticket ≡ sheetOf press sheet .sheet .ticket
   pub size : r .size ≡ sheetOf press sheet .sheet .size
-  pub cells-are : cells ≡ numbersOf book (bookOf book .family .colours) sheet (sheetOf press sheet .sheet)
+  pub cells-are : cells ≡ numbersOf book (bookOf book .family .colours) sheet (over before (sheetOf press sheet) .sheet)
   pub leaves-work : left ≡ asking press book sheet entries .entries

@@ -126,7 +126,7 @@ pub fn ask_sheet(
     work: &mut [u32],
 ) -> Asked
     ensures { λ r. ⌜ askedWith r (now (cells .exit)) (now (work .exit))
-        ≡ askSheet press (now (book .entry)) split (now (masks .entry)) (now (sheet .entry)) (now (work .entry)) ⌝ }
+        ≡ askSheet press (now (book .entry)) split (now (masks .entry)) (now (sheet .entry)) (now (cells .entry)) (now (work .entry)) ⌝ }
 {
     let c = split.colours;
     let s = number_sheet(press, book, c.count, &c.starts, &c.lens, sheet, cells);

@@ -5,7 +5,7 @@ use mathlib.Core.Path.{_≡_, ap, _∙_}
 use mathlib.Core.List.{List}
 use native.Mathlib.Omega.{arith}
 use borrow.Author.Tests.{lt-ltb, le-ltb}
-use lib.ListN.{length, take}
+use lib.ListN.{length, take, replicate}
 use Rattle.names.specs.Bytes.{Bytes}
 use Rattle.names.specs.Pick.{pick}
 use Rattle.books.specs.Answer.{plain, blaming}
@@ -25,7 +25,7 @@ use Rattle.books.specs.declared.sheet.SheetFigures.{SheetFigures}
 use Rattle.books.proofs.AlikeSearches.{found-alike}
 use Rattle.books.proofs.LentEnds.{book-refused-first, sheet-refused-second, both-go-on}
 use Rattle.books.proofs.LentRules.{rows-back}
-use Rattle.books.proofs.NumberedCells.{numbers-for, numbers-room}
+use Rattle.books.proofs.NumberedCells.{numbers-for, numbers-fresh, fresh-room}
 use Rattle.books.proofs.Presses.{greatest-few}
 use Rattle.books.proofs.ReadingBooks.{book-places}
 use Rattle.books.proofs.ReadingSheets.{sheet-lies}
@@ -48,7 +48,7 @@ module _ (press : ℕ) (book sheet : List ℕ) {b : BookFigures} {rows : List (L
   book-blamed n =
       rw (read .figures) (book-refused-first book (λ a. a) 1 (λ c. lentSheet press 2 sheet (λ a. a) (λ p. searched c p)) (rw (read .figures) at n))
 
-  module _ {s : SheetFigures} {cells : List ℕ} (shown : Numbers press book (b .colours) sheet s cells) (z : b .fault .number ≡ 0) where
+  module _ {s : SheetFigures} {cells : List ℕ} (shown : Numbers press book (b .colours) sheet (replicate room 0) s cells) (z : b .fault .number ≡ 0) where
     abbrev f : Family
     f = bookOf book .family
 
@@ -63,7 +63,7 @@ module _ (press : ℕ) (book sheet : List ℕ) {b : BookFigures} {rows : List (L
     sheet-blamed n = rw (shown .figures) (sheet-refused-second book (λ a. a) press sheet searched book-fine (rw (shown .figures) at n))
 
     pub cells-room : length cells ≡ room
-    cells-room = rw (shown .cells) (numbers-room press book (b .colours) sheet)
+    cells-room = fresh-room press book (b .colours) sheet shown
 
     module _ (y : s .fault .number ≡ 0) where
       fine : Accepted press book sheet
@@ -91,7 +91,8 @@ module _ (press : ℕ) (book sheet : List ℕ) {b : BookFigures} {rows : List (L
       module _ (bytes-book : Bytes book) (bytes-sheet : Bytes sheet) where
         numbered : cells ≡ numbersOf book (f .colours) sheet g
         numbered =
-            shown .cells ∙ ap (λ (x : BookFigures). numbersFor book (x .colours) sheet g) (read .figures) ∙ numbers-for book (f .colours) sheet g (book-places book .few)
+            numbers-fresh press book (b .colours) sheet shown ∙ ap (λ (x : BookFigures). numbersFor book (x .colours) sheet g) (read .figures)
+            ∙ numbers-for book (f .colours) sheet g (book-places book .few)
 
         found-sheet : found (rulesIn (take (b .rules) rows)) (s .size) cells (b .start) (whole (s .size .rows) (s .size .cols))
             ≡ derives? (contentsOf book) (f .start) (pictureOf press sheet)

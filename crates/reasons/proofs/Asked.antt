@@ -98,7 +98,7 @@ module _ (press : ℕ) (book sheet entries : List ℕ) (w : WhyNot) (a : Answer)
       rw (book-first press book sheet entries (λ z. n (ap (λ (x : Fault). x .number) read ∙ z)))
       (record { answers = ap (λ (x : WhyNot). x .answer) told ∙ e ∙ ap (blaming 1) read; reasons = ap (λ (x : WhyNot). x .reason) told; leaves = refl })
 
-  module _ (left : List ℕ) (r : Asked) (cells : List ℕ) (asks : Asks press book sheet entries r cells left) (book-fine : bookOf book .fault .number ≡ 0) where
+  module _ (left : List ℕ) (r : Asked) {before cells : List ℕ} (asks : Asks press book sheet before entries r cells left) (book-fine : bookOf book .fault .number ≡ 0) where
     number-asked : (n : ℕ) → r .answer .number ≡ n → asking press book sheet entries .answer .number ≡ n
     number-asked n e = sym (ap (λ (x : Answer). x .number) (asks .answers)) ∙ e
 
@@ -117,7 +117,7 @@ module _ (press : ℕ) (book sheet entries : List ℕ) (w : WhyNot) (a : Answer)
 
 -- ── The reason that the code finds ──
 
-module _ (press : ℕ) (book sheet entries left : List ℕ) (r : Asked) (cells : List ℕ) (asks : Asks press book sheet entries r cells left)
+module _ (press : ℕ) (book sheet entries left : List ℕ) (r : Asked) {before cells : List ℕ} (asks : Asks press book sheet before entries r cells left)
     (book-fine : bookOf book .fault .number ≡ 0) (eleven : r .answer .number ≡ 11) where
   called : Called press book sheet entries (whyNot press book sheet entries) (asking press book sheet entries)
   called = follows press book sheet entries book-fine .eleven (sym (ap (λ (x : Answer). x .number) (asks .answers)) ∙ eleven)

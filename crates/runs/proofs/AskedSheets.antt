@@ -14,7 +14,7 @@ use Rattle.names.specs.Bytes.{Bytes}
 use Rattle.books.specs.Book.{bookOf}
 use Rattle.books.specs.Derives.{Member}
 use Rattle.books.specs.Lent.{contentsOf, pictureOf, Accepted}
-use Rattle.books.specs.Sheet.{sheetOf}
+use Rattle.books.specs.Sheet.{sheetOf, over}
 use Rattle.books.specs.declared.answer.Answer.{Answer}
 use Rattle.books.proofs.NumberedCells.{numbers-all, sheet-cells}
 use Rattle.books.proofs.Packing.{ticket-packs}
@@ -66,7 +66,7 @@ module _ (press : ℕ) (book sheet work : List ℕ) (fine : bookOf book .fault .
           (table-length (contentsOf book) (pictureOf press sheet)) (table-fits press sheet z)
       go (no n) = ap (λ (a : Asking). drop (workRoom press) (a .entries)) (sheet-first press book sheet work n)
 
-  module _ (bytes : Bytes book) (r : Asked) (cells left : List ℕ) (asks : Asks press book sheet work r cells left) where
+  module _ (bytes : Bytes book) (before : List ℕ) (r : Asked) (cells left : List ℕ) (asks : Asks press book sheet before work r cells left) where
     abbrev area : ℕ
     area = areaOf (r .size)
 
@@ -78,7 +78,7 @@ module _ (press : ℕ) (book sheet work : List ℕ) (fine : bookOf book .fault .
       derived = accepted-exactly press book sheet .0 (sym number-is ∙ zero-is)
 
       low : (i : ℕ) → i < area → getD cells i 0 < mostColours
-      low = rw (asks .size, asks .cells-are) (numbers-low press book sheet bytes (derived .0) (derived .1))
+      low = rw (asks .size, asks .cells-are) (numbers-low press book sheet bytes (derived .0) (derived .1) before)
 
       taken-low : Low (take area cells)
       taken-low i h =
@@ -86,18 +86,18 @@ module _ (press : ℕ) (book sheet work : List ℕ) (fine : bookOf book .fault .
           omega (arith, getD-take area cells i 0 inside, low i inside)
 
       shows : (c : ℕ) → showing press book c sheet ≡ howMany (λ (x : ℕ). eqb x c) (take area cells)
-      shows = rw (asks .size, asks .cells-are) (showing-numbers press book sheet bytes (derived .0) (derived .1))
+      shows = rw (asks .size, asks .cells-are) (showing-numbers press book sheet bytes (derived .0) (derived .1) before)
 
     pub addable : (f : List ℕ) → Spare mostAdded f → Addable r cells f
     addable f spare =
-        let g = sheet-cells press sheet in
+        let g = sheet-cells before press sheet in
         let few = rw (← asks .size) at (g .area-few) in
-        let all = ap length (asks .cells-are) ∙ numbers-all book (bookOf book .family .colours) sheet (sheetOf press sheet .sheet) (g .area-few) (g .cells-all) in
+        let all = ap length (asks .cells-are) ∙ numbers-all book (bookOf book .family .colours) sheet (over before (sheetOf press sheet) .sheet) (g .cells-all) in
         record {
           counted = rw number-is (count-low (answerOf press book sheet) (answer-listed press book sheet fine));
           spare = spare;
           area-few = few;
-          cells-all = omega arith;
+          cells-all = rw (asks .size) (omega (arith, g .cells-all, all));
           cells-low = low;
           ticket-fits = omega (arith, asks .ticket, ticket-packs press sheet .count-fits);
         }

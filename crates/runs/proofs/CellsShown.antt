@@ -17,18 +17,17 @@ use Rattle.names.proofs.ReadingColours.{names-count, name-at}
 use Rattle.names.specs.Bytes.{Bytes}
 use Rattle.names.proofs.Tests.{both-ways}
 use Rattle.books.specs.Book.{bookOf}
-use Rattle.books.specs.Cells.{noCells}
 use Rattle.books.specs.Contents.{Contents}
 use Rattle.books.specs.ContentsIn.{contentsIn}
 use Rattle.books.specs.Decide.{called?}
 use Rattle.books.specs.Derives.{Member}
 use Rattle.books.specs.Numbering.{numberOf, numbersOf}
-use Rattle.books.specs.Sheet.{sheetOf}
+use Rattle.books.specs.Sheet.{sheetOf, over}
 use Rattle.books.specs.declared.family.Family.{Family}
 use Rattle.books.specs.declared.sheet.Sheet.{Sheet}
 use Rattle.books.proofs.CellsCalled.{cells-listed}
 use Rattle.books.proofs.Deciding.{called}
-use Rattle.books.proofs.NumberedCells.{number-at}
+use Rattle.books.proofs.NumberedCells.{over-is, over-long, over-at, number-at}
 use Rattle.books.proofs.ReadingBooks.{book-accepted}
 use Rattle.books.proofs.ReadingSheets.{SheetLies, sheet-lies}
 use Rattle.books.specs.Lent.{pictureOf, Accepted, contentsOf}
@@ -96,20 +95,30 @@ module _ (press : ℕ) (book sheet : List ℕ) (bytes : Bytes book) (fine : Acce
       let low : x < g .colours .count = omega (arith, getD-take area (g .cells) i 0 h, lies .cells-fit i h) in
       find-listed book (f .colours) _ (omega (arith, ok .few, names-count book (f .colours))) ∙ ap (listed (b .colours)) (sym (name-at sheet (g .colours) x low))
 
-  pub numbers-low : (i : ℕ) → i < area → getD (numbersOf book (f .colours) sheet g) i 0 < mostColours
-  numbers-low i h =
-      let number =
-      number-at book (f .colours) sheet g i h (omega (arith, lies .area-few, lies .cells-all))
-      ∙ ap numbers (sym (getD-take area (g .cells) i 0 h)) ∙ cell-number i h in
-      omega (arith, number, listed-found (b .colours) (names (getD cells i 0)) (cell-listed i h) .0, ok .few)
+  -- the numbers stand first in an array, whatever it held
+  module _ (before : List ℕ) where
+    abbrev left : Sheet
+    left = over before (sheetOf press sheet) .sheet
 
-  numbers-are : map numbers cells ≡ take area (numbersOf book (f .colours) sheet g)
-  numbers-are = sym (take-at (map numbers cells) (drop area noCells) area (length-map cells numbers ∙ cells-long))
+    left-first : take area (left .cells) ≡ cells
+    left-first = ap (take area) (over-is before press sheet (fine .sheet-fine)) ∙ take-at cells (drop area before) area cells-long
 
-  pub showing-numbers : (c : ℕ) → showing press book c sheet ≡ howMany (λ (x : ℕ). eqb x c) (take area (numbersOf book (f .colours) sheet g))
-  unfolding showing
-  showing-numbers c =
-      how-many-same (called? b c) (λ (x : ℕ). eqb x c) names numbers cells
-      (λ i h. let low : i < area = omega (arith, cells-long) in
-      called-number b (ok .distinct) (names (getD cells i 0)) (cell-listed i low) c ∙ ap (λ (k : ℕ). eqb k c) (sym (cell-number i low)))
-      ∙ ap (howMany (λ (x : ℕ). eqb x c)) numbers-are
+    pub numbers-low : (i : ℕ) → i < area → getD (numbersOf book (f .colours) sheet left) i 0 < mostColours
+    numbers-low i h =
+        let number =
+        number-at book (f .colours) sheet left i h (over-long before press sheet (fine .sheet-fine))
+        ∙ ap numbers (over-at before press sheet (fine .sheet-fine) i h ∙ sym (getD-take area (g .cells) i 0 h)) ∙ cell-number i h in
+        omega (arith, number, listed-found (b .colours) (names (getD cells i 0)) (cell-listed i h) .0, ok .few)
+
+    numbers-are : map numbers cells ≡ take area (numbersOf book (f .colours) sheet left)
+    numbers-are =
+        let long = length-map (take area (left .cells)) numbers ∙ ap length left-first ∙ cells-long in
+        ap (map numbers) (sym left-first) ∙ sym (take-at (map numbers (take area (left .cells))) (drop area (left .cells)) area long)
+
+    pub showing-numbers : (c : ℕ) → showing press book c sheet ≡ howMany (λ (x : ℕ). eqb x c) (take area (numbersOf book (f .colours) sheet left))
+    unfolding showing
+    showing-numbers c =
+        how-many-same (called? b c) (λ (x : ℕ). eqb x c) names numbers cells
+        (λ i h. let low : i < area = omega (arith, cells-long) in
+        called-number b (ok .distinct) (names (getD cells i 0)) (cell-listed i low) c ∙ ap (λ (k : ℕ). eqb k c) (sym (cell-number i low)))
+        ∙ ap (howMany (λ (x : ℕ). eqb x c)) numbers-are

@@ -36,7 +36,7 @@ showing-few press book c sheet =
     let area = g .size .rows * g .size .cols in
     let few = how-many-le (called? (contentsOf book) c) (namesShown (gridIn sheet g)) in
     let cells = length-map (take area (g .cells)) (λ k. getD (namesIn sheet (g .colours)) k []) in
-    omega (arith, few, cells, length-take area (g .cells), sheet-cells press sheet .area-few)
+    omega (arith, few, cells, length-take area (g .cells), sheet-cells [] press sheet .area-few)
 
 cells-few : (press : ℕ) (book : List ℕ) (l : List (List ℕ)) (c : ℕ) → cellsOf press book l c ≤ length l * room
 unfolding cellsOf accepted howMany

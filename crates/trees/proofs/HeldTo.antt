@@ -6,16 +6,17 @@ use mathlib.Core.Logic.{⊎-elim}
 use native.Mathlib.Omega.{arith}
 use borrow.Author.Tests.{eqb-true, eqb-false, eq-eqb, ne-eqb}
 use lib.Dec.{eqb}
-use lib.ListN.{length}
+use lib.ListN.{length, replicate}
 use Rattle.names.proofs.Tests.{true-or-false}
 use Rattle.books.specs.Answer.{blaming}
 use Rattle.books.specs.Book.{bookOf}
 use Rattle.books.specs.Numbering.{Numbers}
+use Rattle.books.specs.Size.{room}
 use Rattle.books.specs.Sheet.{sheetOf}
 use Rattle.books.specs.declared.answer.Answer.{Answer}
 use Rattle.books.specs.declared.book.BookRead.{BookRead}
 use Rattle.books.specs.declared.sheet.SheetFigures.{SheetFigures}
-use Rattle.books.proofs.NumberedCells.{numbers-room}
+use Rattle.books.proofs.NumberedCells.{numbers-room, numbers-fresh}
 use Rattle.books.proofs.ReadingBooks.{book-count, book-size}
 use Rattle.books.proofs.Presses.{greatest-few}
 use Rattle.books.proofs.ReadingSheets.{sheet-lies, sheet-refused}
@@ -27,7 +28,7 @@ use Rattle.trees.specs.declared.node.Node.{Node}
 use Rattle.trees.specs.inner.Held.{heldTo, HeldFine, ended16, judgedHeld, heldAnswer}
 
 pub held-made : (press : ℕ) (book sheet : List ℕ) {b : BookRead} {s : SheetFigures} {cells : List ℕ} → b ≡ bookOf book
-    → Numbers press book (b .family .colours) sheet s cells
+    → Numbers press book (b .family .colours) sheet (replicate room 0) s cells
     → _≡_ {A = Held} (record {
       book = b .fault;
       sheet = s .fault;
@@ -38,7 +39,7 @@ pub held-made : (press : ℕ) (book sheet : List ℕ) {b : BookRead} {s : SheetF
       cells = cells;
     }) (heldTo press book sheet)
 unfolding heldTo
-held-made press book sheet read shown = rw (shown .cells, shown .figures, read)
+held-made press book sheet {b = b} read shown = rw (numbers-fresh press book (b .family .colours) sheet shown, shown .figures, read)
 
 pub held-size : (press : ℕ) (book sheet : List ℕ) → (heldTo press book sheet .size .rows ≤ most) × (heldTo press book sheet .size .cols ≤ most)
 unfolding heldTo

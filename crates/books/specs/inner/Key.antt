@@ -16,7 +16,7 @@ pub record Key (book : List ℕ) (c : Colours) (sheet : List ℕ) (d : Colours) 
 -- the first n cells are numbers of so many colours
 pub record CellsFit (colours n : ℕ) (cells : List ℕ) : Type 0 where
   pub few : n ≤ room
-  pub all : length cells ≡ room
+  pub all : n ≤ length cells
   pub fit : (i : ℕ) → i < n → getD cells i 0 < colours
 
 -- the first n cells get new numbers

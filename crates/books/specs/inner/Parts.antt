@@ -19,4 +19,5 @@ pub record CellsInto (c : CellsRead) (r : CellsEnd) (numbers : List ℕ) : Type 
 pub record Fillable (g : SheetFigures) : Type 0 where
   pub fine : g .fault ≡ fault 0 0
   pub colours-few : g .colours ≤ mostColours
+  pub area-some : 1 ≤ g .size .rows * g .size .cols
   pub area-few : g .size .rows * g .size .cols ≤ room

@@ -4,7 +4,6 @@ use mathlib.Core.Path.{_≡_}
 use mathlib.Core.List.{List}
 use lib.ListN.{length, getD}
 use Rattle.books.specs.Keeps.{mostRules}
-use Rattle.books.specs.Size.{room}
 use Rattle.books.specs.Size.{Within}
 use Rattle.books.specs.declared.sheet.SheetFigures.{SheetFigures}
 use Rattle.books.specs.declared.size.Size.{Size}
@@ -32,5 +31,4 @@ pub record Paintable (cells : List ℕ) (count : ℕ) : Type 0 where
 -- the figures of a sheet with no fault, and the numbers of its cells
 pub record Shows (g : SheetFigures) (cells : List ℕ) : Type 0 where
   pub sizes : Within most (g .size .rows) (g .size .cols)
-  pub cells-room : length cells ≡ room
   pub painted : Paintable cells (g .size .rows * g .size .cols)

@@ -5,19 +5,18 @@ use Prim.Native.Nat.{_≤_, _-_}
 use mathlib.Core.Path.{_≡_, _∙_, refl, sym}
 use Rattle.names.proofs.Count.{left-suc, left-all, left-none}
 use Rattle.names.proofs.ReadingNumbers.{number-below}
-use Rattle.books.specs.Cells.{noCells, cellsOnward, cellsAt}
+use Rattle.books.specs.Cells.{cellsOnward}
 use Rattle.books.proofs.SheetInParts.{cells-told}
 use Rattle.books.proofs.cells.read_cells.Statement.{statement}
 use Rattle.books.proofs.cells.read_cells.Tie as tie
 
 abbrev Inv-loop : tie.InvT-loop
-Inv-loop s from colours count cells₀ at₀ i₀ cells at i = (i ≤ count) × (cellsOnward s colours cells i at (count - i) ≡ cellsAt s colours from count)
+Inv-loop s from colours count cells₀ at₀ i₀ cells at i = (i ≤ count) × (cellsOnward s colours cells i at (count - i) ≡ cellsOnward s colours cells₀ 0 from count)
 
 abbrev μ-loop : tie.MeasureT-loop
 μ-loop s from colours count cells₀ at₀ i₀ cells at i = count - i
 
 loop-holds : tie.Need-loop-holds Inv-loop μ-loop
-unfolding cellsAt noCells
 loop-holds c = (omega arith, simp left-all)
 
 returns : tie.Need-returns Inv-loop μ-loop

@@ -16,7 +16,7 @@ use Rattle.names.proofs.ReadingColours.{Places}
 use Rattle.books.specs.Cells.{noCells}
 use Rattle.books.specs.Numbering.{numberOf, numbersFor}
 use Rattle.books.specs.inner.Key.{Key}
-use Rattle.books.specs.Sheet.{sheetOf}
+use Rattle.books.specs.Sheet.{sheetOf, over}
 use Rattle.books.specs.declared.sheet.SheetRead.{SheetRead}
 use Rattle.books.proofs.NumberedCells.{SheetFits, sheet-cells, numbers-for, key-numbers}
 use Rattle.books.proofs.ReadingSheets.{sheet-places}
@@ -38,11 +38,11 @@ began c = c .before .before .before .before .before .before
 abbrev seen : tie.After-read-sheet-into Inv-loop μ-loop → SheetRead
 seen c = let r = c .read-sheet-into in together (r .result) (r .last .1 .1 .0) (r .last .1 .1 .1 .0) (r .last .1 .1 .1 .1 .0)
 
-seen-is : (c : tie.After-read-sheet-into Inv-loop μ-loop) → seen c ≡ sheetOf (began c .args .press) (now (began c .args .sheet))
+seen-is : (c : tie.After-read-sheet-into Inv-loop μ-loop) → let a = began c .args in seen c ≡ over (now (a .cells)) (sheetOf (a .press) (now (a .sheet)))
 seen-is c = sheet-whole (c .read-sheet-into .ensures)
 
 fits : (c : tie.After-read-sheet-into Inv-loop μ-loop) → SheetFits (seen c .sheet)
-fits c = subst (λ (r : SheetRead). SheetFits (r .sheet)) (sym (seen-is c)) (sheet-cells (began c .args .press) (now (began c .args .sheet)))
+fits c = subst (λ (r : SheetRead). SheetFits (r .sheet)) (sym (seen-is c)) (let a = began c .args in sheet-cells (now (a .cells)) (a .press) (now (a .sheet)))
 
 places : (c : tie.After-read-sheet-into Inv-loop μ-loop) → Places (now (began c .args .sheet)) (seen c .sheet .colours)
 places c = subst (λ (r : SheetRead). Places (now (began c .args .sheet)) (r .sheet .colours)) (sym (seen-is c)) (sheet-places (began c .args .press) (now (began c .args .sheet)))

@@ -2,6 +2,7 @@
 use borrow.Author.Tests.{eq-eqb, ne-eqb}
 use borrow.Author.Needs.{needs}
 use mathlib.Core.Path.{_≡_, _∙_, sym}
+use native.Mathlib.Nat.{mul-pos}
 use denote.Ref.{now}
 use Rattle.names.specs.Number.{numberAt}
 use Rattle.names.specs.declared.number.Read.the-variants.{Value}
@@ -42,6 +43,7 @@ fill-sheet-requires c κs =
     record {
       fine = l .fault ∙ colours-lie _ (rw (l .fault) at (n .before .if1 .left)) .fine;
       colours-few = rw (l .count) (colours-places _ .few);
+      area-some = mul-pos (size .within .rows-some) (size .within .cols-some);
       area-few = within-room (list n .before .before .before .before .args .press) (rw (z .before .greatest .ensures) at (size .within));
     }
 

@@ -15,7 +15,7 @@ tell-requires : tie.Need-tell-requires
 tell-requires c κs =
     let n = c .before .before in
     let a = began n .args in
-    read-shows (a .press) (now (a .book)) (a .split .colours) (now (a .sheet)) (n .number-sheet .ensures)
+    read-shows (a .press) (now (a .book)) (a .split .colours) (now (a .sheet)) (now (a .cells)) (n .number-sheet .ensures)
 
 returns : tie.Need-returns
 unfolding askSheet

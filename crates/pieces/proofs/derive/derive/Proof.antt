@@ -8,7 +8,9 @@ use lib.Seq.{length-take-le}
 use denote.Ref.{now}
 use Rattle.names.specs.Bytes.{Bytes}
 use Rattle.books.specs.Answer.{plain}
+use Rattle.books.specs.Size.{room}
 use Rattle.books.proofs.LentRules.{rows-held}
+use Rattle.books.proofs.NumberedCells.{fresh-room}
 use Rattle.pieces.specs.inner.ForTable.{Shows}
 use Rattle.pieces.specs.inner.Verdict.{lacking}
 use Rattle.pieces.proofs.AskingSheets.{read-shows}
@@ -51,7 +53,10 @@ abbrev cells : tie.After-number-sheet → List ℕ
 cells n = n .number-sheet .last .1 .1 .1 .1 .1 .1 .0
 
 sheet-shows : (n : tie.After-number-sheet) → n .number-sheet .result .fault .number ≡ 0 → Shows (n .number-sheet .result) (cells n)
-sheet-shows n = let a = began (book-read n) .args in read-shows 0 (now (a .book)) _ (now (a .sheet)) (n .number-sheet .ensures)
+sheet-shows n = let a = began (book-read n) .args in read-shows 0 (now (a .book)) _ (now (a .sheet)) _ (n .number-sheet .ensures)
+
+cells-room : (n : tie.After-number-sheet) → length (cells n) ≡ room
+cells-room n = let a = began (book-read n) .args in fresh-room 0 (now (a .book)) _ (now (a .sheet)) (n .number-sheet .ensures)
 
 held : (r : tie.After-read-rules) → r .read-rules .result .rules ≤ length (r .read-rules .last .1 .0)
 held r = rows-held (now (began r .args .book)) (r .read-rules .ensures)
@@ -157,11 +162,11 @@ derive-spec =
     (λ c. search needs)
     split-requires
     (λ c. search needs)
-    (λ c. let p = c .before .before .before in sym (sheet-shows (sheet-read (tested p)) (sheet-fine p) .cells-room))
+    (λ c. let p = c .before .before .before in sym (cells-room (sheet-read (tested p))))
     fill-from-requires
     (λ c. held (book-read (sheet-read (tested (rules-split (c .before .before))))))
     (λ c. sym (length-take-le _ _ (held (book-read (sheet-read (tested (rules-split (c .before .before .before))))))))
-    (λ c. let p = rules-split (c .before .before .before .before .before) in sym (sheet-shows (sheet-read (tested p)) (sheet-fine p) .cells-room))
+    (λ c. let p = rules-split (c .before .before .before .before .before) in sym (cells-room (sheet-read (tested p))))
     judge-requires
     (λ c κs. search needs)
     (λ c. search needs)

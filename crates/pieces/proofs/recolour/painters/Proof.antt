@@ -4,9 +4,10 @@ use mathlib.Core.List.{List}
 use Prim.Native.Nat.{ℕ, _+_, _≤_}
 use native.Mathlib.Omega.{arith}
 use denote.Ref.{now}
-use lib.ListN.{getD}
+use lib.ListN.{getD, replicate}
 use Rattle.names.specs.Spelling.{mostColours}
-use Rattle.books.proofs.NumberedCells.{numbers-few}
+use Rattle.books.specs.Size.{room}
+use Rattle.books.proofs.NumberedCells.{numbers-fresh, numbers-few}
 use Rattle.books.proofs.ReadingSheets.{sheet-lies}
 use Rattle.pieces.specs.Masks.{paintersFrom}
 use Rattle.pieces.specs.inner.Refill.{paintersOf}
@@ -25,7 +26,7 @@ few : (n : tie.After-number-sheet) → getD (cells n) (began n .args .at) 0 ≤ 
 few n =
     let s = began n in
     subst (λ (l : List ℕ). getD l (s .args .at) 0 ≤ mostColours) (sym (n .number-sheet .ensures .cells))
-    (numbers-few 0 (now (s .args .book)) (s .args .split .colours) (now (s .args .sheet)) (s .args .at) (s .pre .cell))
+    (numbers-few 0 (now (s .args .book)) (s .args .split .colours) (now (s .args .sheet)) (replicate room 0) (s .args .at) (s .pre .cell))
 
 array-read-result : tie.Need-array-read-result
 array-read-result c = let s = began c in omega (arith, s .pre .cell, sheet-lies 0 (now (s .args .sheet)) (s .pre .accepted) .area-few)
@@ -47,7 +48,8 @@ unfolding paintersOf
 returns c =
     let n = c .before in
     let a = began n .args in
-    ap (λ (l : List ℕ). getD (now (a .masks)) (paintersFrom + getD l (a .at) 0) 0) (n .number-sheet .ensures .cells)
+    ap (λ (l : List ℕ). getD (now (a .masks)) (paintersFrom + getD l (a .at) 0) 0)
+    (numbers-fresh 0 (now (a .book)) (a .split .colours) (now (a .sheet)) (n .number-sheet .ensures))
 
 pub painters-spec : {M : Type 1} → statement M
 painters-spec =

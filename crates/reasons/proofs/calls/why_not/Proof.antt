@@ -3,7 +3,9 @@ use mathlib.Core.Path.{_≡_, refl, sym, ap, _∙_}
 use denote.Ref.{now}
 use Rattle.names.specs.declared.number.Fault.{Fault}
 use Rattle.names.specs.Bytes.{Bytes}
+use lib.ListN.{replicate}
 use Rattle.books.specs.Book.{bookOf}
+use Rattle.books.specs.Size.{room}
 use Rattle.pieces.specs.Asking.{Asks}
 use Rattle.pieces.proofs.AskingSheets.{kept-fault, kept-from, book-asks}
 use Rattle.reasons.proofs.Asked.{told-faulty, told-in, told-refused, sizes-asked, room-asked, told-reason}
@@ -26,11 +28,11 @@ fine : (a : tie.After-ask-sheet) → bookOf (now (began (split a) .args .book)) 
 fine a = sym (ap (λ (f : Fault). f .number) (kept-fault _ _ (split a .split-book .ensures))) ∙ a .before .before .before .before .if1 .left
 
 asks : (a : tie.After-ask-sheet) → let s = began (split a) .args in
-    Asks 0 (now (s .book)) (now (s .sheet)) (now (s .work)) (a .ask-sheet .result) (a .ask-sheet .last .1 .1 .1 .1 .1 .0) (a .ask-sheet .last .1 .1 .1 .1 .1 .1 .0)
+    Asks 0 (now (s .book)) (now (s .sheet)) (replicate room 0) (now (s .work)) (a .ask-sheet .result) (a .ask-sheet .last .1 .1 .1 .1 .1 .0) (a .ask-sheet .last .1 .1 .1 .1 .1 .1 .0)
 asks a =
     let k = split a in
     let from = kept-from _ _ (k .split-book .ensures) (a .before .before .before .before .if1 .left) refl in
-    book-asks 0 _ _ (book-bytes k) (λ i. k .before .before .before .shared-slice-known2 .given i .fits) _ _ from _ _ _ _ (a .ask-sheet .ensures)
+    book-asks 0 _ _ (book-bytes k) (λ i. k .before .before .before .shared-slice-known2 .given i .fits) _ _ from _ _ _ _ _ (a .ask-sheet .ensures)
 
 returns : tie.Need-returns
 returns c =
@@ -40,25 +42,25 @@ returns c =
 returns-2 : tie.Need-returns-2
 returns-2 c =
     let a = c .before .before .before .before .before .before in
-    told-in 0 _ _ _ _ _ (c .unexplained2 .ensures) _ _ _ (asks a) (fine a) (c .before .before .if2 .taken) (c .before .unblamed .ensures)
+    told-in 0 _ _ _ _ _ (c .unexplained2 .ensures) _ _ (asks a) (fine a) (c .before .before .if2 .taken) (c .before .unblamed .ensures)
 
 returns-3 : tie.Need-returns-3
 returns-3 c =
     let a = c .before .before .before .before .before .before .before in
-    told-refused 0 _ _ _ _ _ (c .unexplained3 .ensures) _ _ _ (asks a) (fine a) (c .before .before .before .if2 .left) (c .before .if3 .taken) refl
+    told-refused 0 _ _ _ _ _ (c .unexplained3 .ensures) _ _ (asks a) (fine a) (c .before .before .before .if2 .left) (c .before .if3 .taken) refl
 
 reason-requires : tie.Need-reason-requires
 reason-requires c κs =
     let f = c .before .before .before in
     let a = f .before .before .before .before .before .before in
-    (sizes-asked 0 _ _ _ _ _ _ (asks a) (fine a) (f .if3 .left), room-asked 0 _ _ _ _ _ _ (asks a) (fine a) (f .if3 .left))
+    (sizes-asked 0 _ _ _ _ _ (asks a) (fine a) (f .if3 .left), room-asked 0 _ _ _ _ _ (asks a) (fine a) (f .if3 .left))
 
 returns-4 : tie.Need-returns-4
 returns-4 c =
     let f = c .before .before .before .before in
     let a = f .before .before .before .before .before .before in
     let from = kept-from _ _ (split a .split-book .ensures) (a .before .before .before .before .if1 .left) refl in
-    told-reason 0 _ _ _ _ _ _ (asks a) (fine a) (f .if3 .left) (book-bytes (split a)) _ _ from
+    told-reason 0 _ _ _ _ _ (asks a) (fine a) (f .if3 .left) (book-bytes (split a)) _ _ from
     _ (c .before .before .before .unblamed2 .ensures) _ (c .reason .ensures)
 
 pub why-not-spec : {M : Type 1} → statement M
