@@ -2,9 +2,10 @@
 // the family and how it is made up or why not, and, where a second book is given, joins the two families, tidied where
 // they are too much for one book. Rows, columns and bytes are counted from 1, as people do.
 //
-//     example BOOK SHEET [SECOND-BOOK]
+//     example [--wide] BOOK SHEET [SECOND-BOOK]
 //
-// Exits with 0 where the sheet belongs to the family, 1 where it does not, and 2 where something is refused.
+// With --wide the sheet is for the wide press. Exits with 0 where the sheet belongs to the family, 1 where it does not,
+// and 2 where something is refused.
 #include <druvelstek.h>
 #include <stdio.h>
 #include <stdlib.h>
@@ -12,12 +13,14 @@
 
 enum { BELONGS = 0, DECLINED = 1, REFUSED = 2 };
 
-static uint8_t book[DV_LONGEST_BOOK + 1], second[DV_LONGEST_BOOK + 1], sheet[DV_LONGEST_SHEET + 1];
+// The press, and slices with room enough on either.
+static size_t press = DV_PRESS;
+static uint8_t book[DV_LONGEST_BOOK + 1], second[DV_LONGEST_BOOK + 1], sheet[DV_WIDE_LONGEST_SHEET + 1];
 static size_t book_len, second_len, sheet_len;
 static uint8_t joined[DV_LONGEST_BOOK], tidied[DV_LONGEST_BOOK];
-static uint32_t work[DV_MOST_WORK];
-static uint16_t tree[DV_MOST_TREE];
-static uint32_t card[DV_CARD_ENTRIES];
+static uint32_t work[DV_WIDE_MOST_WORK];
+static uint16_t tree[DV_WIDE_MOST_TREE];
+static uint32_t card[DV_WIDE_CARD_ENTRIES];
 
 // Loads at most so many bytes of a file, and gives their number. One byte more than the longest that can be accepted is
 // enough to have a longer file refused.
@@ -46,17 +49,17 @@ static void say(const char *what, uint64_t answer, const char *first, const char
 // What order entry offers; all else is greyed out. Tells whether the book is a family's.
 static int print_sizes(void)
 {
-    uint64_t answer = dv_size_card(book, book_len, card, DV_CARD_ENTRIES);
+    uint64_t answer = dv_size_card(press, book, book_len, card, DV_WIDE_CARD_ENTRIES);
     if (dv_number(answer) != DV_ACCEPTED) {
         say("the sizes", answer, "the book", "");
         return 0;
     }
-    printf("the family has %zu of %d sizes\n", dv_count(answer), DV_MOST_ROWS * DV_MOST_COLUMNS);
-    for (size_t rows = 1; rows <= DV_MOST_ROWS; rows++) {
+    printf("the family has %zu of %zu sizes\n", dv_count(answer), dv_most_rows(press) * dv_most_columns(press));
+    for (size_t rows = 1; rows <= dv_most_rows(press); rows++) {
         if (card[rows - 1] == 0)
             continue;
         printf("%zu rows by", rows);
-        for (size_t columns = 1; columns <= DV_MOST_COLUMNS; columns++)
+        for (size_t columns = 1; columns <= dv_most_columns(press); columns++)
             if (dv_has_size(card, rows, columns))
                 printf(" %zu", columns);
         printf(" columns\n");
@@ -95,7 +98,7 @@ static void print_piece(uint64_t reason)
 // What the desk tells the client of a sheet of so many rows and columns.
 static void print_reason(size_t rows, size_t columns)
 {
-    uint64_t answer = dv_why_not(book, book_len, sheet, sheet_len, work, DV_MOST_WORK);
+    uint64_t answer = dv_why_not(press, book, book_len, sheet, sheet_len, work, DV_WIDE_MOST_WORK);
     switch (dv_reason_kind(answer)) {
     case DV_REASON_COLOUR:
         printf("the cell in row %zu, column %zu has a colour that no rule names\n", dv_reason_row(answer) + 1,
@@ -118,10 +121,11 @@ static void print_reason(size_t rows, size_t columns)
 // Asks about the sheet, and gives what the program exits with.
 static int ask(void)
 {
-    uint64_t answer = dv_derive(book, book_len, sheet, sheet_len, work, DV_MOST_WORK, tree, DV_MOST_TREE);
-    uint64_t size = dv_sheet_size(sheet, sheet_len);
+    uint64_t answer =
+        dv_derive(press, book, book_len, sheet, sheet_len, work, DV_WIDE_MOST_WORK, tree, DV_WIDE_MOST_TREE);
+    uint64_t size = dv_sheet_size(press, sheet, sheet_len);
     if (size != 0)
-        printf("job ticket %u\n", (unsigned)dv_ticket(dv_read_sheet(sheet, sheet_len)));
+        printf("job ticket %u\n", (unsigned)dv_ticket(dv_read_sheet(press, sheet, sheet_len)));
     say("the sheet", answer, "the book", "the sheet");
     switch (dv_number(answer)) {
     case DV_ACCEPTED:
@@ -173,8 +177,13 @@ static int join(void)
 
 int main(int argc, char **argv)
 {
+    if (argc > 1 && strcmp(argv[1], "--wide") == 0) {
+        press = DV_WIDE_PRESS;
+        argc--;
+        argv++;
+    }
     if (argc < 3 || argc > 4) {
-        fprintf(stderr, "usage: example BOOK SHEET [SECOND-BOOK]\n");
+        fprintf(stderr, "usage: example [--wide] BOOK SHEET [SECOND-BOOK]\n");
         return REFUSED;
     }
     if (dv_version() != DV_VERSION) {

@@ -1,18 +1,22 @@
 // A run of sheets in figures, as planning reads them: how many belong to the family, why the others do not, how many
 // cells of each ink are printed, and from which ticket to which.
 //
-//     report BOOK RUN
+//     report [--wide] BOOK RUN
 //
-// Exits with 0 where the run is reported on, and 2 where book or run is refused.
+// With --wide the sheets are for the wide press. Exits with 0 where the run is reported on, and 2 where book or run is
+// refused.
 #include <druvelstek.h>
 #include <stdio.h>
 #include <stdlib.h>
+#include <string.h>
 
 enum { REPORTED = 0, REFUSED = 2 };
 
+// The press, and slices with room enough on either.
+static size_t press = DV_PRESS;
 static uint8_t book[DV_LONGEST_BOOK + 1], run[DV_LONGEST_RUN + 1];
 static size_t book_len, run_len;
-static uint32_t work[DV_MOST_WORK], figures[DV_REPORT_ENTRIES];
+static uint32_t work[DV_WIDE_MOST_WORK], figures[DV_REPORT_ENTRIES];
 
 // Loads at most so many bytes of a file, and gives their number. One byte more than the longest that can be accepted is
 // enough to have a longer file refused.
@@ -85,8 +89,13 @@ static void print_tickets(void)
 
 int main(int argc, char **argv)
 {
+    if (argc > 1 && strcmp(argv[1], "--wide") == 0) {
+        press = DV_WIDE_PRESS;
+        argc--;
+        argv++;
+    }
     if (argc != 3) {
-        fprintf(stderr, "usage: report BOOK RUN\n");
+        fprintf(stderr, "usage: report [--wide] BOOK RUN\n");
         return REFUSED;
     }
     if (dv_version() != DV_VERSION) {
@@ -95,7 +104,8 @@ int main(int argc, char **argv)
     }
     book_len = load(argv[1], book, sizeof book);
     run_len = load(argv[2], run, sizeof run);
-    uint64_t answer = dv_run_report(book, book_len, run, run_len, work, DV_MOST_WORK, figures, DV_REPORT_ENTRIES);
+    uint64_t answer =
+        dv_run_report(press, book, book_len, run, run_len, work, DV_WIDE_MOST_WORK, figures, DV_REPORT_ENTRIES);
     if (dv_number(answer) != DV_ACCEPTED) {
         print_refusal(answer);
         return REFUSED;

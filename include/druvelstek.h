@@ -6,6 +6,9 @@
 // the bench, tells which sizes the family has, reports on a whole run of sheets, looks up names, rules, sizes and
 // tickets, and makes new books of lent ones. Each call is proved to keep what its comment says, on every input.
 //
+// A call that reads a sheet or makes a size card is told first which press it is for, since the presses differ in how
+// many rows and columns they print. A book is of no press.
+//
 // Nothing in the bytes tells a book from a sheet, and some are both: 2, 1 "a", 1 "b", 4, 3, 1, 0, 0, 0 is a book of
 // four motifs with one rule, and a sheet of three rows and one column for job 4. A caller keeps apart which file is
 // which.
@@ -38,45 +41,74 @@ extern "C" {
 #endif
 
 // The version of rules and calls that this header describes, and the call that tells the archive's. A host compares the
-// two before any other call, so that a header and an archive of two versions are noticed.
-#define DV_VERSION 12
+// two before any other call, so that a header and an archive of two versions are noticed. No call before version 13
+// takes a press: of a host that was compiled for one of those, the first slice would be taken for it.
+#define DV_VERSION 13
 uint64_t dv_version(void);
 
-// The greatest sizes.
+// The presses, for the first parameter of a call that has one. Any other number is answered 21, before all else.
+enum dv_press { DV_PRESS = 0, DV_WIDE_PRESS = 1 };
+
+// The greatest sizes on every press.
 #define DV_MOST_COLOURS 64
 #define DV_LONGEST_NAME 40
 #define DV_MOST_MOTIFS 32
 #define DV_MOST_RULES 200
-#define DV_MOST_ROWS 12
-#define DV_MOST_COLUMNS 12
 #define DV_LONGEST_BOOK 3429
-#define DV_LONGEST_SHEET 2774
 #define DV_GREATEST_TICKET 2097151
 #define DV_LONGEST_RUN 65536
 
-// Stack that is enough for every call, free when it is made. No theorem says so: host/header measures it on the x86-64
-// code, with the deepest input, a derivation of 23 levels, and fails where less than 8 kilobytes would be left.
-#define DV_ENOUGH_STACK 65536
-
-// Enough entries of the work slice and of the tree slice for every sheet.
+// The greatest sizes on DV_PRESS: rows and columns of a sheet; its bytes, which are 2,625 of colours, 3 of the ticket,
+// 1 each of rows and columns, and 1 for each cell; entries of the work slice and of the tree slice that are enough for
+// every sheet; nodes of its tree; entries of a size card. More nodes may be lent than a sheet's tree has, but none is
+// looked at past one more.
+#define DV_MOST_ROWS 12
+#define DV_MOST_COLUMNS 12
+#define DV_LONGEST_SHEET 2774
 #define DV_MOST_WORK 6084
 #define DV_MOST_TREE 574
+#define DV_MOST_NODES 287
+#define DV_CARD_ENTRIES 12
+
+// The same on DV_WIDE_PRESS.
+#define DV_WIDE_MOST_ROWS 24
+#define DV_WIDE_MOST_COLUMNS 24
+#define DV_WIDE_LONGEST_SHEET 3206
+#define DV_WIDE_MOST_WORK 90000
+#define DV_WIDE_MOST_TREE 2302
+#define DV_WIDE_MOST_NODES 1151
+#define DV_WIDE_CARD_ENTRIES 24
+
+// The same by the press, for a host that is told it as a number. All are 0 where there is no such press.
+static inline size_t dv_by_press(size_t press, size_t usual, size_t wide)
+{
+    return press == DV_PRESS ? usual : press == DV_WIDE_PRESS ? wide : 0;
+}
+static inline size_t dv_most_rows(size_t press) { return dv_by_press(press, DV_MOST_ROWS, DV_WIDE_MOST_ROWS); }
+static inline size_t dv_most_columns(size_t press) { return dv_by_press(press, DV_MOST_COLUMNS, DV_WIDE_MOST_COLUMNS); }
+static inline size_t dv_longest_sheet(size_t press)
+{
+    return dv_by_press(press, DV_LONGEST_SHEET, DV_WIDE_LONGEST_SHEET);
+}
+static inline size_t dv_most_work(size_t press) { return dv_by_press(press, DV_MOST_WORK, DV_WIDE_MOST_WORK); }
+static inline size_t dv_most_tree(size_t press) { return dv_by_press(press, DV_MOST_TREE, DV_WIDE_MOST_TREE); }
+static inline size_t dv_most_nodes(size_t press) { return dv_by_press(press, DV_MOST_NODES, DV_WIDE_MOST_NODES); }
+static inline size_t dv_card_entries(size_t press) { return dv_by_press(press, DV_CARD_ENTRIES, DV_WIDE_CARD_ENTRIES); }
+
+// Stack that is enough for every call on either press, free when it is made. No theorem says so: host/header measures
+// it on the x86-64 code, with the deepest inputs, derivations of 23 levels and of 47 on the wide press, and fails where
+// less than 8 kilobytes would be left.
+#define DV_ENOUGH_STACK 65536
 
 // A node of a lent tree: the number of its rule, and its k, the columns or rows of its first part, 0 for a colour rule.
 struct dv_node {
     uint16_t rule, cut;
 };
 
-// Nodes of a tree of the largest sheet. More may be lent; none is looked at past one more than the sheet's tree has.
-#define DV_MOST_NODES 287
-
-// The most cells of a sheet that dv_plain takes.
+// The most cells of a sheet that dv_plain takes, on either press.
 #define DV_MOST_PLAIN_CELLS 16
 
-// Entries of a size card.
-#define DV_CARD_ENTRIES 12
-
-// Entries of a run report, and where each figure stands among them.
+// Entries of a run report, on either press, and where each figure stands among them.
 #define DV_REPORT_ENTRIES 78
 enum dv_figure {
     DV_FIGURE_SHEETS = 0,       // the sheets of the run
@@ -119,8 +151,9 @@ enum dv_answer_number {
     DV_ACCEPTED = 0,
     DV_ENDS_EARLY = 1,      // input ends inside or before something due; place: its length
     DV_MISSPELT = 2,        // last group of a longer number is 0, or third byte above 127; place: its first byte
-    DV_OUT_OF_RANGE = 3,    // a count, length, rows or columns outside its range; place: number's first byte. Of
-                            // dv_run_report, blaming 2: the run is longer than DV_LONGEST_RUN; place: 0
+    DV_OUT_OF_RANGE = 3,    // a count, length, rows or columns outside its range, which for rows and columns goes by
+                            // the press; place: number's first byte. Of dv_run_report, blaming 2: the run is longer
+                            // than DV_LONGEST_RUN; place: 0
     DV_NAME_BYTE = 4,       // name byte below 32 or above 126, or 32 as the name's first or last; place: that byte
     DV_NAME_TWICE = 5,      // name already in this list; place: first byte of the later name
     DV_NOT_BELOW_COUNT = 6, // motif or colour number not below its count; place: number's first byte
@@ -136,7 +169,8 @@ enum dv_answer_number {
     DV_NOT_REWRITTEN = 17,  // the start motif of a book to be tidied cannot be rewritten to colours, sizes forgotten
     DV_RULE_TWICE = 18,     // an equal rule stood earlier in the book; place: first byte of the later rule
     DV_NO_SUCH_CELL = 19,   // the sheet has no such row, no such column or no colour of this number
-    DV_TOO_MANY_CELLS = 20  // the sheet has more cells than the plain engine takes
+    DV_TOO_MANY_CELLS = 20, // the sheet has more cells than the plain engine takes
+    DV_NO_SUCH_PRESS = 21   // no press has this number; answered before all else, and nothing is written
 };
 
 // A fixed text for each answer number, in English, to stand after what it is said of, as in "the sheet: not in the
@@ -184,6 +218,8 @@ static inline const char *dv_text(unsigned number)
         return "it has no such row, column or colour";
     case DV_TOO_MANY_CELLS:
         return "more cells than the plain engine takes";
+    case DV_NO_SUCH_PRESS:
+        return "no such press";
     default:
         return "no answer has this number";
     }
@@ -201,9 +237,9 @@ static inline size_t dv_count(uint64_t answer) { return (size_t)(answer >> 32); 
 // first fault from the left. A rule that stands twice is told once the later one is read in full.
 uint64_t dv_read_book(const uint8_t *book, size_t book_len);
 
-// Reads a sheet, and answers like dv_read_book. On 0 the count is the number of its job ticket, which has no part in
-// whether a family derives the sheet.
-uint64_t dv_read_sheet(const uint8_t *sheet, size_t sheet_len);
+// Reads a sheet of a press. Answers 21 where there is no such press, and else like dv_read_book. On 0 the count is the
+// number of its job ticket, which has no part in whether a family derives the sheet.
+uint64_t dv_read_sheet(size_t press, const uint8_t *sheet, size_t sheet_len);
 
 // The ticket in an answer of dv_read_sheet.
 static inline uint32_t dv_ticket(uint64_t answer) { return (uint32_t)(answer >> 32); }
@@ -232,14 +268,15 @@ static inline unsigned dv_rule_kind(uint64_t rule) { return (unsigned)(rule >> 8
 static inline unsigned dv_rule_first(uint64_t rule) { return (unsigned)(rule >> 16 & 0xff); }
 static inline unsigned dv_rule_second(uint64_t rule) { return (unsigned)(rule >> 24 & 0xff); }
 
-// Shows the size of a sheet: rows + 2^32 * columns, taken apart below. A refused sheet shows 0.
-uint64_t dv_sheet_size(const uint8_t *sheet, size_t sheet_len);
+// Shows the size of a sheet of a press: rows + 2^32 * columns, taken apart below. A refused sheet shows 0, and so does
+// every sheet where there is no such press.
+uint64_t dv_sheet_size(size_t press, const uint8_t *sheet, size_t sheet_len);
 
 static inline size_t dv_size_rows(uint64_t size) { return (size_t)(size & 0xffffffff); }
 static inline size_t dv_size_columns(uint64_t size) { return (size_t)(size >> 32); }
 
-// Decides whether the family derives the sheet of m rows and n columns. Answers, in this order: 1 to 8 or 18 blaming
-// 1, the book; 1 to 8 blaming 2, the sheet; 9; 10; 11; 0.
+// Decides whether the family derives the sheet of m rows and n columns. Answers, in this order: 21; 1 to 8 or 18
+// blaming 1, the book; 1 to 8 blaming 2, the sheet; 9; 10; 11; 0.
 //
 // On 0 and 11 the first dv_work_entries(m, n) entries of work hold the table of pieces: by height, then width, then
 // top row, then left column, each rising; bit A is set exactly when motif A derives that piece, other bits are clear.
@@ -248,60 +285,61 @@ static inline size_t dv_size_columns(uint64_t size) { return (size_t)(size >> 32
 // right or lower part, each node as its rule number and its k, the columns or rows of its first part (0 for a colour
 // rule). At each node stands the lowest-numbered rule that can derive the piece, for a join with the smallest k that
 // works. Everything else in work and tree is unchanged.
-uint64_t dv_derive(const uint8_t *book, size_t book_len, const uint8_t *sheet, size_t sheet_len, uint32_t *work,
-                   size_t work_len, uint16_t *tree, size_t tree_len);
+uint64_t dv_derive(size_t press, const uint8_t *book, size_t book_len, const uint8_t *sheet, size_t sheet_len,
+                   uint32_t *work, size_t work_len, uint16_t *tree, size_t tree_len);
 
 // Tells whether nodes that another program chose are a tree that derives the sheet from the start motif, with nothing
 // left over: each node, then the nodes of its left or upper part, then those of its right or lower part. Every rule and
 // every k that derive the sheet are taken, not only those of dv_derive, whose tree is one of them. Answers, in this
-// order: 1 to 8 or 18 blaming 1, the book; 1 to 8 blaming 2, the sheet; 16; 0. No slice is written, and any number of
-// nodes may be lent.
+// order: 21; 1 to 8 or 18 blaming 1, the book; 1 to 8 blaming 2, the sheet; 16; 0. No slice is written, and any number
+// of nodes may be lent.
 //
 // A node is judged by the motif and the piece that it is due for, before the nodes of its parts. It fails where no rule
 // has its number, or its rule's head is another motif; where its colour rule stands on a piece of more than one cell,
 // on a cell of another colour, or with a k that is not 0; and where its join's k leaves a part with no columns or rows.
 // The place of 16 is the first node that fails, from 0. Where a node is missing it is the number that the node would
 // have, and where nodes are left over the number of those that were read.
-uint64_t dv_check_tree(const uint8_t *book, size_t book_len, const uint8_t *sheet, size_t sheet_len,
+uint64_t dv_check_tree(size_t press, const uint8_t *book, size_t book_len, const uint8_t *sheet, size_t sheet_len,
                        const struct dv_node *nodes, size_t nodes_len);
 
 // Decides whether the family derives the sheet by a second engine, to test a RIP build on the bench: with no table and
 // no slice to work in, it tries every rule that has the motif for its head and every cut, and asks the same of the two
-// parts. It shares no code with dv_derive beyond the reading. Answers, in this order: 1 to 8 or 18 blaming 1, the book;
-// 1 to 8 blaming 2, the sheet; 20 where the sheet has more than DV_MOST_PLAIN_CELLS cells; 11; 0. Where it does not
-// answer 20, its whole answer is that of dv_derive with slices long enough. No slice is written.
+// parts. It shares no code with dv_derive beyond the reading. Answers, in this order: 21; 1 to 8 or 18 blaming 1, the
+// book; 1 to 8 blaming 2, the sheet; 20 where the sheet has more than DV_MOST_PLAIN_CELLS cells; 11; 0. Where it does
+// not answer 20, its whole answer is that of dv_derive with slices long enough. No slice is written.
 //
 // Every call ends, but nothing is kept of what was asked before, and the time grows with the ways in which the sheet
 // comes apart: with many rules under one head 16 cells can take longer than anyone waits. docs/SPEED.md has how it
 // grows. It asks at most rows + columns - 1 deep, so that DV_ENOUGH_STACK is enough for it too. Not for the press.
-uint64_t dv_plain(const uint8_t *book, size_t book_len, const uint8_t *sheet, size_t sheet_len);
+uint64_t dv_plain(size_t press, const uint8_t *book, size_t book_len, const uint8_t *sheet, size_t sheet_len);
 
-// Writes the family's size card, for order entry: bit c-1 of entry r-1 is set exactly when the family has some sheet of
-// r rows and c columns, in any of its colours; other bits are clear. Answers, in this order: 1 to 8 or 18 blaming 1;
-// 13 where the card slice has fewer than DV_CARD_ENTRIES entries; 0, with the number of sizes as the count, which is
-// that of the set bits. A refusal writes nothing. Everything else in card is unchanged.
-uint64_t dv_size_card(const uint8_t *book, size_t book_len, uint32_t *card, size_t card_len);
+// Writes the family's size card, for order entry: an entry for each number of rows that the press takes. Bit c-1 of
+// entry r-1 is set exactly when the family has some sheet of r rows and c columns, in any of its colours; other bits
+// are clear. Answers, in this order: 21; 1 to 8 or 18 blaming 1; 13 where the card slice has fewer than
+// dv_card_entries(press) entries; 0, with the number of sizes as the count, which is that of the set bits. A refusal
+// writes nothing. Everything else in card is unchanged.
+uint64_t dv_size_card(size_t press, const uint8_t *book, size_t book_len, uint32_t *card, size_t card_len);
 
-// Whether a card has a size, of 1 to DV_MOST_ROWS rows and 1 to DV_MOST_COLUMNS columns.
+// Whether a card has a size: from 1 row and 1 column up to the most that the press of the card takes.
 static inline int dv_has_size(const uint32_t *card, size_t rows, size_t columns)
 {
     return (int)(card[rows - 1] >> (columns - 1) & 1);
 }
 
-// Says why a sheet of m rows and n columns is not in the family, for the desk that got 11. Answers, in this order: 1 to
-// 8 or 18 blaming 1, the book; 1 to 8 blaming 2, the sheet; 9; 15 where the sheet is in the family; 0, with a reason as
-// the count, taken apart below. It is the first of these that is true:
+// Says why a sheet of m rows and n columns is not in the family, for the desk that got 11. Answers, in this order: 21;
+// 1 to 8 or 18 blaming 1, the book; 1 to 8 blaming 2, the sheet; 9; 15 where the sheet is in the family; 0, with a
+// reason as the count, taken apart below. It is the first of these that is true:
 // - DV_REASON_COLOUR, with row and column: a cell whose colour no rule of the book names, the first such cell, row by
 //   row. Each colour rule names its colour, whether the start motif leads to it or not; the book's list names none.
-// - DV_REASON_SIZE: the family has no sheet of m rows and n columns, as its size card says.
+// - DV_REASON_SIZE: the family has no sheet of m rows and n columns, as its size card of the same press says.
 // - DV_REASON_PIECE, with row and column, height and width: the start motif derives this piece of the sheet, none of
 //   greater area, and none of the same area that stands earlier in the table. Row and column are its top and left.
 // - DV_REASON_NO_PIECE: it derives no piece of the sheet.
 //
 // On 0 and 15 the first dv_work_entries(m, n) entries of work hold the table of pieces, as after dv_derive; every other
 // answer writes nothing. Everything else in work is unchanged.
-uint64_t dv_why_not(const uint8_t *book, size_t book_len, const uint8_t *sheet, size_t sheet_len, uint32_t *work,
-                    size_t work_len);
+uint64_t dv_why_not(size_t press, const uint8_t *book, size_t book_len, const uint8_t *sheet, size_t sheet_len,
+                    uint32_t *work, size_t work_len);
 
 // The kind of the reason in an answer of dv_why_not, or 0 where it has none, and what goes with it, rows and columns
 // counted from 0. What the kind does not name is 0.
@@ -312,8 +350,8 @@ static inline size_t dv_reason_height(uint64_t answer) { return (size_t)(answer 
 static inline size_t dv_reason_width(uint64_t answer) { return (size_t)(answer >> 50 & 0x1f); }
 
 // Recolours one cell of a sheet of m rows and n columns, for the proofing desk: row and column from 0, and colour a
-// number of the sheet's own list. Answers, in this order: 1 to 8 or 18 blaming 1, the book; 1 to 8 blaming 2, the
-// sheet; 19 where the sheet has no such row, column or colour; 9; 11; 0. On 1 to 9, 18 and 19 nothing is written.
+// number of the sheet's own list. Answers, in this order: 21; 1 to 8 or 18 blaming 1, the book; 1 to 8 blaming 2, the
+// sheet; 19 where the sheet has no such row, column or colour; 9; 11; 0. On all but 11 and 0 nothing is written.
 //
 // On 0 and 11 the byte of that cell in sheet is the colour, and the entries of the pieces that contain the cell are
 // made anew, smaller pieces first, each from the entries of its parts as they stand in work: so a call takes time by
@@ -321,24 +359,25 @@ static inline size_t dv_reason_width(uint64_t answer) { return (size_t)(answer >
 // work held the table of the sheet, as dv_derive, dv_why_not or this call leaves them with the same book, they hold
 // that of the sheet as it now is, and 0 and 11 say what dv_derive says of it. Elsewhere 0 and 11 say only whether the
 // start motif's bit is set in the entry of the whole sheet as it then stands.
-uint64_t dv_recolour(const uint8_t *book, size_t book_len, uint8_t *sheet, size_t sheet_len, uint32_t *work,
-                     size_t work_len, size_t row, size_t column, size_t colour);
+uint64_t dv_recolour(size_t press, const uint8_t *book, size_t book_len, uint8_t *sheet, size_t sheet_len,
+                     uint32_t *work, size_t work_len, size_t row, size_t column, size_t colour);
 
-// Reports on a run of sheets against one book, for planning. A run is at most DV_LONGEST_RUN bytes: sheets one after
-// another, each preceded by its length, a number spelt as in a book. A length of 0 is a sheet that answers 1; an empty
-// run has no sheets. What a sheet answers is what dv_derive does with room enough: 0 to 8 or 11. The figures are those
-// of enum dv_figure; what they say of cells and tickets is of accepted sheets alone.
+// Reports on a run of sheets against one book, for planning. A run is at most DV_LONGEST_RUN bytes, on either press:
+// sheets one after another, each preceded by its length, a number spelt as in a book. A length of 0 is a sheet that
+// answers 1; an empty run has no sheets. What a sheet answers is what dv_derive does on the same press with room
+// enough: 0 to 8 or 11. The figures are those of enum dv_figure; what they say of cells and tickets is of accepted
+// sheets alone.
 //
-// Answers, in this order: 13 where the figures slice has fewer than DV_REPORT_ENTRIES entries; 1 to 8 or 18
+// Answers, in this order: 21; 13 where the figures slice has fewer than DV_REPORT_ENTRIES entries; 1 to 8 or 18
 // blaming 1, the book; then, blaming 2, with a place in the run: 3 at 0 for a longer run; 1 or 2 for the first length
 // that ends early or is misspelt, and 1, at the run's length, for one that passes the end; 9 where work has fewer than
-// DV_MOST_WORK entries; 0. The lengths of the whole run are judged before its first sheet.
+// dv_most_work(press) entries; 0. The lengths of the whole run are judged before its first sheet.
 //
-// On 13 nothing is written. On 0 the first DV_REPORT_ENTRIES entries of figures are the figures and the first
-// DV_MOST_WORK entries of work are 0. On every other answer all these figures are 0, and work is unchanged. Everything
-// else in figures and work is unchanged.
-uint64_t dv_run_report(const uint8_t *book, size_t book_len, const uint8_t *run, size_t run_len, uint32_t *work,
-                       size_t work_len, uint32_t *figures, size_t figures_len);
+// On 21 and 13 nothing is written. On 0 the first DV_REPORT_ENTRIES entries of figures are the figures and the first
+// dv_most_work(press) entries of work are 0. On every other answer all these figures are 0, and work is unchanged.
+// Everything else in figures and work is unchanged.
+uint64_t dv_run_report(size_t press, const uint8_t *book, size_t book_len, const uint8_t *run, size_t run_len,
+                       uint32_t *work, size_t work_len, uint32_t *figures, size_t figures_len);
 
 // The eight combinations. Each answers, in this order: 1 to 8 or 18 blaming 1, the first book; 1 to 8 or 18 blaming 2,
 // the second; 12; 13; 0. On 0 the first dv_count bytes of out are the new book. Everything else in out is unchanged.
@@ -411,10 +450,10 @@ static inline uint64_t dv_checked_read_book(const uint8_t *book, size_t book_len
     return dv_read_book(book, book_len);
 }
 
-static inline uint64_t dv_checked_read_sheet(const uint8_t *sheet, size_t sheet_len)
+static inline uint64_t dv_checked_read_sheet(size_t press, const uint8_t *sheet, size_t sheet_len)
 {
     assert(dv_is_lent(sheet, sheet_len, 1));
-    return dv_read_sheet(sheet, sheet_len);
+    return dv_read_sheet(press, sheet, sheet_len);
 }
 
 static inline uint64_t dv_checked_colour(const uint8_t *book, size_t book_len, size_t number)
@@ -429,14 +468,15 @@ static inline uint64_t dv_checked_rule(const uint8_t *book, size_t book_len, siz
     return dv_rule(book, book_len, number);
 }
 
-static inline uint64_t dv_checked_sheet_size(const uint8_t *sheet, size_t sheet_len)
+static inline uint64_t dv_checked_sheet_size(size_t press, const uint8_t *sheet, size_t sheet_len)
 {
     assert(dv_is_lent(sheet, sheet_len, 1));
-    return dv_sheet_size(sheet, sheet_len);
+    return dv_sheet_size(press, sheet, sheet_len);
 }
 
-static inline uint64_t dv_checked_derive(const uint8_t *book, size_t book_len, const uint8_t *sheet, size_t sheet_len,
-                                         uint32_t *work, size_t work_len, uint16_t *tree, size_t tree_len)
+static inline uint64_t dv_checked_derive(size_t press, const uint8_t *book, size_t book_len, const uint8_t *sheet,
+                                         size_t sheet_len, uint32_t *work, size_t work_len, uint16_t *tree,
+                                         size_t tree_len)
 {
     assert(dv_is_lent(book, book_len, 1) && dv_is_lent(sheet, sheet_len, 1));
     assert(dv_is_lent(work, work_len, sizeof *work) && dv_is_lent(tree, tree_len, sizeof *tree));
@@ -445,53 +485,57 @@ static inline uint64_t dv_checked_derive(const uint8_t *book, size_t book_len, c
     assert(dv_are_apart(work, work_len * sizeof *work, tree, tree_len * sizeof *tree));
     assert(dv_are_apart(tree, tree_len * sizeof *tree, book, book_len));
     assert(dv_are_apart(tree, tree_len * sizeof *tree, sheet, sheet_len));
-    return dv_derive(book, book_len, sheet, sheet_len, work, work_len, tree, tree_len);
+    return dv_derive(press, book, book_len, sheet, sheet_len, work, work_len, tree, tree_len);
 }
 
-static inline uint64_t dv_checked_check_tree(const uint8_t *book, size_t book_len, const uint8_t *sheet,
+static inline uint64_t dv_checked_check_tree(size_t press, const uint8_t *book, size_t book_len, const uint8_t *sheet,
                                              size_t sheet_len, const struct dv_node *nodes, size_t nodes_len)
 {
     assert(dv_is_lent(book, book_len, 1) && dv_is_lent(sheet, sheet_len, 1));
     assert(nodes_len <= SIZE_MAX / 2 && dv_is_lent(nodes, 2 * nodes_len, sizeof nodes->rule));
-    return dv_check_tree(book, book_len, sheet, sheet_len, nodes, nodes_len);
+    return dv_check_tree(press, book, book_len, sheet, sheet_len, nodes, nodes_len);
 }
 
-static inline uint64_t dv_checked_plain(const uint8_t *book, size_t book_len, const uint8_t *sheet, size_t sheet_len)
+static inline uint64_t dv_checked_plain(size_t press, const uint8_t *book, size_t book_len, const uint8_t *sheet,
+                                        size_t sheet_len)
 {
     assert(dv_is_lent(book, book_len, 1) && dv_is_lent(sheet, sheet_len, 1));
-    return dv_plain(book, book_len, sheet, sheet_len);
+    return dv_plain(press, book, book_len, sheet, sheet_len);
 }
 
-static inline uint64_t dv_checked_size_card(const uint8_t *book, size_t book_len, uint32_t *card, size_t card_len)
+static inline uint64_t dv_checked_size_card(size_t press, const uint8_t *book, size_t book_len, uint32_t *card,
+                                            size_t card_len)
 {
     assert(dv_is_lent(book, book_len, 1) && dv_is_lent(card, card_len, sizeof *card));
     assert(dv_are_apart(card, card_len * sizeof *card, book, book_len));
-    return dv_size_card(book, book_len, card, card_len);
+    return dv_size_card(press, book, book_len, card, card_len);
 }
 
-static inline uint64_t dv_checked_why_not(const uint8_t *book, size_t book_len, const uint8_t *sheet, size_t sheet_len,
-                                          uint32_t *work, size_t work_len)
+static inline uint64_t dv_checked_why_not(size_t press, const uint8_t *book, size_t book_len, const uint8_t *sheet,
+                                          size_t sheet_len, uint32_t *work, size_t work_len)
 {
     assert(dv_is_lent(book, book_len, 1) && dv_is_lent(sheet, sheet_len, 1));
     assert(dv_is_lent(work, work_len, sizeof *work));
     assert(dv_are_apart(work, work_len * sizeof *work, book, book_len));
     assert(dv_are_apart(work, work_len * sizeof *work, sheet, sheet_len));
-    return dv_why_not(book, book_len, sheet, sheet_len, work, work_len);
+    return dv_why_not(press, book, book_len, sheet, sheet_len, work, work_len);
 }
 
-static inline uint64_t dv_checked_recolour(const uint8_t *book, size_t book_len, uint8_t *sheet, size_t sheet_len,
-                                           uint32_t *work, size_t work_len, size_t row, size_t column, size_t colour)
+static inline uint64_t dv_checked_recolour(size_t press, const uint8_t *book, size_t book_len, uint8_t *sheet,
+                                           size_t sheet_len, uint32_t *work, size_t work_len, size_t row, size_t column,
+                                           size_t colour)
 {
     assert(dv_is_lent(book, book_len, 1) && dv_is_lent(sheet, sheet_len, 1));
     assert(dv_is_lent(work, work_len, sizeof *work));
     assert(dv_are_apart(sheet, sheet_len, book, book_len));
     assert(dv_are_apart(work, work_len * sizeof *work, book, book_len));
     assert(dv_are_apart(work, work_len * sizeof *work, sheet, sheet_len));
-    return dv_recolour(book, book_len, sheet, sheet_len, work, work_len, row, column, colour);
+    return dv_recolour(press, book, book_len, sheet, sheet_len, work, work_len, row, column, colour);
 }
 
-static inline uint64_t dv_checked_run_report(const uint8_t *book, size_t book_len, const uint8_t *run, size_t run_len,
-                                             uint32_t *work, size_t work_len, uint32_t *figures, size_t figures_len)
+static inline uint64_t dv_checked_run_report(size_t press, const uint8_t *book, size_t book_len, const uint8_t *run,
+                                             size_t run_len, uint32_t *work, size_t work_len, uint32_t *figures,
+                                             size_t figures_len)
 {
     assert(dv_is_lent(book, book_len, 1) && dv_is_lent(run, run_len, 1));
     assert(dv_is_lent(work, work_len, sizeof *work) && dv_is_lent(figures, figures_len, sizeof *figures));
@@ -500,7 +544,7 @@ static inline uint64_t dv_checked_run_report(const uint8_t *book, size_t book_le
     assert(dv_are_apart(work, work_len * sizeof *work, figures, figures_len * sizeof *figures));
     assert(dv_are_apart(figures, figures_len * sizeof *figures, book, book_len));
     assert(dv_are_apart(figures, figures_len * sizeof *figures, run, run_len));
-    return dv_run_report(book, book_len, run, run_len, work, work_len, figures, figures_len);
+    return dv_run_report(press, book, book_len, run, run_len, work, work_len, figures, figures_len);
 }
 
 // The combinations of two books differ in the call alone, and so do those of one and dv_tidy.

@@ -3,8 +3,8 @@
 
 static void size_card(const struct engine *timed, const struct task *task)
 {
-    static uint32_t card[DV_CARD_ENTRIES];
-    timed->size_card(task->first.at, task->first.length, card, DV_CARD_ENTRIES);
+    static uint32_t card[DV_WIDE_CARD_ENTRIES];
+    timed->size_card(task->press, task->first.at, task->first.length, card, DV_WIDE_CARD_ENTRIES);
 }
 
 LINES(cards)
@@ -14,4 +14,6 @@ LINES(cards)
     press_family(&family, DV_MOST_RULES);
     spell_book(&family, &task.first);
     measure_line("size card, 200 rules", &task);
+    task.press = DV_WIDE_PRESS;
+    measure_line("size card of the wide press, 200 rules", &task);
 }

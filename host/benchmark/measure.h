@@ -12,11 +12,13 @@
 
 enum { ENGINES = 2, TURNS = 100, MOTIFS = 16 };
 
-// A call, and how many of its unit one call does.
+// A call, how many of its unit one call does, and the press that it is made for where it takes one: DV_PRESS where none
+// is said.
 struct task {
     void (*call)(const struct engine *engine, const struct task *task);
     const char *unit;
     double units;
+    size_t press;
     struct bytes first, second;
     enum combination combination;
     size_t work;
@@ -40,8 +42,14 @@ void measure_line(const char *name, const struct task *task);
 void derive(const struct engine *timed, const struct task *task);
 void make(const struct engine *timed, const struct task *task);
 
+// The house book and its sheet A.
+void house_family(struct family *family, struct grid *grid);
+
 // So many rules, of which the first four derive every sheet; the rest are joins by chance, half of them across.
 void press_family(struct family *family, unsigned rules);
+
+// The largest sheet of a press, in two colours of the family by chance.
+void press_grid(struct grid *grid, size_t press, const struct family *family);
 
 // The longest names, alike but for the last letter, listed either way round, and so many joins of the start.
 void heavy_book(struct bytes *book, bool turned, unsigned rules);

@@ -4,7 +4,7 @@
 
 static void plain(const struct engine *timed, const struct task *task)
 {
-    timed->plain(task->first.at, task->first.length, task->second.at, task->second.length);
+    timed->plain(task->press, task->first.at, task->first.length, task->second.at, task->second.length);
 }
 
 static void measure_plain(const char *name, const struct family *family, const struct grid *grid)
@@ -17,15 +17,9 @@ static void measure_plain(const char *name, const struct family *family, const s
 
 static void measure_house(void)
 {
-    struct family family = {.motifs = 3, .start = 0};
-    struct grid grid = {.rows = 2, .columns = 3, .cell = {0, 0, 0, 1, 1, 1}};
-    add_ink(&family.palette, "Slate C");
-    add_ink(&family.palette, "Slate U");
-    grid.palette = family.palette;
-    add_rule(&family, 0, DV_KIND_ACROSS, 0, 0);
-    add_rule(&family, 0, DV_KIND_DOWN, 1, 2);
-    add_rule(&family, 1, DV_KIND_COLOUR, 0, 0);
-    add_rule(&family, 2, DV_KIND_COLOUR, 1, 0);
+    struct family family;
+    struct grid grid;
+    house_family(&family, &grid);
     measure_plain("plain, 2 by 3, house book", &family, &grid);
 }
 

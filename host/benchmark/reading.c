@@ -10,7 +10,7 @@ static void read_book(const struct engine *timed, const struct task *task)
 
 static void read_sheet(const struct engine *timed, const struct task *task)
 {
-    timed->read_sheet(task->second.at, task->second.length);
+    timed->read_sheet(task->press, task->second.at, task->second.length);
 }
 
 // The last rule: a look-up reads the book whole whichever it is.

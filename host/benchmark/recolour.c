@@ -2,7 +2,6 @@
 // what part that is of a derivation, which fills the whole table.
 #include <stdio.h>
 
-#include "../shared/chance.h"
 #include "measure.h"
 
 static struct bytes sheet;
@@ -12,8 +11,8 @@ static size_t place, colour;
 static void recolour(const struct engine *timed, const struct task *task)
 {
     colour = 1 - colour;
-    timed->recolour(task->first.at, task->first.length, sheet.at, sheet.length, work, DV_MOST_WORK, place, place,
-                    colour);
+    timed->recolour(task->press, task->first.at, task->first.length, sheet.at, sheet.length, work, DV_MOST_WORK, place,
+                    place, colour);
 }
 
 // A cell as many rows down as columns to the right.
@@ -33,12 +32,10 @@ static void measure_cell(const char *name, const struct task *derivation, size_t
 LINES(recolour)
 {
     struct family family;
-    struct grid grid = {.rows = DV_MOST_ROWS, .columns = DV_MOST_COLUMNS};
+    struct grid grid;
     struct task task = {.call = derive, .unit = "a call", .units = 1, .work = DV_MOST_WORK};
     press_family(&family, DV_MOST_RULES);
-    grid.palette = family.palette;
-    for (unsigned i = 0; i < grid.rows * grid.columns; i++)
-        grid.cell[i] = chance_below(2);
+    press_grid(&grid, DV_PRESS, &family);
     spell_book(&family, &task.first);
     spell_sheet(&grid, &task.second);
     measure_cell("recoloured, a corner, 12 by 12, 200 rules", &task, 0);

@@ -6,8 +6,8 @@
 static void run_report(const struct engine *timed, const struct task *task)
 {
     static uint32_t work[DV_MOST_WORK], figures[DV_REPORT_ENTRIES];
-    timed->run_report(task->first.at, task->first.length, task->run->at, task->run->length, work, DV_MOST_WORK, figures,
-                      DV_REPORT_ENTRIES);
+    timed->run_report(task->press, task->first.at, task->first.length, task->run->at, task->run->length, work,
+                      DV_MOST_WORK, figures, DV_REPORT_ENTRIES);
 }
 
 // As many sheets of one size under a book as go into a run, or fewer where so many are enough.

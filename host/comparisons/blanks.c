@@ -4,6 +4,13 @@
 
 #include "compare.h"
 
+static size_t press;
+
+static uint64_t read_sheet(const struct bytes *sheet)
+{
+    return compare_read_sheet(press, sheet);
+}
+
 // Where in a name its first or last byte is a blank, or its length where neither is.
 static size_t blank_at_end(const struct ink *ink)
 {
@@ -48,9 +55,9 @@ static void compare_name(const struct ink *ink, bool last)
     // The count, the first name with its length, and the length of the last.
     size_t place = last ? 1 + 1 + strlen("Slate C") + 1 : 1 + 1;
     compare_cuts(book, ink, place, compare_read_book);
-    compare_cuts(sheet, ink, place, compare_read_sheet);
+    compare_cuts(sheet, ink, place, read_sheet);
     compare_colour(&book, last);
-    compare_derive(&book, &sheet, ROOMY_WORK, ROOMY_TREE);
+    compare_derive(press, &book, &sheet, roomy_work(press), roomy_tree(press));
     compare_combination(BESIDE, &book, &book, ROOMY_OUT, NULL);
 }
 
@@ -102,8 +109,9 @@ static void compare_inner_blanks(void)
 KIND(blanks)
 {
     static const unsigned lengths[] = {1, 2, 39, 40};
-    for (int i = 0; i < 4; i++)
-        compare_blanks_in(lengths[i]);
+    for (press = DV_PRESS; press <= DV_WIDE_PRESS; press++)
+        for (int i = 0; i < 4; i++)
+            compare_blanks_in(lengths[i]);
     compare_short_names();
     compare_inner_blanks();
 }

@@ -18,14 +18,15 @@ static const struct engine *const engine[ENGINES] = {&library, &independent};
 static struct call call;
 static const struct engine *asked;
 static struct lent in[SLICES], out[ENGINES][SLICES];
-static uint8_t noise[1 << 16];
+static uint8_t noise[2 * ROOMY_WORK * sizeof(uint32_t)];
 // What the slices that may be written held before the call.
 static const uint8_t *before;
 
 void wrong(const char *what)
 {
-    fprintf(stderr, "compare: %s\nin %s, numbers %zu, %zu and %zu, slices of %zu and %zu entries, ", what, call.name,
-            call.number[0], call.number[1], call.number[2], call.output[0].entries, call.output[1].entries);
+    fprintf(stderr, "compare: %s\nin %s on press %zu, numbers %zu, %zu and %zu, slices of %zu and %zu entries, ", what,
+            call.name, call.press, call.number[0], call.number[1], call.number[2], call.output[0].entries,
+            call.output[1].entries);
     say_kind();
     for (int i = 0; i < SLICES; i++)
         if (call.input[i].at != NULL) {
@@ -111,7 +112,7 @@ static void expect_unwritten(const struct lent *lent, struct input input)
 
 static uint64_t ask(struct lent *outputs)
 {
-    struct loan loan;
+    struct loan loan = {.press = call.press};
     memcpy(loan.number, call.number, sizeof loan.number);
     for (int i = 0; i < SLICES; i++) {
         const void *held = call.output[i].held;

@@ -18,8 +18,10 @@ struct output {
     const void *held;
 };
 
-// What an engine is lent: its inputs, the slices that it may write, and numbers where the call takes some.
+// What an engine is given: the press where the call takes one, its inputs, the slices that it may write, and numbers
+// where the call takes some.
 struct loan {
+    size_t press;
     const uint8_t *in[SLICES];
     size_t in_len[SLICES];
     void *out[SLICES];
@@ -30,6 +32,7 @@ struct loan {
 struct call {
     const char *name;
     uint64_t (*ask)(const struct engine *engine, const struct loan *loan);
+    size_t press;
     struct input input[SLICES];
     struct output output[SLICES];
     size_t number[NUMBERS];

@@ -21,6 +21,7 @@ static void compare_made(enum combination combination, const struct bytes *first
 {
     struct bytes made, sheet;
     struct grid grid;
+    size_t press = some_press();
     compare_rooms_of_combination(combination, first, second);
     if (dv_number(compare_combination(combination, first, second, ROOMY_OUT, &made)) != DV_ACCEPTED)
         return;
@@ -28,7 +29,7 @@ static void compare_made(enum combination combination, const struct bytes *first
         wrong("a book that was written is refused");
     grow_grid(family, &grid, 5, 5);
     spell_sheet(&grid, &sheet);
-    compare_derive(&made, &sheet, ROOMY_WORK, ROOMY_TREE);
+    compare_derive(press, &made, &sheet, roomy_work(press), roomy_tree(press));
     compare_combination((enum combination)chance_below(COMBINATIONS), &made, first, ROOMY_OUT, NULL);
 }
 

@@ -1,5 +1,5 @@
-// Books in which a rule stands twice, in every call that reads a book: 18, and nothing written; tidied, they are read. And
-// either-of at the limit of 200 rules, where both starts paint colours of the same name.
+// Books in which a rule stands twice, in every call that reads a book: 18, and nothing written; tidied, they are read.
+// And either-of at the limit of 200 rules, where both starts paint colours of the same name.
 #include "../shared/chance.h"
 #include "../shared/grow.h"
 #include "compare.h"
@@ -16,12 +16,14 @@ static void expect_refused(const struct bytes *book, const struct bytes *sheet)
 {
     struct dv_node node = {0, 0};
     struct run run = {.length = 0};
+    size_t press = some_press();
     uint64_t answer = compare_read_book(book);
     if (!is_twice(answer, 1, book))
         wrong("a book in which a rule stands twice is read");
-    if (compare_derive(book, sheet, 0, 0) != answer || compare_why_not(book, sheet, 0) != answer ||
-        compare_check_tree(book, sheet, &node, 1) != answer || compare_size_card(book, 0, NULL) != answer ||
-        compare_run_report(book, &run, 0, DV_REPORT_ENTRIES, NULL) != answer)
+    if (compare_derive(press, book, sheet, 0, 0) != answer || compare_why_not(press, book, sheet, 0) != answer ||
+        compare_check_tree(press, book, sheet, &node, 1) != answer ||
+        compare_size_card(press, book, 0, NULL) != answer ||
+        compare_run_report(press, book, &run, 0, DV_REPORT_ENTRIES, NULL) != answer)
         wrong("a call does not tell first that a rule stands twice");
     if (compare_colour(book, 0) != 0 || compare_rule(book, 0) != 0)
         wrong("something is shown of a book in which a rule stands twice");

@@ -5,25 +5,26 @@
 #include "../shared/soon.h"
 #include "compare.h"
 
-static void compare_some_tree(const struct bytes *book, const struct bytes *sheet)
+static void compare_some_tree(size_t press, const struct bytes *book, const struct bytes *sheet)
 {
     struct dv_node nodes[8];
     for (size_t i = 0; i < 8; i++)
         nodes[i] = (struct dv_node){(uint16_t)chance_below(6), (uint16_t)chance_below(3)};
-    compare_check_tree(book, sheet, nodes, chance_below(9));
+    compare_check_tree(press, book, sheet, nodes, chance_below(9));
 }
 
 static void compare_as_book(const struct bytes *book, const struct bytes *sheet, const struct bytes *other)
 {
+    size_t press = some_press();
     compare_read_book(book);
     compare_colour(book, chance_below(4));
     compare_rule(book, chance_below(8));
-    compare_derive(book, sheet, one_in(4) ? 0 : ROOMY_WORK, one_in(4) ? 0 : ROOMY_TREE);
-    compare_size_card(book, one_in(4) ? 0 : DV_CARD_ENTRIES, NULL);
-    compare_why_not(book, sheet, one_in(4) ? 0 : ROOMY_WORK);
-    compare_some_tree(book, sheet);
-    if (soon_searched(book, sheet))
-        compare_plain(book, sheet);
+    compare_derive(press, book, sheet, one_in(4) ? 0 : roomy_work(press), one_in(4) ? 0 : roomy_tree(press));
+    compare_size_card(press, book, one_in(4) ? 0 : dv_card_entries(press), NULL);
+    compare_why_not(press, book, sheet, one_in(4) ? 0 : roomy_work(press));
+    compare_some_tree(press, book, sheet);
+    if (soon_searched(press, book, sheet))
+        compare_plain(press, book, sheet);
     compare_tidy(book, one_in(4) ? 0 : ROOMY_OUT, NULL);
     enum combination combination = (enum combination)chance_below(COMBINATIONS);
     if (one_in(2))
@@ -32,15 +33,15 @@ static void compare_as_book(const struct bytes *book, const struct bytes *sheet,
         compare_combination(combination, other, book, one_in(4) ? 0 : ROOMY_OUT, NULL);
 }
 
-static void compare_as_sheet(const struct bytes *book, const struct bytes *sheet)
+static void compare_as_sheet(size_t press, const struct bytes *book, const struct bytes *sheet)
 {
-    compare_read_sheet(sheet);
-    compare_sheet_size(sheet);
-    compare_derive(book, sheet, one_in(4) ? 0 : ROOMY_WORK, one_in(4) ? 0 : ROOMY_TREE);
-    compare_why_not(book, sheet, one_in(4) ? 0 : ROOMY_WORK);
-    compare_some_tree(book, sheet);
-    if (soon_searched(book, sheet))
-        compare_plain(book, sheet);
+    compare_read_sheet(press, sheet);
+    compare_sheet_size(press, sheet);
+    compare_derive(press, book, sheet, one_in(4) ? 0 : roomy_work(press), one_in(4) ? 0 : roomy_tree(press));
+    compare_why_not(press, book, sheet, one_in(4) ? 0 : roomy_work(press));
+    compare_some_tree(press, book, sheet);
+    if (soon_searched(press, book, sheet))
+        compare_plain(press, book, sheet);
 }
 
 // Every byte as every other, every beginning, every byte dropped or doubled, and bytes that follow the end.
@@ -87,7 +88,8 @@ static void compare_damaged_book(const struct bytes *book)
 
 static void compare_damaged_sheet(const struct bytes *sheet)
 {
-    compare_as_sheet(&good_book, sheet);
+    for (size_t press = DV_PRESS; press <= DV_WIDE_PRESS; press++)
+        compare_as_sheet(press, &good_book, sheet);
 }
 
 static void damage_by_chance(void)
@@ -105,7 +107,7 @@ static void damage_by_chance(void)
     damage(&book);
     damage(&sheet);
     compare_as_book(&book, one_in(2) ? &sheet : &good_sheet, &good_book);
-    compare_as_sheet(&good_book, &sheet);
+    compare_as_sheet(some_press(), &good_book, &sheet);
     if (book.length > 0)
         damage(&book);
     compare_as_book(&book, &good_sheet, &book);
@@ -118,14 +120,14 @@ static void compare_wild(void)
     for (size_t i = 0; i < bytes.length; i++)
         bytes.at[i] = one_in(8) ? (uint8_t)chance_bits() : (uint8_t)chance_below(4);
     compare_as_book(&bytes, &bytes, &good_book);
-    compare_as_sheet(&good_book, &bytes);
+    compare_as_sheet(some_press(), &good_book, &bytes);
     struct family family;
     grow_family(&family, chance_from(2, 20), 2, 3);
     unsigned count = family.palette.count;
     family.palette.ink[chance_from(1, count - 1)] = family.palette.ink[chance_below(count)];
     spell_book(&family, &bytes);
     compare_as_book(&bytes, &good_sheet, &good_book);
-    compare_as_sheet(&good_book, &bytes);
+    compare_as_sheet(some_press(), &good_book, &bytes);
 }
 
 KIND(damaged)

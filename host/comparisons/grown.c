@@ -17,15 +17,15 @@ static size_t some_room(size_t exact, size_t roomy)
     }
 }
 
-static void compare_grid(const struct bytes *book, const struct grid *grid, bool derived)
+static void compare_grid(size_t press, const struct bytes *book, const struct grid *grid, bool derived)
 {
     struct bytes sheet;
     spell_sheet(grid, &sheet);
-    if (compare_read_sheet(&sheet) != (uint64_t)grid->ticket << 32)
+    if (compare_read_sheet(press, &sheet) != (uint64_t)grid->ticket << 32)
         wrong("a sheet that keeps the rules is refused, or read with another ticket");
-    size_t work = some_room(dv_work_entries(grid->rows, grid->columns), ROOMY_WORK);
-    size_t tree = some_room(dv_tree_entries(grid->rows, grid->columns), ROOMY_TREE);
-    if (compare_derive(book, &sheet, work, tree) == DV_NOT_DERIVED && derived)
+    size_t work = some_room(dv_work_entries(grid->rows, grid->columns), roomy_work(press));
+    size_t tree = some_room(dv_tree_entries(grid->rows, grid->columns), roomy_tree(press));
+    if (compare_derive(press, book, &sheet, work, tree) == DV_NOT_DERIVED && derived)
         wrong("a sheet grown from the rules is not derived");
 }
 
@@ -36,14 +36,15 @@ static void compare_family(const struct family *family)
     spell_book(family, &book);
     if (compare_read_book(&book) != 0)
         wrong("a book that keeps the rules is refused");
-    unsigned most = one_in(8) ? DV_MOST_ROWS : 6;
+    size_t press = some_press();
+    unsigned most = some_side(press, 6, 8);
     for (unsigned i = 0; i < 3; i++) {
         bool derived = grow_grid(family, &grid, chance_from(1, most), chance_from(1, most));
-        compare_grid(&book, &grid, derived);
+        compare_grid(press, &book, &grid, derived);
         relist(&grid);
-        compare_grid(&book, &grid, derived);
+        compare_grid(press, &book, &grid, derived);
         spoil_cell(&grid);
-        compare_grid(&book, &grid, false);
+        compare_grid(press, &book, &grid, false);
     }
 }
 

@@ -1,4 +1,5 @@
-// The house example of docs/RULES.md, P1 to P12, on each engine by itself: here the outcomes are the page's own.
+// The house example of docs/RULES.md, P1 to P12, on each engine by itself and on each press: here the outcomes are the
+// page's own.
 #include <stdio.h>
 #include <stdlib.h>
 #include <string.h>
@@ -36,18 +37,21 @@ static const struct bytes house_either = BYTES(SLATES, 7, 6, 12, HOUSE_RULES, HO
 static const struct bytes book_and_sheet = BYTES(2, 1, 'a', 1, 'b', 4, 3, 1, 0, 0, 0);
 
 static const struct engine *judged;
+static size_t press;
 
 static void expect(bool holds, const char *what)
 {
     if (holds)
         return;
-    fprintf(stderr, "compare: the %s engine does not keep the house example: %s\n", judged->name, what);
+    fprintf(stderr, "compare: the %s engine does not keep the house example on press %zu: %s\n", judged->name, press,
+            what);
     exit(1);
 }
 
 static uint64_t derive(const struct bytes *book, const struct bytes *sheet, uint32_t *work, uint16_t *tree)
 {
-    return judged->derive(book->at, book->length, sheet->at, sheet->length, work, DV_MOST_WORK, tree, DV_MOST_TREE);
+    return judged->derive(press, book->at, book->length, sheet->at, sheet->length, work, DV_WIDE_MOST_WORK, tree,
+                          DV_WIDE_MOST_TREE);
 }
 
 // Whether a combination of the house book, with itself where it takes two, is this book.
@@ -60,8 +64,8 @@ static bool makes(enum combination combination, const struct bytes *made)
 
 static void expect_sheets(void)
 {
-    static uint32_t work[DV_MOST_WORK];
-    static uint16_t tree[DV_MOST_TREE];
+    static uint32_t work[DV_WIDE_MOST_WORK];
+    static uint16_t tree[DV_WIDE_MOST_TREE];
     expect(house.length == 34 && judged->read_book(house.at, house.length) == 0, "the house book");
     expect(derive(&house, &sheet_a, work, tree) == 0 && memcmp(tree, tree_a, sizeof tree_a) == 0, "P1");
     expect(memcmp(work, table_a, sizeof table_a) == 0, "P2");
@@ -93,34 +97,76 @@ static void expect_books(void)
     expect(makes(EITHER_OF, &house_either), "P12");
 }
 
+// The rows of a sheet by turns of either colour, as a stack of the family's sheets has them.
+static void striped(struct grid *grid, unsigned rows, unsigned columns)
+{
+    *grid = (struct grid){.rows = rows, .columns = columns};
+    add_ink(&grid->palette, "Slate C");
+    add_ink(&grid->palette, "Slate U");
+    for (unsigned i = 0; i < rows * columns; i++)
+        grid->cell[i] = i / columns % 2;
+}
+
+static uint64_t derive_grid(const struct bytes *book, const struct grid *grid)
+{
+    static uint32_t work[DV_WIDE_MOST_WORK];
+    static uint16_t tree[DV_WIDE_MOST_TREE];
+    struct bytes sheet;
+    spell_sheet(grid, &sheet);
+    return derive(book, &sheet, work, tree);
+}
+
+// The most columns of a press, and one more; the most rows, by a stack of sheets, and one more; and a wrong cell in the
+// largest sheet.
+static void expect_sides(void)
+{
+    unsigned rows = dv_most_rows(press), columns = dv_most_columns(press);
+    struct bytes stacked;
+    struct grid grid;
+    stacked.length = judged->of_one[STACK - RUN](house.at, house.length, stacked.at, DV_LONGEST_BOOK) >> 32;
+    striped(&grid, 2, columns);
+    expect(derive_grid(&house, &grid) == 0, "the most columns");
+    striped(&grid, 2, columns + 1);
+    expect(derive_grid(&house, &grid) == (3 | 2 << 8 | 19 << 12), "one column more");
+    striped(&grid, rows + 1, 1);
+    expect(derive_grid(&stacked, &grid) == (3 | 2 << 8 | 18 << 12), "one row more");
+    striped(&grid, rows, columns);
+    expect(derive_grid(&stacked, &grid) == 0, "the largest sheet");
+    grid.cell[rows / 2 * columns + columns / 2] ^= 1;
+    expect(derive_grid(&stacked, &grid) == 11, "the largest sheet with a wrong cell");
+}
+
 // Whether the size card of a book is this one, with so many sizes.
 static bool has_card(const struct bytes *book, const uint32_t *expected, uint64_t sizes)
 {
-    uint32_t card[DV_CARD_ENTRIES];
-    return judged->size_card(book->at, book->length, card, DV_CARD_ENTRIES) == sizes << 32 &&
-           memcmp(card, expected, sizeof card) == 0;
+    uint32_t card[DV_WIDE_CARD_ENTRIES];
+    size_t entries = dv_card_entries(press);
+    return judged->size_card(press, book->at, book->length, card, entries) == sizes << 32 &&
+           memcmp(card, expected, entries * sizeof *card) == 0;
 }
 
 // The house book has two rows and any columns; two of it side by side have at least two.
 static void expect_cards(void)
 {
-    static const uint32_t of_house[DV_CARD_ENTRIES] = {0, 0xfff}, of_two[DV_CARD_ENTRIES] = {0, 0xffe};
-    static const uint32_t transposed[DV_CARD_ENTRIES] = {2, 2, 2, 2, 2, 2, 2, 2, 2, 2, 2, 2};
-    expect(has_card(&house, of_house, 12), "its size card");
-    expect(has_card(&house_beside, of_two, 11), "the size card of two side by side");
-    expect(has_card(&house_transposed, transposed, 12), "the size card transposed");
+    const uint32_t all = press == DV_PRESS ? 0xfff : 0xffffff;
+    const uint32_t of_house[DV_WIDE_CARD_ENTRIES] = {0, all}, of_two[DV_WIDE_CARD_ENTRIES] = {0, all - 1};
+    static const uint32_t transposed[DV_WIDE_CARD_ENTRIES] = {2, 2, 2, 2, 2, 2, 2, 2, 2, 2, 2, 2,
+                                                              2, 2, 2, 2, 2, 2, 2, 2, 2, 2, 2, 2};
+    expect(has_card(&house, of_house, dv_most_columns(press)), "its size card");
+    expect(has_card(&house_beside, of_two, dv_most_columns(press) - 1), "the size card of two side by side");
+    expect(has_card(&house_transposed, transposed, dv_most_rows(press)), "the size card transposed");
 }
 
 static uint64_t why_not(const struct bytes *sheet, uint32_t *work)
 {
-    return judged->why_not(house.at, house.length, sheet->at, sheet->length, work, DV_MOST_WORK);
+    return judged->why_not(press, house.at, house.length, sheet->at, sheet->length, work, DV_WIDE_MOST_WORK);
 }
 
 // The upper left cell has a colour that the house book lacks; there is no sheet of one cell; a wrong cell in the middle
 // leaves the first column whole; and upside down no piece is right.
 static void expect_reasons(void)
 {
-    static uint32_t work[DV_MOST_WORK];
+    static uint32_t work[DV_WIDE_MOST_WORK];
     expect(why_not(&sheet_a, work) == 15 && memcmp(work, table_a, sizeof table_a) == 0, "sheet A in the family");
     expect(why_not(&sheet_a_slate, work) == UINT64_C(1) << 32, "the colour that no rule names");
     expect(why_not(&one_cell, work) == UINT64_C(2) << 32 && work[0] == 2, "the size that it has not");
@@ -137,9 +183,9 @@ static void expect_report(void)
         [DV_FIGURE_SHEETS] = 4,      [DV_FIGURE_ANSWERED] = 2, [DV_FIGURE_ANSWERED + 1] = 1,
         [DV_FIGURE_NOT_DERIVED] = 1, [DV_FIGURE_CELLS] = 4,    [DV_FIGURE_CELLS + 1] = 4,
         [DV_FIGURE_ACCEPTED] = 1,    [DV_FIGURE_LEAST] = 3,    [DV_FIGURE_GREATEST] = 7};
-    static uint32_t work[DV_MOST_WORK];
+    static uint32_t work[DV_WIDE_MOST_WORK];
     uint32_t figures[DV_REPORT_ENTRIES];
-    expect(judged->run_report(house.at, house.length, run.at, run.length, work, DV_MOST_WORK, figures,
+    expect(judged->run_report(press, house.at, house.length, run.at, run.length, work, dv_most_work(press), figures,
                               DV_REPORT_ENTRIES) == 0 &&
                memcmp(figures, expected, sizeof figures) == 0,
            "the report of a run");
@@ -147,7 +193,7 @@ static void expect_report(void)
 
 static uint64_t check_tree(const struct dv_node *nodes, size_t count)
 {
-    return judged->check_tree(house.at, house.length, sheet_a.at, sheet_a.length, nodes, count);
+    return judged->check_tree(press, house.at, house.length, sheet_a.at, sheet_a.length, nodes, count);
 }
 
 // Its own tree, one with another cut, a node that fails in the middle, one node short and one over, and none.
@@ -166,20 +212,23 @@ static void expect_trees(void)
 
 static uint64_t plain(const struct bytes *sheet)
 {
-    return judged->plain(house.at, house.length, sheet->at, sheet->length);
+    return judged->plain(press, house.at, house.length, sheet->at, sheet->length);
 }
 
-// 16 cells are taken, and more are not, but for a sheet that is refused.
+// 16 cells are taken, and more are not, but for a sheet that is refused: only the wide press takes 16 columns.
 static void expect_plain(void)
 {
     static const struct bytes sixteen = BYTES(SLATES, 0, 2, 8, 0, 0, 0, 0, 0, 0, 0, 0, 1, 1, 1, 1, 1, 1, 1, 1);
     static const struct bytes square = BYTES(SLATES, 0, 4, 4, 0, 0, 0, 0, 0, 0, 0, 0, 1, 1, 1, 1, 1, 1, 1, 1);
     static const struct bytes eighteen = BYTES(SLATES, 0, 2, 9, 0, 0, 0, 0, 0, 0, 0, 0, 0, 1, 1, 1, 1, 1, 1, 1, 1, 1);
-    static const struct bytes wide = BYTES(SLATES, 0, 1, 17, 0, 0, 0, 0, 0, 0, 0, 0, 0, 0, 0, 0, 0, 0, 0, 0, 0);
+    static const struct bytes row_of_16 = BYTES(SLATES, 0, 1, 16, 0, 0, 0, 0, 0, 0, 0, 0, 0, 0, 0, 0, 0, 0, 0, 0);
+    static const struct bytes row_of_17 = BYTES(SLATES, 0, 1, 17, 0, 0, 0, 0, 0, 0, 0, 0, 0, 0, 0, 0, 0, 0, 0, 0, 0);
+    const uint64_t refused = 3 | 2 << 8 | 19 << 12;
     expect(plain(&sheet_a) == 0 && plain(&sixteen) == 0, "sheet A and 2 by 8 are in the family");
     expect(plain(&square) == 11, "4 by 4 is not");
     expect(plain(&eighteen) == 20, "18 cells are too many");
-    expect(plain(&wide) == (3 | 2 << 8 | 19 << 12), "17 columns are too many");
+    expect(plain(&row_of_16) == (press == DV_PRESS ? refused : 11), "16 columns");
+    expect(plain(&row_of_17) == (press == DV_PRESS ? refused : 20), "17 columns");
 }
 
 // A book of 32 motifs, each of them two of the next, and the last a cell; its rules from the last to the first, so that
@@ -225,7 +274,27 @@ static void expect_lookups(void)
     expect(judged->colour(house.at, house.length, 1) == (10 | UINT64_C(7) << 32), "the name Slate U");
     for (size_t i = 0; i < sizeof rules / sizeof *rules; i++)
         expect(judged->rule(house.at, house.length, i) == rules[i], "the four rules");
-    expect(judged->sheet_size(sheet_a.at, sheet_a.length) == (2 | UINT64_C(3) << 32), "two rows and three columns");
+    expect(judged->sheet_size(press, sheet_a.at, sheet_a.length) == (2 | UINT64_C(3) << 32),
+           "two rows and three columns");
+}
+
+// Bytes that are a book and a sheet alike, no bytes, and slices that are just long enough or one short.
+static void compare_house(void)
+{
+    static const struct bytes empty = {0, {0}};
+    size_t columns = dv_most_columns(press);
+    if (compare_read_book(&book_and_sheet) != 0 || compare_read_sheet(press, &book_and_sheet) != UINT64_C(4) << 32)
+        wrong("bytes that are a book and a sheet alike are refused");
+    if (compare_read_book(&empty) != (1 | 1 << 8) || compare_read_sheet(press, &empty) != (1 | 1 << 8))
+        wrong("empty input is not refused with 1 at 0");
+    if (compare_derive(press, &house, &sheet_a, 18, 22) != 0 || compare_derive(press, &house, &sheet_a, 17, 22) != 9 ||
+        compare_derive(press, &house, &sheet_a, 18, 21) != 10)
+        wrong("sheet A wants a work slice of 18 and a tree slice of 22");
+    if (compare_why_not(press, &house, &sheet_a, 18) != 15 || compare_why_not(press, &house, &sheet_a, 17) != 9)
+        wrong("sheet A wants a work slice of 18");
+    if (compare_size_card(press, &house, columns, NULL) != (uint64_t)columns << 32 ||
+        compare_size_card(press, &house, columns - 1, NULL) != 13)
+        wrong("a card wants a slice of as many entries as a sheet has rows");
 }
 
 KIND(house)
@@ -233,26 +302,19 @@ KIND(house)
     static const struct engine *const engines[] = {&independent, &library};
     for (int i = 0; i < 2; i++) {
         judged = engines[i];
-        expect_sheets();
         expect_books();
-        expect_cards();
-        expect_reasons();
-        expect_report();
-        expect_trees();
-        expect_plain();
         expect_tidy();
-        expect_lookups();
+        for (press = DV_PRESS; press <= DV_WIDE_PRESS; press++) {
+            expect_sheets();
+            expect_sides();
+            expect_cards();
+            expect_reasons();
+            expect_report();
+            expect_trees();
+            expect_plain();
+            expect_lookups();
+        }
     }
-    if (compare_read_book(&book_and_sheet) != 0 || compare_read_sheet(&book_and_sheet) != UINT64_C(4) << 32)
-        wrong("bytes that are a book and a sheet alike are refused");
-    static const struct bytes empty = {0, {0}};
-    if (compare_read_book(&empty) != (1 | 1 << 8) || compare_read_sheet(&empty) != (1 | 1 << 8))
-        wrong("empty input is not refused with 1 at 0");
-    if (compare_derive(&house, &sheet_a, 18, 22) != 0 || compare_derive(&house, &sheet_a, 17, 22) != 9 ||
-        compare_derive(&house, &sheet_a, 18, 21) != 10)
-        wrong("sheet A wants a work slice of 18 and a tree slice of 22");
-    if (compare_why_not(&house, &sheet_a, 18) != 15 || compare_why_not(&house, &sheet_a, 17) != 9)
-        wrong("sheet A wants a work slice of 18");
-    if (compare_size_card(&house, 12, NULL) != UINT64_C(12) << 32 || compare_size_card(&house, 11, NULL) != 13)
-        wrong("a card wants a slice of 12");
+    for (press = DV_PRESS; press <= DV_WIDE_PRESS; press++)
+        compare_house();
 }

@@ -2,6 +2,7 @@
 #include <string.h>
 
 #include "../shared/chance.h"
+#include "../shared/grow.h"
 #include "compare.h"
 
 // So many names of one length that share all but the last letter, from a given one on.
@@ -38,18 +39,19 @@ static void compare_book(const struct family *family)
 {
     struct bytes book, sheet;
     struct grid grid = {.palette = family->palette, .rows = 2, .columns = 2};
+    size_t press = some_press();
     spell_book(family, &book);
     spell_sheet(&grid, &sheet);
     compare_read_book(&book);
-    compare_read_sheet(&sheet);
+    compare_read_sheet(press, &sheet);
     compare_colour(&book, family->palette.count);
     compare_colour(&book, family->palette.count - 1);
     compare_rule(&book, family->rules);
     compare_rule(&book, family->rules - 1);
-    compare_sheet_size(&sheet);
-    compare_derive(&book, &sheet, dv_work_entries(2, 2), dv_tree_entries(2, 2));
-    compare_size_card(&book, DV_CARD_ENTRIES, NULL);
-    compare_why_not(&book, &sheet, dv_work_entries(2, 2));
+    compare_sheet_size(press, &sheet);
+    compare_derive(press, &book, &sheet, dv_work_entries(2, 2), dv_tree_entries(2, 2));
+    compare_size_card(press, &book, dv_card_entries(press), NULL);
+    compare_why_not(press, &book, &sheet, dv_work_entries(2, 2));
     compare_combination(RUN, &book, NULL, ROOMY_OUT, NULL);
     compare_combination(TRANSPOSED, &book, NULL, book.length, NULL);
 }
@@ -87,16 +89,16 @@ static void compare_numbers_past_counts(void)
         }
 }
 
-static void compare_sheets_at_limits(void)
+static void compare_sheets_at_limits(size_t press)
 {
-    static const unsigned sides[] = {0, 1, 2, 11, 12, 13}, colours[] = {1, 64, 65};
+    static const unsigned sides[] = {0, 1, 2, 11, 12, 13, 23, 24, 25}, colours[] = {1, 64, 65};
     struct family family;
     struct bytes book, sheet;
     plain_palette(&family.palette, 3, 40, 0);
     plain_family(&family, 1, 3);
     spell_book(&family, &book);
-    for (int a = 0; a < 6; a++)
-        for (int b = 0; b < 6; b++)
+    for (int a = 0; a < 9; a++)
+        for (int b = 0; b < 9; b++)
             for (int c = 0; c < 3; c++)
                 for (unsigned more = 0; more < 3; more++) {
                     struct grid grid = {.ticket = more * 9000, .rows = sides[a], .columns = sides[b]};
@@ -106,26 +108,27 @@ static void compare_sheets_at_limits(void)
                     if (grid.rows * grid.columns > 0)
                         grid.cell[grid.rows * grid.columns - 1] = grid.palette.count - 1 + more % 2 + more / 2 * 64;
                     spell_sheet(&grid, &sheet);
-                    compare_read_sheet(&sheet);
-                    compare_sheet_size(&sheet);
-                    compare_derive(&book, &sheet, ROOMY_WORK, ROOMY_TREE);
-                    compare_derive(&book, &sheet, DV_MOST_WORK - 1, DV_MOST_TREE - 1);
-                    compare_why_not(&book, &sheet, DV_MOST_WORK);
-                    compare_why_not(&book, &sheet, DV_MOST_WORK - 1);
+                    compare_read_sheet(press, &sheet);
+                    compare_sheet_size(press, &sheet);
+                    compare_derive(press, &book, &sheet, roomy_work(press), roomy_tree(press));
+                    compare_derive(press, &book, &sheet, dv_most_work(press) - 1, dv_most_tree(press) - 1);
+                    compare_why_not(press, &book, &sheet, dv_most_work(press));
+                    compare_why_not(press, &book, &sheet, dv_most_work(press) - 1);
                 }
 }
 
 // The longest sheet, and one byte more.
-static void compare_longest_sheet(void)
+static void compare_longest_sheet(size_t press)
 {
-    struct grid grid = {.ticket = DV_GREATEST_TICKET, .rows = DV_MOST_ROWS, .columns = DV_MOST_COLUMNS};
+    struct grid grid = {.ticket = DV_GREATEST_TICKET, .rows = dv_most_rows(press), .columns = dv_most_columns(press)};
     struct bytes sheet;
     plain_palette(&grid.palette, DV_MOST_COLOURS, DV_LONGEST_NAME, 0);
     spell_sheet(&grid, &sheet);
-    if (sheet.length != DV_LONGEST_SHEET || compare_read_sheet(&sheet) != (uint64_t)DV_GREATEST_TICKET << 32)
+    if (sheet.length != dv_longest_sheet(press) ||
+        compare_read_sheet(press, &sheet) != (uint64_t)DV_GREATEST_TICKET << 32)
         wrong("the longest sheet has another length, or is refused");
     sheet.at[sheet.length++] = 0;
-    if (compare_read_sheet(&sheet) != (DV_BYTES_FOLLOW | 1 << 8 | (uint64_t)DV_LONGEST_SHEET << 12))
+    if (compare_read_sheet(press, &sheet) != (DV_BYTES_FOLLOW | 1 << 8 | (uint64_t)dv_longest_sheet(press) << 12))
         wrong("a byte that follows the longest sheet is not refused");
 }
 
@@ -183,8 +186,10 @@ KIND(limits)
 {
     compare_books_at_limits();
     compare_numbers_past_counts();
-    compare_sheets_at_limits();
-    compare_longest_sheet();
+    for (size_t press = DV_PRESS; press <= DV_WIDE_PRESS; press++) {
+        compare_sheets_at_limits(press);
+        compare_longest_sheet(press);
+    }
     compare_combinations_at_limits();
     compare_copies_at_limits();
 }

@@ -47,15 +47,15 @@ static void compare_rules(const struct family *family, const struct bytes *book)
     compare_past(compare_rule, book, family->rules);
 }
 
-static void compare_size(const struct grid *grid, const struct bytes *sheet)
+static void compare_size(size_t press, const struct grid *grid, const struct bytes *sheet)
 {
-    uint64_t size = compare_sheet_size(sheet);
+    uint64_t size = compare_sheet_size(press, sheet);
     if (dv_size_rows(size) != grid->rows || dv_size_columns(size) != grid->columns)
         wrong("the size shown is not the sheet's");
 }
 
 // Every beginning is refused, so that nothing is shown of it.
-static void compare_cut(struct bytes book, struct bytes sheet)
+static void compare_cut(size_t press, struct bytes book, struct bytes sheet)
 {
     while (book.length > 0) {
         book.length--;
@@ -64,7 +64,7 @@ static void compare_cut(struct bytes book, struct bytes sheet)
     }
     while (sheet.length > 0) {
         sheet.length--;
-        if (compare_sheet_size(&sheet) != 0)
+        if (compare_sheet_size(press, &sheet) != 0)
             wrong("a size is shown of a sheet that ends early");
     }
 }
@@ -76,14 +76,15 @@ KIND(lookups)
     struct bytes book, sheet;
     for (unsigned i = 0; i < 1500; i++) {
         grow_some_family(&family);
-        grow_grid(&family, &grid, DV_MOST_ROWS, DV_MOST_COLUMNS);
+        size_t press = some_press();
+        grow_grid(&family, &grid, dv_most_rows(press), dv_most_columns(press));
         relist(&grid);
         spell_book(&family, &book);
         spell_sheet(&grid, &sheet);
         compare_colours(&family, &book);
         compare_rules(&family, &book);
-        compare_size(&grid, &sheet);
+        compare_size(press, &grid, &sheet);
         if (one_in(40))
-            compare_cut(book, sheet);
+            compare_cut(press, book, sheet);
     }
 }

@@ -53,12 +53,13 @@ static bool derived(const struct bytes *book, struct small sheet)
 {
     struct grid grid = {.rows = sheet.rows, .columns = sheet.columns};
     struct bytes bytes;
+    size_t press = some_press();
     add_ink(&grid.palette, "a");
     add_ink(&grid.palette, "b");
     for (unsigned i = 0; i < sheet.rows * sheet.columns; i++)
         grid.cell[i] = sheet.cells >> i & 1;
     spell_sheet(&grid, &bytes);
-    return compare_derive(book, &bytes, dv_work_entries(SIDE, SIDE), dv_tree_entries(SIDE, SIDE)) == DV_ACCEPTED;
+    return compare_derive(press, book, &bytes, dv_work_entries(SIDE, SIDE), dv_tree_entries(SIDE, SIDE)) == DV_ACCEPTED;
 }
 
 // The sheets that a book derives, and how many they are.
@@ -79,9 +80,10 @@ static unsigned members_of(const struct bytes *book, struct members *members)
 // A size is on the card exactly when one of its sheets is a member.
 static void expect_card(const struct bytes *book, const struct members *members)
 {
-    uint32_t card[DV_CARD_ENTRIES];
+    size_t press = some_press();
+    uint32_t card[DV_WIDE_CARD_ENTRIES];
     struct small sheet;
-    compare_size_card(book, DV_CARD_ENTRIES, card);
+    compare_size_card(press, book, dv_card_entries(press), card);
     for (sheet.rows = 1; sheet.rows <= SIDE; sheet.rows++)
         for (sheet.columns = 1; sheet.columns <= SIDE; sheet.columns++) {
             bool found = false;

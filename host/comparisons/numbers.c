@@ -13,6 +13,10 @@ struct spelling {
 };
 
 static const struct spelling spellings[] = {
+    {1, {12}, 12},
+    {1, {13}, 13},
+    {1, {24}, 24},
+    {1, {25}, 25},
     {1, {127}, 127},
     {2, {128, 1}, 128},
     {2, {200, 1}, 200},
@@ -54,18 +58,14 @@ static const struct field fields_of_book[] = {
     {18, 2, DV_NOT_BELOW_COUNT}, // the last motif of a down rule
 };
 
+static size_t press;
+
 static const struct bytes sheet = {12, {2, 1, 'a', 1, 'b', 0, 2, 2, 0, 1, 1, 0}};
 enum { TICKET = 5 };
-static const struct field fields_of_sheet[] = {
-    {0, DV_MOST_COLOURS, DV_OUT_OF_RANGE},
-    {1, DV_LONGEST_NAME, DV_OUT_OF_RANGE},
-    {3, DV_LONGEST_NAME, DV_OUT_OF_RANGE},
-    {TICKET, DV_GREATEST_TICKET, DV_OUT_OF_RANGE},
-    {6, DV_MOST_ROWS, DV_OUT_OF_RANGE},
-    {7, DV_MOST_COLUMNS, DV_OUT_OF_RANGE},
-    {8, 1, DV_NOT_BELOW_COUNT}, // the first cell and the last
-    {11, 1, DV_NOT_BELOW_COUNT},
-};
+static uint64_t read_sheet(const struct bytes *cut)
+{
+    return compare_read_sheet(press, cut);
+}
 
 static uint64_t refusal(unsigned number, size_t place)
 {
@@ -106,9 +106,9 @@ static void compare_in_book(struct field field, const struct spelling *spelling)
     compare_cuts(spelt, field, spelling, compare_read_book);
     compare_colour(&spelt, 1);
     compare_rule(&spelt, 1);
-    compare_derive(&spelt, &sheet, ROOMY_WORK, ROOMY_TREE);
-    compare_why_not(&spelt, &sheet, ROOMY_WORK);
-    compare_size_card(&spelt, DV_CARD_ENTRIES, NULL);
+    compare_derive(press, &spelt, &sheet, roomy_work(press), roomy_tree(press));
+    compare_why_not(press, &spelt, &sheet, roomy_work(press));
+    compare_size_card(press, &spelt, dv_card_entries(press), NULL);
     compare_combination(BESIDE, &book, &spelt, ROOMY_OUT, NULL);
     compare_combination(RUN, &spelt, NULL, ROOMY_OUT, NULL);
 }
@@ -117,13 +117,13 @@ static void compare_in_sheet(struct field field, const struct spelling *spelling
 {
     struct bytes spelt = sheet;
     put(&spelt, field, spelling);
-    compare_cuts(spelt, field, spelling, compare_read_sheet);
+    compare_cuts(spelt, field, spelling, read_sheet);
     if (field.place == TICKET && spelling->number != 0 &&
-        compare_read_sheet(&spelt) != (uint64_t)spelling->number << 32)
+        compare_read_sheet(press, &spelt) != (uint64_t)spelling->number << 32)
         wrong("the ticket is not the one spelt");
-    compare_sheet_size(&spelt);
-    compare_derive(&book, &spelt, ROOMY_WORK, ROOMY_TREE);
-    compare_why_not(&book, &spelt, ROOMY_WORK);
+    compare_sheet_size(press, &spelt);
+    compare_derive(press, &book, &spelt, roomy_work(press), roomy_tree(press));
+    compare_why_not(press, &book, &spelt, roomy_work(press));
 }
 
 // The ticket has no part in what is derived.
@@ -138,25 +138,42 @@ static void compare_tickets(void)
         spoil_cell(&grid);
     spell_book(&family, &spelt);
     spell_sheet(&grid, &ticketed);
-    uint64_t answer = compare_derive(&spelt, &ticketed, ROOMY_WORK, ROOMY_TREE);
-    uint64_t reason = compare_why_not(&spelt, &ticketed, ROOMY_WORK);
+    press = some_press();
+    uint64_t answer = compare_derive(press, &spelt, &ticketed, roomy_work(press), roomy_tree(press));
+    uint64_t reason = compare_why_not(press, &spelt, &ticketed, roomy_work(press));
     grid.ticket = some_ticket();
     spell_sheet(&grid, &ticketed);
-    if (compare_read_sheet(&ticketed) != (uint64_t)grid.ticket << 32)
+    if (compare_read_sheet(press, &ticketed) != (uint64_t)grid.ticket << 32)
         wrong("the ticket is not the sheet's");
-    if (compare_derive(&spelt, &ticketed, ROOMY_WORK, ROOMY_TREE) != answer ||
-        compare_why_not(&spelt, &ticketed, ROOMY_WORK) != reason)
+    if (compare_derive(press, &spelt, &ticketed, roomy_work(press), roomy_tree(press)) != answer ||
+        compare_why_not(press, &spelt, &ticketed, roomy_work(press)) != reason)
         wrong("another ticket changes the answer");
 }
 
-KIND(numbers)
+static void compare_fields(void)
 {
+    const struct field fields_of_sheet[] = {
+        {0, DV_MOST_COLOURS, DV_OUT_OF_RANGE},
+        {1, DV_LONGEST_NAME, DV_OUT_OF_RANGE},
+        {3, DV_LONGEST_NAME, DV_OUT_OF_RANGE},
+        {TICKET, DV_GREATEST_TICKET, DV_OUT_OF_RANGE},
+        {6, (unsigned)dv_most_rows(press), DV_OUT_OF_RANGE},
+        {7, (unsigned)dv_most_columns(press), DV_OUT_OF_RANGE},
+        {8, 1, DV_NOT_BELOW_COUNT}, // the first cell and the last
+        {11, 1, DV_NOT_BELOW_COUNT},
+    };
     for (size_t i = 0; i < sizeof spellings / sizeof *spellings; i++) {
         for (size_t j = 0; j < sizeof fields_of_book / sizeof *fields_of_book; j++)
             compare_in_book(fields_of_book[j], &spellings[i]);
         for (size_t j = 0; j < sizeof fields_of_sheet / sizeof *fields_of_sheet; j++)
             compare_in_sheet(fields_of_sheet[j], &spellings[i]);
     }
+}
+
+KIND(numbers)
+{
+    for (press = DV_PRESS; press <= DV_WIDE_PRESS; press++)
+        compare_fields();
     for (unsigned i = 0; i < 1500; i++)
         compare_tickets();
 }

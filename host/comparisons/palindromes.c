@@ -36,11 +36,11 @@ static void palindrome_family(struct family *family)
     add_rule(family, B1, DV_KIND_COLOUR, B, 0);
 }
 
-static void compare_grid(const struct bytes *book, const struct grid *grid)
+static void compare_grid(size_t press, const struct bytes *book, const struct grid *grid)
 {
     struct bytes sheet;
     spell_sheet(grid, &sheet);
-    uint64_t answer = compare_derive(book, &sheet, dv_work_entries(grid->rows, grid->columns),
+    uint64_t answer = compare_derive(press, book, &sheet, dv_work_entries(grid->rows, grid->columns),
                                      dv_tree_entries(grid->rows, grid->columns));
     if (answer != (columns_are_palindromes(grid) ? DV_ACCEPTED : DV_NOT_DERIVED))
         wrong("the answer does not say whether each column is a palindrome");
@@ -53,24 +53,25 @@ static void compare_all(const struct bytes *book, struct grid *grid)
             for (unsigned cells = 0; cells < 1u << grid->rows * grid->columns; cells++) {
                 for (unsigned i = 0; i < grid->rows * grid->columns; i++)
                     grid->cell[i] = cells >> i & 1;
-                compare_grid(book, grid);
+                compare_grid(some_press(), book, grid);
             }
 }
 
 static void compare_large(const struct bytes *book, struct grid *grid)
 {
+    size_t press = some_press();
     grid->ticket = some_ticket();
-    grid->rows = chance_from(1, DV_MOST_ROWS);
-    grid->columns = chance_from(1, DV_MOST_COLUMNS);
+    grid->rows = chance_from(1, some_side(press, DV_MOST_ROWS, 1));
+    grid->columns = chance_from(1, some_side(press, DV_MOST_COLUMNS, 1));
     for (unsigned row = 0; row < grid->rows; row++)
         for (unsigned column = 0; column < grid->columns; column++) {
             unsigned twin = grid->rows - 1 - row;
             grid->cell[row * grid->columns + column] =
                 twin < row ? grid->cell[twin * grid->columns + column] : chance_below(2);
         }
-    compare_grid(book, grid);
+    compare_grid(press, book, grid);
     grid->cell[chance_below(grid->rows * grid->columns)] ^= 1;
-    compare_grid(book, grid);
+    compare_grid(press, book, grid);
 }
 
 KIND(palindromes)

@@ -1,30 +1,33 @@
-// The plain engine against the table: small books by chance, with sheets of up to 16 cells and of more; and damaged.
+// The plain engine against the table: small books by chance, with sheets of up to 16 cells and of more, some of which
+// only the wide press takes; and damaged.
 #include "../shared/chance.h"
 #include "../shared/damage.h"
 #include "../shared/grow.h"
 #include "../shared/soon.h"
 #include "compare.h"
 
+static size_t press;
 static struct bytes book, sheet;
 
 static const struct {
     unsigned rows, columns;
-} sizes[] = {{4, 4}, {1, 12}, {12, 1}, {2, 8}, {8, 2}, {3, 5}, {5, 3}, {3, 6}, {2, 9}, {9, 2}, {12, 12}};
+} sizes[] = {{4, 4}, {1, 12}, {12, 1},  {2, 8},  {8, 2},  {3, 5},  {5, 3}, {3, 6},
+             {2, 9}, {9, 2},  {12, 12}, {1, 16}, {16, 1}, {1, 17}, {17, 1}};
 
 static size_t cells(void)
 {
-    uint64_t size = dv_sheet_size(sheet.at, sheet.length);
+    uint64_t size = dv_sheet_size(press, sheet.at, sheet.length);
     return dv_size_rows(size) * dv_size_columns(size);
 }
 
 // A sheet of too many cells is refused for them, and to any other pair both engines give the same answer.
 static void compare_pair(void)
 {
-    if (!soon_searched(&book, &sheet))
+    if (!soon_searched(press, &book, &sheet))
         return;
-    uint64_t derived = compare_derive(&book, &sheet, ROOMY_WORK, ROOMY_TREE);
+    uint64_t derived = compare_derive(press, &book, &sheet, roomy_work(press), roomy_tree(press));
     bool many = cells() > DV_MOST_PLAIN_CELLS && (derived == DV_ACCEPTED || derived == DV_NOT_DERIVED);
-    if (compare_plain(&book, &sheet) != (many ? DV_TOO_MANY_CELLS : derived))
+    if (compare_plain(press, &book, &sheet) != (many ? DV_TOO_MANY_CELLS : derived))
         wrong("the plain engine has another answer than the table");
 }
 
@@ -47,6 +50,7 @@ static void grow_some_grid(const struct family *family, struct grid *grid, unsig
 static void compare_family(const struct family *family)
 {
     struct grid grid;
+    press = some_press();
     spell_book(family, &book);
     for (size_t i = 0; i < sizeof sizes / sizeof *sizes; i++) {
         grow_some_grid(family, &grid, sizes[i].rows, sizes[i].columns);
@@ -66,11 +70,11 @@ static void compare_all_of_one_colour(void)
     add_rule(&family, 0, DV_KIND_DOWN, 0, 0);
     add_rule(&family, 0, DV_KIND_COLOUR, 0, 0);
     spell_book(&family, &book);
-    for (unsigned rows = 1; rows <= DV_MOST_ROWS; rows++)
-        for (unsigned columns = 1; columns <= DV_MOST_COLUMNS; columns++) {
+    for (unsigned rows = 1; rows <= dv_most_rows(press); rows++)
+        for (unsigned columns = 1; columns <= dv_most_columns(press); columns++) {
             struct grid grid = {.palette = family.palette, .rows = rows, .columns = columns};
             spell_sheet(&grid, &sheet);
-            if (compare_plain(&book, &sheet) != (rows * columns > DV_MOST_PLAIN_CELLS ? DV_TOO_MANY_CELLS : 0))
+            if (compare_plain(press, &book, &sheet) != (rows * columns > DV_MOST_PLAIN_CELLS ? DV_TOO_MANY_CELLS : 0))
                 wrong("a sheet of one colour is not taken up to 16 cells and refused with more");
         }
 }
@@ -78,7 +82,8 @@ static void compare_all_of_one_colour(void)
 KIND(plain)
 {
     struct family family;
-    compare_all_of_one_colour();
+    for (press = DV_PRESS; press <= DV_WIDE_PRESS; press++)
+        compare_all_of_one_colour();
     for (unsigned i = 0; i < 1500; i++) {
         grow_family(&family, chance_from(1, 3), chance_from(1, 4), chance_from(1, 9));
         compare_family(&family);

@@ -4,8 +4,9 @@
 
 struct plan plan;
 
-void begin(const struct bytes *book)
+void begin(size_t press, const struct bytes *book)
 {
+    plan.press = press;
     plan.book = *book;
     plan.run.length = 0;
     memset(plan.figures, 0, sizeof plan.figures);
@@ -15,8 +16,8 @@ void begin(const struct bytes *book)
 
 static void expect_accepted(const uint8_t *sheet, size_t length, const uint16_t *tree)
 {
-    uint64_t size = dv_sheet_size(sheet, length);
-    uint32_t ticket = dv_ticket(dv_read_sheet(sheet, length)), *figures = plan.figures;
+    uint64_t size = dv_sheet_size(plan.press, sheet, length);
+    uint32_t ticket = dv_ticket(dv_read_sheet(plan.press, sheet, length)), *figures = plan.figures;
     size_t entries = dv_tree_entries(dv_size_rows(size), dv_size_columns(size));
     for (size_t i = 0; i < entries; i += 2)
         if (dv_rule_kind(plan.rule[tree[i]]) == DV_KIND_COLOUR)
@@ -29,13 +30,13 @@ static void expect_accepted(const uint8_t *sheet, size_t length, const uint16_t 
 
 void add(const uint8_t *sheet, size_t length)
 {
-    static uint32_t work[DV_MOST_WORK];
-    static uint16_t tree[DV_MOST_TREE];
+    static uint32_t work[DV_WIDE_MOST_WORK];
+    static uint16_t tree[DV_WIDE_MOST_TREE];
     if (plan.run.length + 3 + length > DV_LONGEST_RUN)
         return;
     add_sheet(&plan.run, sheet, length);
-    unsigned number =
-        dv_number(dv_derive(plan.book.at, plan.book.length, sheet, length, work, DV_MOST_WORK, tree, DV_MOST_TREE));
+    unsigned number = dv_number(dv_derive(plan.press, plan.book.at, plan.book.length, sheet, length, work,
+                                          DV_WIDE_MOST_WORK, tree, DV_WIDE_MOST_TREE));
     plan.figures[DV_FIGURE_SHEETS]++;
     plan.figures[number == DV_NOT_DERIVED ? DV_FIGURE_NOT_DERIVED : DV_FIGURE_ANSWERED + number]++;
     if (number == DV_ACCEPTED)
@@ -44,24 +45,25 @@ void add(const uint8_t *sheet, size_t length)
 
 uint64_t report(const struct run *run, size_t work_len, size_t figures_len)
 {
-    return compare_run_report(&plan.book, run, work_len, figures_len, NULL);
+    return compare_run_report(plan.press, &plan.book, run, work_len, figures_len, NULL);
 }
 
 void compare_rooms_of_run(void)
 {
     uint32_t figures[DV_REPORT_ENTRIES];
+    size_t needed = dv_most_work(plan.press);
     for (size_t more = 0; more < 3; more++) {
-        size_t work = more == 2 ? ROOMY_WORK : DV_MOST_WORK + more;
-        if (compare_run_report(&plan.book, &plan.run, work, DV_REPORT_ENTRIES + more, figures) != DV_ACCEPTED)
+        size_t work = more == 2 ? roomy_work(plan.press) : needed + more;
+        if (compare_run_report(plan.press, &plan.book, &plan.run, work, DV_REPORT_ENTRIES + more, figures) !=
+            DV_ACCEPTED)
             wrong("a run of sheets is not reported on");
         if (memcmp(figures, plan.figures, sizeof figures) != 0)
             wrong("the figures are not those of the sheets by themselves");
     }
-    if (report(&plan.run, DV_MOST_WORK - 1, DV_REPORT_ENTRIES) != DV_WORK_SHORT ||
+    if (report(&plan.run, needed - 1, DV_REPORT_ENTRIES) != DV_WORK_SHORT ||
         report(&plan.run, 0, DV_REPORT_ENTRIES + 1) != DV_WORK_SHORT)
         wrong("a work slice that is too short is not refused");
-    if (report(&plan.run, DV_MOST_WORK, DV_REPORT_ENTRIES - 1) != DV_OUT_SHORT ||
-        report(&plan.run, 0, 0) != DV_OUT_SHORT)
+    if (report(&plan.run, needed, DV_REPORT_ENTRIES - 1) != DV_OUT_SHORT || report(&plan.run, 0, 0) != DV_OUT_SHORT)
         wrong("a figures slice that is too short is not refused");
 }
 
@@ -80,7 +82,7 @@ static void compare_ending(const uint8_t *bytes, size_t length, unsigned number,
     memcpy(run.at + run.length, bytes, length);
     run.length += length;
     uint64_t due = refusal(number, at_the_end ? run.length : plan.run.length);
-    if (report(&run, DV_MOST_WORK, DV_REPORT_ENTRIES) != due || report(&run, 0, DV_REPORT_ENTRIES) != due)
+    if (report(&run, dv_most_work(plan.press), DV_REPORT_ENTRIES) != due || report(&run, 0, DV_REPORT_ENTRIES) != due)
         wrong("the last length of a run is not answered as its spelling says");
     if (report(&run, 0, DV_REPORT_ENTRIES - 1) != DV_OUT_SHORT)
         wrong("a figures slice that is too short is not refused first");

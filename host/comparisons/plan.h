@@ -6,6 +6,7 @@
 #include "compare.h"
 
 struct plan {
+    size_t press;
     struct bytes book;
     uint64_t rule[DV_MOST_RULES];
     struct run run;
@@ -14,13 +15,13 @@ struct plan {
 
 extern struct plan plan;
 
-// An empty run under a book.
-void begin(const struct bytes *book);
+// An empty run under a book, for a press.
+void begin(size_t press, const struct bytes *book);
 
 // Adds a sheet to the run where there is room, and what it gets to the figures.
 void add(const uint8_t *sheet, size_t length);
 
-// A report on a run under the book of the plan.
+// A report on a run under the book of the plan, for its press.
 uint64_t report(const struct run *run, size_t work_len, size_t figures_len);
 
 // What a run is answered that is refused so.

@@ -3,15 +3,16 @@
 #include "../shared/grow.h"
 #include "compare.h"
 
-static void compare_rooms_of_sheet(const struct bytes *book, const struct bytes *sheet, unsigned rows, unsigned columns)
+static void compare_rooms_of_sheet(size_t press, const struct bytes *book, const struct bytes *sheet, unsigned rows,
+                                   unsigned columns)
 {
     size_t work = dv_work_entries(rows, columns), tree = dv_tree_entries(rows, columns);
     for (size_t more_work = 0; more_work < 3; more_work++)
         for (size_t more_tree = 0; more_tree < 3; more_tree++)
-            compare_derive(book, sheet, work - 1 + more_work, tree - 1 + more_tree);
-    compare_derive(book, sheet, 0, 0);
-    compare_derive(book, sheet, work, 0);
-    compare_derive(book, sheet, ROOMY_WORK, ROOMY_TREE);
+            compare_derive(press, book, sheet, work - 1 + more_work, tree - 1 + more_tree);
+    compare_derive(press, book, sheet, 0, 0);
+    compare_derive(press, book, sheet, work, 0);
+    compare_derive(press, book, sheet, roomy_work(press), roomy_tree(press));
 }
 
 void compare_rooms_of_combination(enum combination combination, const struct bytes *first, const struct bytes *second)
@@ -35,7 +36,7 @@ KIND(rooms)
             spoil_cell(&grid);
         spell_book(&family, &book);
         spell_sheet(&grid, &sheet);
-        compare_rooms_of_sheet(&book, &sheet, grid.rows, grid.columns);
+        compare_rooms_of_sheet(some_press(), &book, &sheet, grid.rows, grid.columns);
         for (int combination = 0; combination < COMBINATIONS; combination++)
             compare_rooms_of_combination((enum combination)combination, &book, &book);
     }

@@ -4,11 +4,11 @@
 #include "plan.h"
 
 // The longest run, brought to that length by a sheet of noughts, and longer ones, whose lengths are not looked at.
-static void compare_longest(void)
+static void compare_longest(size_t press)
 {
     static const uint8_t sheet[] = {1, 1, 'a', 9, 1, 1, 0}, noughts[DV_LONGEST_RUN] = {0};
     static const struct bytes book = {9, {1, 1, 'a', 1, 0, 1, 0, 0, 0}};
-    begin(&book);
+    begin(press, &book);
     while (plan.run.length + 1 + sizeof sheet + 3 < DV_LONGEST_RUN - 20000)
         add(sheet, sizeof sheet);
     add(noughts, DV_LONGEST_RUN - 3 - plan.run.length);
@@ -17,38 +17,38 @@ static void compare_longest(void)
     compare_rooms_of_run();
     for (unsigned more = 1; more < 40; more += more) {
         plan.run.length = DV_LONGEST_RUN + more;
-        if (report(&plan.run, DV_MOST_WORK, DV_REPORT_ENTRIES) != refusal(DV_OUT_OF_RANGE, 0) ||
+        if (report(&plan.run, dv_most_work(press), DV_REPORT_ENTRIES) != refusal(DV_OUT_OF_RANGE, 0) ||
             report(&plan.run, 0, DV_REPORT_ENTRIES) != refusal(DV_OUT_OF_RANGE, 0))
             wrong("a run that is too long is not refused");
     }
     memset(plan.run.at, 128, sizeof plan.run.at);
-    if (report(&plan.run, DV_MOST_WORK, DV_REPORT_ENTRIES) != refusal(DV_OUT_OF_RANGE, 0))
+    if (report(&plan.run, dv_most_work(press), DV_REPORT_ENTRIES) != refusal(DV_OUT_OF_RANGE, 0))
         wrong("a length of a run that is too long is looked at");
 }
 
 // The most sheets that a run can have: all of them have no bytes, or one cell.
-static void compare_most_sheets(void)
+static void compare_most_sheets(size_t press)
 {
     static const uint8_t sheet[] = {1, 1, 'a', 9, 1, 1, 0};
     static const struct bytes book = {9, {1, 1, 'a', 1, 0, 1, 0, 0, 0}};
-    begin(&book);
+    begin(press, &book);
     memset(plan.run.at, 0, DV_LONGEST_RUN);
     plan.run.length = DV_LONGEST_RUN;
     plan.figures[DV_FIGURE_SHEETS] = plan.figures[DV_FIGURE_ANSWERED + DV_ENDS_EARLY] = DV_LONGEST_RUN;
     compare_rooms_of_run();
-    begin(&book);
+    begin(press, &book);
     for (unsigned i = 0; i < DV_LONGEST_RUN / (1 + sizeof sheet); i++)
         add(sheet, sizeof sheet);
     compare_rooms_of_run();
 }
 
 // Every byte as every other, and every beginning, of a run of three sheets.
-static void compare_small_run(void)
+static void compare_small_run(size_t press)
 {
     static const uint8_t one[] = {1, 1, 'a', 9, 1, 1, 0}, two[] = {1, 1, 'a', 255, 1, 1, 2, 0, 0};
     static const struct bytes book = {13, {1, 1, 'a', 1, 0, 2, 0, 0, 0, 0, 1, 0, 0}};
     static struct run run;
-    begin(&book);
+    begin(press, &book);
     add(one, sizeof one);
     add(one, 0);
     add(two, sizeof two);
@@ -58,11 +58,11 @@ static void compare_small_run(void)
         run = plan.run;
         for (unsigned byte = 0; byte < 256; byte++) {
             run.at[at] = (uint8_t)byte;
-            report(&run, DV_MOST_WORK, DV_REPORT_ENTRIES);
+            report(&run, dv_most_work(press), DV_REPORT_ENTRIES);
         }
         run = plan.run;
         run.length = at;
-        report(&run, DV_MOST_WORK, DV_REPORT_ENTRIES);
+        report(&run, dv_most_work(press), DV_REPORT_ENTRIES);
     }
 }
 
@@ -80,29 +80,31 @@ static const struct bytes *with_long_number(const struct bytes *bytes, size_t at
 }
 
 // Each byte of a book, and of a sheet, as such a number: most are out of range, or misspelt.
-static void compare_long_numbers(void)
+static void compare_long_numbers(size_t press)
 {
     static const uint8_t last[] = {0, 1, 127, 128, 255};
     static const struct bytes book = {9, {1, 1, 'a', 1, 0, 1, 0, 0, 0}}, sheet = {7, {1, 1, 'a', 9, 1, 1, 0}};
     for (size_t i = 0; i < sizeof last; i++) {
         for (size_t at = 0; at < book.length; at++) {
-            begin(with_long_number(&book, at, last[i]));
+            begin(press, with_long_number(&book, at, last[i]));
             add(sheet.at, sheet.length);
-            report(&plan.run, DV_MOST_WORK, DV_REPORT_ENTRIES);
+            report(&plan.run, dv_most_work(press), DV_REPORT_ENTRIES);
         }
         for (size_t at = 0; at < sheet.length; at++) {
             const struct bytes *longer = with_long_number(&sheet, at, last[i]);
-            begin(&book);
+            begin(press, &book);
             add_sheet(&plan.run, longer->at, longer->length);
-            report(&plan.run, DV_MOST_WORK, DV_REPORT_ENTRIES);
+            report(&plan.run, dv_most_work(press), DV_REPORT_ENTRIES);
         }
     }
 }
 
 KIND(run_limits)
 {
-    compare_long_numbers();
-    compare_small_run();
-    compare_longest();
-    compare_most_sheets();
+    for (size_t press = DV_PRESS; press <= DV_WIDE_PRESS; press++) {
+        compare_long_numbers(press);
+        compare_small_run(press);
+        compare_longest(press);
+        compare_most_sheets(press);
+    }
 }

@@ -69,28 +69,30 @@ static void compare_damaged_run(void)
         run.length--;
         memmove(run.at + at, run.at + at + 1, run.length - at);
     }
-    report(&run, one_in(8) ? DV_MOST_WORK - 1 : DV_MOST_WORK, DV_REPORT_ENTRIES);
+    report(&run, dv_most_work(plan.press) - one_in(8), DV_REPORT_ENTRIES);
 }
 
 // The book's refusals come before those of the run.
 static void compare_damaged_book(void)
 {
     struct bytes damaged = plan.book;
+    size_t press = plan.press, work = dv_most_work(press);
     damage(&damaged);
-    compare_run_report(&damaged, &plan.run, one_in(4) ? 0 : DV_MOST_WORK, DV_REPORT_ENTRIES, NULL);
-    compare_run_report(&damaged, &plan.run, DV_MOST_WORK, DV_REPORT_ENTRIES - 1, NULL);
+    compare_run_report(press, &damaged, &plan.run, one_in(4) ? 0 : work, DV_REPORT_ENTRIES, NULL);
+    compare_run_report(press, &damaged, &plan.run, work, DV_REPORT_ENTRIES - 1, NULL);
     static struct run misspelt = {2, {128, 0}};
-    compare_run_report(&damaged, &misspelt, DV_MOST_WORK, DV_REPORT_ENTRIES, NULL);
+    compare_run_report(press, &damaged, &misspelt, work, DV_REPORT_ENTRIES, NULL);
 }
 
 static void compare_some_run(void)
 {
     struct family family;
     struct bytes book;
+    size_t press = some_press();
     grow_some_family(&family);
     spell_book(&family, &book);
-    begin(&book);
-    unsigned sheets = one_in(30) ? 100 : chance_below(12), most = one_in(10) ? DV_MOST_ROWS : 4;
+    begin(press, &book);
+    unsigned sheets = one_in(30) ? 100 : chance_below(12), most = some_side(press, 4, 10);
     for (unsigned i = 0; i < sheets; i++)
         add_some_sheet(&family, most);
     compare_rooms_of_run();

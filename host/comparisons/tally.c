@@ -7,7 +7,7 @@
 #include "../shared/chance.h"
 #include "call.h"
 
-enum { ENOUGH = 50, LAST_ANSWER = DV_TOO_MANY_CELLS };
+enum { ENOUGH = 50, LAST_ANSWER = DV_NO_SUCH_PRESS };
 
 static const char *kind;
 static uint64_t seed_of_run;

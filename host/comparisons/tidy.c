@@ -9,9 +9,10 @@
 
 static void expect_same_sizes(const struct bytes *one, const struct bytes *other)
 {
-    uint32_t of_one[DV_CARD_ENTRIES], of_other[DV_CARD_ENTRIES];
-    if (compare_size_card(one, DV_CARD_ENTRIES, of_one) != compare_size_card(other, DV_CARD_ENTRIES, of_other) ||
-        memcmp(of_one, of_other, sizeof of_one) != 0)
+    uint32_t of_one[DV_WIDE_CARD_ENTRIES], of_other[DV_WIDE_CARD_ENTRIES];
+    size_t press = some_press(), entries = dv_card_entries(press);
+    if (compare_size_card(press, one, entries, of_one) != compare_size_card(press, other, entries, of_other) ||
+        memcmp(of_one, of_other, entries * sizeof *of_one) != 0)
         wrong("the tidied book has other sizes");
 }
 
@@ -85,12 +86,13 @@ static void compare_book(const struct family *family, const struct bytes *book)
     if (!tidy(book, &tidied))
         return;
     for (unsigned i = 0; i < 3; i++) {
+        size_t press = some_press();
         grow_grid(family, &grid, 4, 4);
         if (one_in(2))
             spoil_cell(&grid);
         spell_sheet(&grid, &sheet);
-        uint64_t answer = compare_derive(book, &sheet, ROOMY_WORK, ROOMY_TREE);
-        uint64_t of_tidied = compare_derive(&tidied, &sheet, ROOMY_WORK, ROOMY_TREE);
+        uint64_t answer = compare_derive(press, book, &sheet, roomy_work(press), roomy_tree(press));
+        uint64_t of_tidied = compare_derive(press, &tidied, &sheet, roomy_work(press), roomy_tree(press));
         if (dv_number(answer) != DV_RULE_TWICE && of_tidied != answer)
             wrong("a book and the tidied one differ on a sheet");
     }

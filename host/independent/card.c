@@ -5,11 +5,9 @@
 #include "independent.h"
 #include "joins.h"
 
-enum { MOST = 12 };
-
 // The motifs that have a sheet of each height and width.
 struct sizes {
-    uint32_t motifs[MOST + 1][MOST + 1];
+    uint32_t motifs[WIDEST + 1][WIDEST + 1];
 };
 
 static uint32_t motifs_of_a_cell(const struct book *book)
@@ -45,19 +43,22 @@ bool independent_has_size(const struct book *book, unsigned rows, unsigned colum
     return sizes.motifs[rows][columns] >> book->start & 1;
 }
 
-uint64_t independent_size_card(const uint8_t *book, size_t book_len, uint32_t *card, size_t card_len)
+uint64_t independent_size_card(size_t press, const uint8_t *book, size_t book_len, uint32_t *card, size_t card_len)
 {
     struct book contents;
     struct sizes sizes;
-    uint64_t refusal = independent_book_of(&contents, book, book_len, 1), count = 0;
+    uint64_t refusal = independent_press_refused(press), count = 0;
+    if (refusal == 0)
+        refusal = independent_book_of(&contents, book, book_len, 1);
     if (refusal != 0)
         return refusal;
-    if (card_len < MOST)
+    unsigned most = independent_longest_side(press);
+    if (card_len < most)
         return independent_answer(13, 0, 0);
-    size_up(&contents, &sizes, MOST, MOST);
-    for (unsigned height = 1; height <= MOST; height++) {
+    size_up(&contents, &sizes, most, most);
+    for (unsigned height = 1; height <= most; height++) {
         card[height - 1] = 0;
-        for (unsigned width = 1; width <= MOST; width++) {
+        for (unsigned width = 1; width <= most; width++) {
             uint32_t has = sizes.motifs[height][width] >> contents.start & 1;
             card[height - 1] |= has << (width - 1);
             count += has;

@@ -59,12 +59,12 @@ static void write_node(struct job *job, unsigned motif, unsigned height, unsigne
     }
 }
 
-uint64_t independent_derive(const uint8_t *book, size_t book_len, const uint8_t *sheet, size_t sheet_len,
+uint64_t independent_derive(size_t press, const uint8_t *book, size_t book_len, const uint8_t *sheet, size_t sheet_len,
                             uint32_t *work, size_t work_len, uint16_t *tree, size_t tree_len)
 {
     struct job job;
     struct rules rules;
-    uint64_t refusal = independent_order_of(&job.order, book, book_len, sheet, sheet_len);
+    uint64_t refusal = independent_order_of(press, &job.order, book, book_len, sheet, sheet_len);
     if (refusal != 0)
         return refusal;
     unsigned m = job.order.sheet.rows, n = job.order.sheet.columns;

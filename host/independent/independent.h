@@ -7,30 +7,30 @@
 #include <stdint.h>
 
 uint64_t independent_read_book(const uint8_t *book, size_t book_len);
-uint64_t independent_read_sheet(const uint8_t *sheet, size_t sheet_len);
+uint64_t independent_read_sheet(size_t press, const uint8_t *sheet, size_t sheet_len);
 uint64_t independent_colour(const uint8_t *book, size_t book_len, size_t number);
 uint64_t independent_rule(const uint8_t *book, size_t book_len, size_t number);
-uint64_t independent_sheet_size(const uint8_t *sheet, size_t sheet_len);
+uint64_t independent_sheet_size(size_t press, const uint8_t *sheet, size_t sheet_len);
 
-uint64_t independent_derive(const uint8_t *book, size_t book_len, const uint8_t *sheet, size_t sheet_len,
+uint64_t independent_derive(size_t press, const uint8_t *book, size_t book_len, const uint8_t *sheet, size_t sheet_len,
                             uint32_t *work, size_t work_len, uint16_t *tree, size_t tree_len);
 
 // The one thing that it takes from the header.
 struct dv_node;
-uint64_t independent_check_tree(const uint8_t *book, size_t book_len, const uint8_t *sheet, size_t sheet_len,
-                                const struct dv_node *nodes, size_t nodes_len);
+uint64_t independent_check_tree(size_t press, const uint8_t *book, size_t book_len, const uint8_t *sheet,
+                                size_t sheet_len, const struct dv_node *nodes, size_t nodes_len);
 
-uint64_t independent_plain(const uint8_t *book, size_t book_len, const uint8_t *sheet, size_t sheet_len);
+uint64_t independent_plain(size_t press, const uint8_t *book, size_t book_len, const uint8_t *sheet, size_t sheet_len);
 
-uint64_t independent_size_card(const uint8_t *book, size_t book_len, uint32_t *card, size_t card_len);
+uint64_t independent_size_card(size_t press, const uint8_t *book, size_t book_len, uint32_t *card, size_t card_len);
 
-uint64_t independent_why_not(const uint8_t *book, size_t book_len, const uint8_t *sheet, size_t sheet_len,
+uint64_t independent_why_not(size_t press, const uint8_t *book, size_t book_len, const uint8_t *sheet, size_t sheet_len,
                              uint32_t *work, size_t work_len);
 
-uint64_t independent_recolour(const uint8_t *book, size_t book_len, uint8_t *sheet, size_t sheet_len, uint32_t *work,
-                              size_t work_len, size_t row, size_t column, size_t colour);
+uint64_t independent_recolour(size_t press, const uint8_t *book, size_t book_len, uint8_t *sheet, size_t sheet_len,
+                              uint32_t *work, size_t work_len, size_t row, size_t column, size_t colour);
 
-uint64_t independent_run_report(const uint8_t *book, size_t book_len, const uint8_t *run, size_t run_len,
+uint64_t independent_run_report(size_t press, const uint8_t *book, size_t book_len, const uint8_t *run, size_t run_len,
                                 uint32_t *work, size_t work_len, uint32_t *figures, size_t figures_len);
 
 uint64_t independent_either_of(const uint8_t *first, size_t first_len, const uint8_t *second, size_t second_len,

@@ -9,10 +9,12 @@ uint64_t independent_read_book(const uint8_t *book, size_t book_len)
     return independent_book_of(&contents, book, book_len, 1);
 }
 
-uint64_t independent_read_sheet(const uint8_t *sheet, size_t sheet_len)
+uint64_t independent_read_sheet(size_t press, const uint8_t *sheet, size_t sheet_len)
 {
     struct sheet contents;
-    uint64_t refusal = independent_sheet_of(&contents, sheet, sheet_len, 1);
+    uint64_t refusal = independent_press_refused(press);
+    if (refusal == 0)
+        refusal = independent_sheet_of(press, &contents, sheet, sheet_len, 1);
     return refusal != 0 ? refusal : (uint64_t)contents.ticket << 32;
 }
 
@@ -35,10 +37,10 @@ uint64_t independent_rule(const uint8_t *book, size_t book_len, size_t number)
            rule.head;
 }
 
-uint64_t independent_sheet_size(const uint8_t *sheet, size_t sheet_len)
+uint64_t independent_sheet_size(size_t press, const uint8_t *sheet, size_t sheet_len)
 {
     struct sheet contents;
-    if (independent_sheet_of(&contents, sheet, sheet_len, 1) != 0)
+    if (independent_press_refused(press) != 0 || independent_sheet_of(press, &contents, sheet, sheet_len, 1) != 0)
         return 0;
     return contents.rows | (uint64_t)contents.columns << 32;
 }

@@ -52,10 +52,10 @@ static bool derives(const struct order *order, unsigned motif, struct part part)
     return false;
 }
 
-uint64_t independent_plain(const uint8_t *book, size_t book_len, const uint8_t *sheet, size_t sheet_len)
+uint64_t independent_plain(size_t press, const uint8_t *book, size_t book_len, const uint8_t *sheet, size_t sheet_len)
 {
     struct order order;
-    uint64_t refusal = independent_order_of(&order, book, book_len, sheet, sheet_len);
+    uint64_t refusal = independent_order_of(press, &order, book, book_len, sheet, sheet_len);
     if (refusal != 0)
         return refusal;
     if (order.sheet.rows * order.sheet.columns > MOST_CELLS)

@@ -164,10 +164,10 @@ static bool read_book(struct reader *in, struct book *book, bool copies_taken)
     return at_end(in);
 }
 
-static bool read_sheet(struct reader *in, struct sheet *sheet)
+static bool read_sheet(struct reader *in, struct sheet *sheet, unsigned most)
 {
     if (!read_colours(in, &sheet->colours) || !read_range(in, 0, GREATEST, &sheet->ticket) ||
-        !read_range(in, 1, 12, &sheet->rows) || !read_range(in, 1, 12, &sheet->columns))
+        !read_range(in, 1, most, &sheet->rows) || !read_range(in, 1, most, &sheet->columns))
         return false;
     for (unsigned i = 0; i < sheet->rows * sheet->columns; i++) {
         unsigned colour;
@@ -190,10 +190,11 @@ uint64_t independent_untidy_of(struct book *book, const uint8_t *bytes, size_t l
     return read_book(&in, book, true) ? 0 : independent_answer(in.number, 1, in.place);
 }
 
-uint64_t independent_sheet_of(struct sheet *sheet, const uint8_t *bytes, size_t length, unsigned blamed)
+uint64_t independent_sheet_of(size_t press, struct sheet *sheet, const uint8_t *bytes, size_t length, unsigned blamed)
 {
     struct reader in = {bytes, length, 0, 0, 0};
-    return read_sheet(&in, sheet) ? 0 : independent_answer(in.number, blamed, in.place);
+    bool read = read_sheet(&in, sheet, independent_longest_side(press));
+    return read ? 0 : independent_answer(in.number, blamed, in.place);
 }
 
 uint64_t independent_number_at(unsigned *number, const uint8_t *bytes, size_t length, size_t *at, unsigned blamed)

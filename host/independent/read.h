@@ -6,6 +6,8 @@
 #include <stddef.h>
 #include <stdint.h>
 
+#include "press.h"
+
 enum { KIND_COLOUR = 0, KIND_ACROSS = 1, KIND_DOWN = 2 };
 
 // A name is the part of the lent bytes that holds it.
@@ -35,7 +37,7 @@ struct book {
 struct sheet {
     struct colours colours;
     unsigned ticket, rows, columns;
-    uint8_t cell[12 * 12];
+    uint8_t cell[WIDEST * WIDEST];
 };
 
 // A sheet under a book.
@@ -55,9 +57,10 @@ unsigned independent_colour_named(const struct colours *colours, struct name nam
 // Whether an equal rule stands among the first so many of a book.
 bool independent_stands(const struct book *book, unsigned rules, struct rule rule);
 
-// Each reads its input whole and answers 0, or 1 to 8, for a book also 18, blaming the input of that number.
+// Each reads its input whole and answers 0, or 1 to 8, for a book also 18, blaming the input of that number. There is
+// the press that a sheet is of.
 uint64_t independent_book_of(struct book *book, const uint8_t *bytes, size_t length, unsigned blamed);
-uint64_t independent_sheet_of(struct sheet *sheet, const uint8_t *bytes, size_t length, unsigned blamed);
+uint64_t independent_sheet_of(size_t press, struct sheet *sheet, const uint8_t *bytes, size_t length, unsigned blamed);
 
 // A book that is to be tidied, lent as the first input: equal rules are taken, and 18 is not given.
 uint64_t independent_untidy_of(struct book *book, const uint8_t *bytes, size_t length);
@@ -67,10 +70,10 @@ uint64_t independent_untidy_of(struct book *book, const uint8_t *bytes, size_t l
 uint64_t independent_number_at(unsigned *number, const uint8_t *bytes, size_t length, size_t *at, unsigned blamed);
 
 // Reads a sheet, as the second input, under the book that was read, and finds its colours there.
-uint64_t independent_sheet_under(struct order *order, const uint8_t *sheet, size_t sheet_len);
+uint64_t independent_sheet_under(size_t press, struct order *order, const uint8_t *sheet, size_t sheet_len);
 
-// Reads both, the book as the first input.
-uint64_t independent_order_of(struct order *order, const uint8_t *book, size_t book_len, const uint8_t *sheet,
-                              size_t sheet_len);
+// Reads both, the book as the first input, where there is such a press.
+uint64_t independent_order_of(size_t press, struct order *order, const uint8_t *book, size_t book_len,
+                              const uint8_t *sheet, size_t sheet_len);
 
 #endif

@@ -41,13 +41,13 @@ static uint64_t largest_piece(const struct table *table, unsigned motif)
     return largest;
 }
 
-uint64_t independent_why_not(const uint8_t *book, size_t book_len, const uint8_t *sheet, size_t sheet_len,
+uint64_t independent_why_not(size_t press, const uint8_t *book, size_t book_len, const uint8_t *sheet, size_t sheet_len,
                              uint32_t *work, size_t work_len)
 {
     struct order order;
     struct rules rules;
     struct table table;
-    uint64_t refusal = independent_order_of(&order, book, book_len, sheet, sheet_len);
+    uint64_t refusal = independent_order_of(press, &order, book, book_len, sheet, sheet_len);
     if (refusal != 0)
         return refusal;
     unsigned rows = order.sheet.rows, columns = order.sheet.columns;

@@ -3,13 +3,13 @@
 
 #include "table.h"
 
-uint64_t independent_recolour(const uint8_t *book, size_t book_len, uint8_t *sheet, size_t sheet_len, uint32_t *work,
-                              size_t work_len, size_t row, size_t column, size_t colour)
+uint64_t independent_recolour(size_t press, const uint8_t *book, size_t book_len, uint8_t *sheet, size_t sheet_len,
+                              uint32_t *work, size_t work_len, size_t row, size_t column, size_t colour)
 {
     struct order order;
     struct rules rules;
     struct table table;
-    uint64_t refusal = independent_order_of(&order, book, book_len, sheet, sheet_len);
+    uint64_t refusal = independent_order_of(press, &order, book, book_len, sheet, sheet_len);
     if (refusal != 0)
         return refusal;
     unsigned m = order.sheet.rows, n = order.sheet.columns;

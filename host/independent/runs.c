@@ -4,12 +4,13 @@
 #include "independent.h"
 #include "table.h"
 
-enum { LONGEST_RUN = 65536, MOST_ENTRIES = 6084 };
+enum { LONGEST_RUN = 65536 };
 
 // Where the figures stand. Answers 0 to 8 and book colours 0 to 63 have a figure each.
 enum { SHEETS = 0, ANSWERED = 1, DECLINED = 10, CELLS = 11, ACCEPTED = 75, LEAST = 76, GREATEST = 77, FIGURES = 78 };
 
 struct report {
+    size_t press;
     struct order order;
     struct rules rules;
     uint32_t *work, *figures;
@@ -49,7 +50,7 @@ static void add_sheet(struct report *report, const uint8_t *sheet, size_t length
     struct order *order = &report->order;
     struct table table;
     report->figures[SHEETS]++;
-    uint64_t refusal = independent_sheet_under(order, sheet, length);
+    uint64_t refusal = independent_sheet_under(report->press, order, sheet, length);
     if (refusal != 0) {
         report->figures[ANSWERED + (refusal & 0xff)]++;
         return;
@@ -63,21 +64,25 @@ static void add_sheet(struct report *report, const uint8_t *sheet, size_t length
     add_accepted(report);
 }
 
-uint64_t independent_run_report(const uint8_t *book, size_t book_len, const uint8_t *run, size_t run_len,
+uint64_t independent_run_report(size_t press, const uint8_t *book, size_t book_len, const uint8_t *run, size_t run_len,
                                 uint32_t *work, size_t work_len, uint32_t *figures, size_t figures_len)
 {
     struct report report;
+    uint64_t refusal = independent_press_refused(press);
+    if (refusal != 0)
+        return refusal;
     if (figures_len < FIGURES)
         return independent_answer(13, 0, 0);
     memset(figures, 0, FIGURES * sizeof *figures);
-    uint64_t refusal = independent_book_of(&report.order.book, book, book_len, 1);
+    refusal = independent_book_of(&report.order.book, book, book_len, 1);
     if (refusal == 0)
         refusal = judge_lengths(run, run_len);
     if (refusal != 0)
         return refusal;
-    if (work_len < MOST_ENTRIES)
+    if (work_len < independent_most_entries(press))
         return independent_answer(9, 0, 0);
     independent_split(&report.rules, &report.order.book);
+    report.press = press;
     report.work = work;
     report.figures = figures;
     unsigned length;
@@ -85,6 +90,6 @@ uint64_t independent_run_report(const uint8_t *book, size_t book_len, const uint
         independent_number_at(&length, run, run_len, &at, 2);
         add_sheet(&report, run + at, length);
     }
-    memset(work, 0, MOST_ENTRIES * sizeof *work);
+    memset(work, 0, independent_most_entries(press) * sizeof *work);
     return 0;
 }

@@ -16,7 +16,7 @@ struct rules {
 struct table {
     unsigned rows, columns;
     // The slot of the first piece of each height and width.
-    unsigned slot[13][13];
+    unsigned slot[WIDEST + 1][WIDEST + 1];
     const uint32_t *entry;
 };
 

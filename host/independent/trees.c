@@ -45,11 +45,11 @@ static bool is_tree(struct row *row, unsigned motif, unsigned height, unsigned w
     return true;
 }
 
-uint64_t independent_check_tree(const uint8_t *book, size_t book_len, const uint8_t *sheet, size_t sheet_len,
-                                const struct dv_node *nodes, size_t nodes_len)
+uint64_t independent_check_tree(size_t press, const uint8_t *book, size_t book_len, const uint8_t *sheet,
+                                size_t sheet_len, const struct dv_node *nodes, size_t nodes_len)
 {
     struct row row = {.node = nodes, .count = nodes_len, .next = 0};
-    uint64_t refusal = independent_order_of(&row.order, book, book_len, sheet, sheet_len);
+    uint64_t refusal = independent_order_of(press, &row.order, book, book_len, sheet, sheet_len);
     if (refusal != 0)
         return refusal;
     bool derives = is_tree(&row, row.order.book.start, row.order.sheet.rows, row.order.sheet.columns, 0, 0);

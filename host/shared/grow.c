@@ -47,7 +47,7 @@ void grow_some_family(struct family *family)
 
 // Which motifs have some grid of each height and width.
 struct sizes {
-    uint32_t motifs[DV_MOST_ROWS + 1][DV_MOST_COLUMNS + 1];
+    uint32_t motifs[DV_WIDE_MOST_ROWS + 1][DV_WIDE_MOST_COLUMNS + 1];
 };
 
 // Whether the two parts of a piece of this size, cut at k, can have the rule's motifs.
@@ -130,6 +130,16 @@ static bool pick_size(const struct family *family, const struct sizes *sizes, st
         found = true;
     }
     return found;
+}
+
+size_t some_press(void)
+{
+    return one_in(2) ? DV_PRESS : DV_WIDE_PRESS;
+}
+
+unsigned some_side(size_t press, unsigned side, unsigned times)
+{
+    return one_in(press == DV_PRESS ? times : 2 * times) ? (unsigned)dv_most_rows(press) : side;
 }
 
 unsigned some_ticket(void)

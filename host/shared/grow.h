@@ -20,6 +20,12 @@ void repeat_rule(struct family *family);
 // A family of a size that is most often small, now and then as large as a book can be.
 void grow_some_family(struct family *family);
 
+size_t some_press(void);
+
+// Most often this side of a sheet, and one time in so many the longest of the press: on the wide press half as often,
+// since its largest sheets take so much longer.
+unsigned some_side(size_t press, unsigned side, unsigned times);
+
 // The ticket of a job, often one where the spelling grows longer.
 unsigned some_ticket(void);
 

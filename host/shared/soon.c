@@ -18,7 +18,7 @@ static unsigned most_joins(const struct bytes *book, unsigned kind)
 // twice.
 static double most_questions(unsigned across, unsigned down, size_t rows, size_t columns)
 {
-    double most[DV_MOST_ROWS + 1][DV_MOST_COLUMNS + 1];
+    double most[DV_MOST_PLAIN_CELLS + 1][DV_MOST_PLAIN_CELLS + 1];
     for (size_t height = 1; height <= rows; height++)
         for (size_t width = 1; width <= columns; width++) {
             most[height][width] = 1;
@@ -30,9 +30,9 @@ static double most_questions(unsigned across, unsigned down, size_t rows, size_t
     return most[rows][columns];
 }
 
-bool soon_searched(const struct bytes *book, const struct bytes *sheet)
+bool soon_searched(size_t press, const struct bytes *book, const struct bytes *sheet)
 {
-    uint64_t size = dv_sheet_size(sheet->at, sheet->length);
+    uint64_t size = dv_sheet_size(press, sheet->at, sheet->length);
     size_t rows = dv_size_rows(size), columns = dv_size_columns(size);
     return rows * columns == 0 || rows * columns > DV_MOST_PLAIN_CELLS ||
            most_questions(most_joins(book, DV_KIND_ACROSS), most_joins(book, DV_KIND_DOWN), rows, columns) <=

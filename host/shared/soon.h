@@ -7,8 +7,8 @@
 
 #include "spell.h"
 
-// A refused pair and a sheet of more cells than it takes are soon answered, and any other where its rules leave few
-// questions to ask.
-bool soon_searched(const struct bytes *book, const struct bytes *sheet);
+// On a press. A refused pair and a sheet of more cells than it takes are soon answered, and any other where its rules
+// leave few questions to ask.
+bool soon_searched(size_t press, const struct bytes *book, const struct bytes *sheet);
 
 #endif

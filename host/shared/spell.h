@@ -36,7 +36,7 @@ struct family {
 struct grid {
     struct palette palette;
     unsigned ticket, rows, columns;
-    unsigned cell[(DV_MOST_ROWS + 1) * (DV_MOST_COLUMNS + 1)];
+    unsigned cell[(DV_WIDE_MOST_ROWS + 1) * (DV_WIDE_MOST_COLUMNS + 1)];
 };
 
 // Room for a run that is too long.

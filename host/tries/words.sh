@@ -1,7 +1,7 @@
-# Sourced by host/header: what the example and the report say of the samples, of sheets that are not in the family and of
-# files that are refused, and what they exit with.
+# Sourced by host/header: what the example and the report say of the samples, of sheets that are not in the family, of
+# sheets for the wide press and of files that are refused, and what they exit with.
 
-# says STATUS WORDS PROGRAM FILE..: the program exits so, and what it prints fits these words, a pattern.
+# says STATUS WORDS PROGRAM [--wide] FILE..: the program exits so, and what it prints fits these words, a pattern.
 says() {
     local expected=$1 words=$2 said status=0
     shift 2
@@ -50,6 +50,15 @@ says 2 '*the sheet: ends too early, at byte 21' example "$book" "$place/cut-shee
 says 2 '*the second book: ends too early, at byte 21' example "$book" "$sheet" "$place/cut-book.bin"
 says 2 '' example "$book" "$place/missing.bin"
 
+# Slate C over Slate U in 13 columns, more than press 0 takes.
+wide="\2$slates\0\2\15$(printf '\\0%.0s' {1..13})$(printf '\\1%.0s' {1..13})"
+says 0 '*24 of 576 sizes*job ticket 0*the sheet: accepted*Slate U' example --wide "$book" "$sheet"
+of_sheet 2 '*12 of 144 sizes*the sheet: a count, a length, rows or columns out of range, at byte 20' "$wide"
+says 0 '*24 of 576 sizes*the sheet: accepted*2 by 13 at row 1, column 1, *' example --wide "$book" "$place/sheet.bin"
+says 0 '*the sheet: accepted*side by side: accepted?a book of 52 bytes' example --wide "$book" "$sheet" "$book"
+says 1 '*not in the family*rows 1 to 2 of columns 2 to 3, *' example --wide "$book" "$samples/declined.bin"
+says 2 '' example --wide "$book"
+
 says 0 "5 sheets
 2 sheets: accepted
 1 sheet: ends too early
@@ -63,4 +72,8 @@ of_run 2 'the run: ends too early, at byte 3' '\0\3'
 says 2 'the run: longer than 65536 bytes, *' report "$book" "$place/long.bin"
 says 2 'the book: ends too early, at byte 21' report "$place/cut-book.bin" "$run"
 says 2 '' report "$book" "$place/missing.bin"
+of_run 0 '1 sheet?1 sheet: a count, a length, rows or columns out of range*no sheet is accepted*' "\56$wide"
+says 0 '1 sheet?1 sheet: accepted?Slate C: 13 cells?Slate U: 13 cells?job tickets 0 to 0' \
+    report --wide "$book" "$place/run.bin"
+says 2 '' report --wide "$book"
 echo "header: example and report say what they should, and exit as they should"

@@ -36,7 +36,7 @@ fn print_answer(a: Answer) {
 fn nodes(sheet: &[u8]) -> usize
     ensures { λ r. ⌜ r ≡ nodesOf (now (sheet .entry)) ⌝ }
 {
-    let size = sheet_size(sheet);
+    let size = sheet_size(0, sheet);
     let cells = size.rows * size.cols;
     if cells == 0 {
         return 0;
@@ -67,7 +67,13 @@ fn main() {
     let sheet_len = load(b"sheet.bin", &mut sheet);
     let mut work = [0u32; 6084];
     let mut tree = [0u16; 574];
-    let a = pieces::derive::derive(&book[..book_len], &sheet[..sheet_len], &mut work, &mut tree);
+    let a = pieces::derive::derive(
+        0,
+        &book[..book_len],
+        &sheet[..sheet_len],
+        &mut work,
+        &mut tree,
+    );
     print_answer(a);
     if a.number == 0 {
         print_nodes(&tree, nodes(&sheet[..sheet_len]));

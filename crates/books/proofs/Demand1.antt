@@ -1,6 +1,7 @@
--- What a C host learns from `dv_read_book` and `dv_read_sheet`, whatever the bytes, with the answer taken apart as the header's functions do: its number is 0 to 8, or
--- 18 for a book, a fault blames the input at a place within it, no fault blames nothing, each refusal is told exactly of the bytes that `BookFault` or `SheetFault` gives it, 0 is
--- told exactly of what is accepted, and with it the ticket of a sheet. The readers' laws bound the fault, so that it packs.
+-- What a C host learns from `dv_read_book` and `dv_read_sheet`, whatever the bytes, with the answer taken apart as the header's functions do: where there is no such press, 21 is
+-- told of a sheet and nothing else; else its number is 0 to 8, or 18 for a book, a fault blames the input at a place within it, no fault blames nothing, each refusal is told
+-- exactly of the bytes that `BookFault` or `SheetFault` gives it, 0 is told exactly of what is accepted, and with it the ticket of a sheet. The readers' laws bound the fault,
+-- so that it packs.
 use Prim.Native.Nat.{ℕ, _/_, _%_, _^_, _≤_}
 use mathlib.Core.Path.{_≡_, sym, ap, _∙_, subst⁻¹}
 use mathlib.Core.Logic.{_↔_, inl}
@@ -15,6 +16,7 @@ use Rattle.names.proofs.Picking.{pick-ind}
 use Rattle.names.proofs.ReadingNumbers.{BlamedBy}
 use Rattle.names.specs.Bytes.{Bytes}
 use Rattle.books.specs.Contents.{Contents}
+use Rattle.books.specs.Press.{IsPress}
 use Rattle.books.specs.Lent.{contentsOf}
 use Rattle.books.specs.ContentsIn.{gridIn}
 use Rattle.books.specs.Keeps.{Keeps}
@@ -30,12 +32,13 @@ use Rattle.books.specs.Calls.{bookAnswer, sheetAnswer, ticketOf}
 use Rattle.books.specs.declared.answer.Answer.{Answer}
 use Rattle.books.specs.declared.sheet.Sheet.{Sheet}
 use Rattle.books.proofs.ReadingBooks.{farthestBook, book-refused, book-accepted}
+use Rattle.books.proofs.LentEnds.{on-press}
 use Rattle.books.proofs.ReadingSheets.{sheet-refused}
 use Rattle.books.proofs.SpellingBooks.{book-read-back}
 use Rattle.books.proofs.SpellingSheets.{sheet-accepted, sheet-read-back}
 use Rattle.books.proofs.BookExactly.{book-refused-exactly}
 use Rattle.books.proofs.SheetExactly.{sheet-refused-exactly}
-use Rattle.books.proofs.Packing.{apart, book-placed, ticket-packs}
+use Rattle.books.proofs.Packing.{apart, book-placed, ticket-packs, no-press-packed}
 
 -- what the answer r tells of these bytes and the first fault in them, where the reader's numbers are known
 pub record Told (Known : ℕ → Type 0) (s : List ℕ) (f : Fault) (r : ℕ) : Type 0 where
@@ -108,11 +111,13 @@ read-book-told s r e =
       count = rw e (apart (bookAnswer s) 0 packs .count-is);
     }
 
-pub read-sheet-told : (press : ℕ) (s : List ℕ) (r : ℕ) → r ≡ packed (sheetAnswer press s) (ticketOf press s) → SheetTold press s r
-read-sheet-told press s r e =
+pub read-sheet-told : (press : ℕ) → IsPress press → (s : List ℕ) (r : ℕ) → r ≡ packed (sheetAnswer press s) (ticketOf press s) → SheetTold press s r
+read-sheet-told press is s r given =
+    let a = blaming 1 (sheetOf press s .fault) in
+    let e : r ≡ packed a (ticketOf press s) = given ∙ ap (λ (x : Answer). packed x (ticketOf press s)) (on-press press (λ x. x) a is) in
     let packs = ticket-packs press s in
     let t : Told ReadersNumber s (sheetOf press s .fault) r = rw e (told ReadersNumber (omega arith) s _ (ticketOf press s) (sheetOf press s .fault) packs (λ n. sheet-refused press s n .blamed)) in
-    let count : r / 2 ^ 32 ≡ ticketOf press s = rw e (apart (sheetAnswer press s) (ticketOf press s) packs .count-is) in
+    let count : r / 2 ^ 32 ≡ ticketOf press s = rw e (apart a (ticketOf press s) packs .count-is) in
     record {
       tells = t;
       refused = λ f some. let first = told-first s _ f r t some in let row = sheet-refused-exactly press s f some in (λ h. row .0 (first .0 h), λ x. first .1 (row .1 x));
@@ -123,3 +128,7 @@ read-sheet-told press s r e =
       ticket = λ g k i. count ∙ rw i (ap (λ (x : Grid). x .ticket) (sheet-read-back press g k .1));
       no-ticket = λ h. count ∙ ap (λ (x : Sheet). x .ticket) (sheet-refused press s (λ z. omega (arith, t .number-is)) .none);
     }
+
+-- where there is no such press, the answer is 21, which blames no input, with no place and no ticket
+pub no-press-told : (press : ℕ) → (IsPress press → ⊥) → (s : List ℕ) (r : ℕ) → r ≡ packed (sheetAnswer press s) (ticketOf press s) → r ≡ 21
+no-press-told press n s r e = e ∙ no-press-packed press s n

@@ -1,20 +1,24 @@
--- A lent book or sheet ends in its fault or goes on with what it holds: what holds of each way holds of the call. Each way is read off the fault's number.
+-- A call ends with 21 where there is no such press, and a lent book or sheet in its fault, or goes on with what it holds: what holds of each way holds of the
+-- call. Each way is read off the press or the fault's number.
 use Prim.Native.Nat.{ℕ}
 use mathlib.Core.Path.{_≡_}
 use mathlib.Core.Bool.{Bool, true, false}
 use mathlib.Core.List.{List}
-use borrow.Author.Tests.{eq-eqb, ne-eqb, eqb-true, eqb-false}
-use lib.Dec.{eqb}
+use native.Mathlib.Omega.{arith}
+use borrow.Author.Tests.{eq-eqb, ne-eqb, eqb-true, eqb-false, lt-ltb, le-ltb, ltb-true, ltb-false}
+use lib.Dec.{eqb, ltb}
 use Rattle.names.specs.Pick.{pick}
 use Rattle.names.specs.declared.number.Fault.{Fault}
 use Rattle.names.proofs.Picking.{pick-ind}
-use Rattle.books.specs.Answer.{answer, blaming}
+use Rattle.books.specs.Answer.{answer, plain, blaming}
 use Rattle.books.specs.Book.{bookBy, bookOf}
 use Rattle.books.specs.Contents.{Contents}
-use Rattle.books.specs.Lent.{contentsBy, contentsOf, pictureOf, Accepted, lentBookBy, lentBook, lentSheet, lentBoth}
+use Rattle.books.specs.Lent.{contentsBy, contentsOf, pictureOf, Accepted, onPress, lentBookBy, lentBook, lentSheet, lentBoth}
 use Rattle.books.specs.Picture.{Picture}
+use Rattle.books.specs.Press.{presses, IsPress}
 use Rattle.books.specs.Sheet.{sheetOf}
 use Rattle.books.specs.declared.answer.Answer.{Answer}
+use Rattle.books.proofs.ReadingSheets.{sheet-press}
 
 -- A fault that is one is blamed as it is.
 blamed : (P : Answer → Type 0) (input : ℕ) (f : Fault) → eqb (f .number) 0 ≡ false → P (answer (f .number) input (f .place)) → P (blaming input f)
@@ -26,6 +30,12 @@ blamed-is input f n = simp (ne-eqb (f .number) 0 n)
 -- ── Induction over the ways ──
 
 module _ {A : Type 0} (P : A → Type 0) (refuse : Answer → A) where
+  pub press-ends : (press : ℕ) (go : A) → ((IsPress press → ⊥) → P (refuse (plain 21))) → (IsPress press → P go) → P (onPress press refuse go)
+  press-ends press go none some =
+      pick-ind P (ltb press presses) go (refuse (plain 21))
+      (λ e. some (ltb-true press presses e))
+      (λ e. none (λ h. omega (arith, ltb-false press presses e)))
+
   -- of what was read with a fault, or without one
   read-ends : {X : Type 0} (input : ℕ) (f : Fault) (x : X) (go : X → A)
       → ((f .number ≡ 0 → ⊥) → P (refuse (answer (f .number) input (f .place)))) → (f .number ≡ 0 → P (go x))
@@ -46,27 +56,40 @@ module _ {A : Type 0} (P : A → Type 0) (refuse : Answer → A) where
   sheet-ends press input sheet go = read-ends input (sheetOf press sheet .fault) (pictureOf press sheet) go
 
   pub record BothEnd (press : ℕ) (book sheet : List ℕ) (go : Contents → Picture → A) : Type 0 where
-    pub in-book : (bookOf book .fault .number ≡ 0 → ⊥) → P (refuse (answer (bookOf book .fault .number) 1 (bookOf book .fault .place)))
-    pub in-sheet : bookOf book .fault .number ≡ 0 → (sheetOf press sheet .fault .number ≡ 0 → ⊥)
+    pub no-press : (IsPress press → ⊥) → P (refuse (plain 21))
+    pub in-book : IsPress press → (bookOf book .fault .number ≡ 0 → ⊥) → P (refuse (answer (bookOf book .fault .number) 1 (bookOf book .fault .place)))
+    pub in-sheet : IsPress press → bookOf book .fault .number ≡ 0 → (sheetOf press sheet .fault .number ≡ 0 → ⊥)
         → P (refuse (answer (sheetOf press sheet .fault .number) 2 (sheetOf press sheet .fault .place)))
     pub in-neither : Accepted press book sheet → P (go (contentsOf book) (pictureOf press sheet))
 
   pub both-end : (press : ℕ) (book sheet : List ℕ) (go : Contents → Picture → A) → BothEnd press book sheet go → P (lentBoth press book sheet refuse go)
   both-end press book sheet go ways =
-      book-ends true 1 book (λ b. lentSheet press 2 sheet refuse (go b)) (ways .in-book)
-      (λ z. sheet-ends press 2 sheet (go (contentsOf book)) (ways .in-sheet z) (λ y. ways .in-neither (record { book-fine = z; sheet-fine = y })))
+      press-ends press _ (ways .no-press) (λ is.
+      book-ends true 1 book (λ b. lentSheet press 2 sheet refuse (go b)) (ways .in-book is)
+      (λ z. sheet-ends press 2 sheet (go (contentsOf book)) (ways .in-sheet is z) (λ y. ways .in-neither (record { book-fine = z; sheet-fine = y }))))
 
 -- ── The order of the answers ──
 
-module _ {A : Type 0} (book : List ℕ) (refuse : Answer → A) where
-  pub book-refused-first : (input : ℕ) (go : Contents → A) → (bookOf book .fault .number ≡ 0 → ⊥)
-      → lentBook input book refuse go ≡ refuse (blaming input (bookOf book .fault))
-  book-refused-first input go n = simp (ne-eqb (bookOf book .fault .number) 0 n)
+module _ {A : Type 0} (press : ℕ) (refuse : Answer → A) where
+  pub no-press-first : (go : A) → (IsPress press → ⊥) → onPress press refuse go ≡ refuse (plain 21)
+  no-press-first go n = simp (le-ltb press presses (omega arith))
 
-  module _ (press : ℕ) (sheet : List ℕ) (go : Contents → Picture → A) where
-    pub sheet-refused-second : bookOf book .fault .number ≡ 0 → (sheetOf press sheet .fault .number ≡ 0 → ⊥)
+  pub on-press : (go : A) → IsPress press → onPress press refuse go ≡ go
+  on-press go h = simp (lt-ltb press presses h)
+
+  module _ (book sheet : List ℕ) (go : Contents → Picture → A) where
+    pub book-refused-next : IsPress press → (bookOf book .fault .number ≡ 0 → ⊥) → lentBoth press book sheet refuse go ≡ refuse (blaming 1 (bookOf book .fault))
+    book-refused-next h n = simp (lt-ltb press presses h, ne-eqb (bookOf book .fault .number) 0 n)
+
+    pub sheet-refused-last : IsPress press → bookOf book .fault .number ≡ 0 → (sheetOf press sheet .fault .number ≡ 0 → ⊥)
         → lentBoth press book sheet refuse go ≡ refuse (blaming 2 (sheetOf press sheet .fault))
-    sheet-refused-second z n = simp (eq-eqb (bookOf book .fault .number) 0 z, ne-eqb (sheetOf press sheet .fault .number) 0 n)
+    sheet-refused-last h z n = simp (lt-ltb press presses h, eq-eqb (bookOf book .fault .number) 0 z, ne-eqb (sheetOf press sheet .fault .number) 0 n)
 
     pub both-go-on : Accepted press book sheet → lentBoth press book sheet refuse go ≡ go (contentsOf book) (pictureOf press sheet)
-    both-go-on fine = simp (eq-eqb (bookOf book .fault .number) 0 (fine .book-fine), eq-eqb (sheetOf press sheet .fault .number) 0 (fine .sheet-fine))
+    both-go-on fine =
+        let z = fine .sheet-fine in
+        simp (lt-ltb press presses (sheet-press press sheet z), eq-eqb (bookOf book .fault .number) 0 (fine .book-fine), eq-eqb (sheetOf press sheet .fault .number) 0 z)
+
+    -- what a call makes of a book and an accepted sheet, it makes of the sheet's picture
+    pub by-picture : sheetOf press sheet .fault .number ≡ 0 → lentBoth press book sheet refuse go ≡ lentBook 1 book refuse (λ b. go b (pictureOf press sheet))
+    by-picture z = simp (lt-ltb press presses (sheet-press press sheet z), eq-eqb (sheetOf press sheet .fault .number) 0 z)

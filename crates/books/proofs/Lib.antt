@@ -40,12 +40,13 @@ pub mod ReadingSheets
 pub mod SpellingSheets
 pub mod SheetExactly
 pub mod LongestSheet
-pub mod Tickets
 pub mod InARow
 pub mod SpellingOn
 pub mod SpellingDrafts
 pub mod Packing
 pub mod LentEnds
+pub mod TwoPresses
+pub mod Tickets
 pub mod Outcomes
 pub mod NewBooks
 pub mod Demand1

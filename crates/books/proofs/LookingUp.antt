@@ -15,7 +15,7 @@ use Rattle.books.specs.ContentsIn.{gridIn}
 use Rattle.books.specs.Keeps.{BodyFits, RuleFits, mostRules}
 use Rattle.books.specs.Rules.{noRule}
 use Rattle.books.specs.Book.{bookOf}
-use Rattle.books.specs.Press.{greatestOf}
+use Rattle.books.specs.Press.{greatestOf, IsPress}
 use Rattle.books.specs.Sheet.{sheetOf}
 use Rattle.books.specs.Lookups.{ruleWith, ruleOf, sizeIn, sizeOf, packedRule, packedFound, packedSize, ruleShown, sizeShown, version}
 use Rattle.books.specs.RuleNumbers.{kindOf, firstHeld, secondHeld}
@@ -27,7 +27,7 @@ use Rattle.books.specs.declared.lookups.RuleFound.the-variants.{There, M
 use Rattle.books.specs.declared.size.Size.{Size}
 use Rattle.books.proofs.Presses.{greatest-few}
 use Rattle.books.proofs.ReadingBooks.{book-lies, book-refused, book-size}
-use Rattle.books.proofs.ReadingSheets.{sheet-lies, sheet-refused}
+use Rattle.books.proofs.ReadingSheets.{sheet-lies, sheet-refused, sheet-press}
 use Rattle.books.proofs.Settled.{settled}
 
 -- ── Taking apart ──
@@ -164,6 +164,10 @@ module _ (press : ℕ) (s : List ℕ) where
   -- it is 0 exactly where the sheet is refused, and not 0 exactly where it is accepted
   pub no-size-exactly : (sizeShown press s ≡ 0) ↔ (sheetOf press s .fault .number ≡ 0 → ⊥)
   no-size-exactly = (λ e z. omega (arith, sheet-lies press s z .within .rows-some), λ d. rw (sheet-refused press s d .none))
+
+  -- as of every sheet where there is no such press
+  pub no-press-no-size : (IsPress press → ⊥) → sizeShown press s ≡ 0
+  no-press-no-size n = no-size-exactly .1 (λ z. n (sheet-press press s z))
 
   pub size-exactly : (sizeShown press s ≡ 0 → ⊥) ↔ (sheetOf press s .fault .number ≡ 0)
   size-exactly = (

@@ -1,25 +1,28 @@
 -- An answer packed into one number is taken apart again by division: each part stays below what the next one counts. And every reader's answer packs,
 -- since its place is bounded.
 use Prim.Native.Nat.{ℕ, _/_, _%_, _^_, _≤_, _<_}
-use mathlib.Core.Path.{_≡_}
+use mathlib.Core.Path.{_≡_, ap}
 use mathlib.Core.Bool.{Bool, true, false}
 use mathlib.Core.List.{List}
 use mathlib.Core.Logic.{⊎-elim}
 use native.Mathlib.Omega.{arith}
 use borrow.Author.Tests.{eqb-false}
-use lib.Dec.{eqb}
+use lib.Dec.{eqb, ltb}
 use lib.ListN.{length}
 use Rattle.names.specs.declared.number.Fault.{Fault}
 use Rattle.names.proofs.Picking.{pick-ind}
 use Rattle.names.proofs.ReadingNumbers.{BlamedBy}
 use Rattle.books.specs.Answer.{NumberBy, answer, plain, blaming, packed, Packs}
 use Rattle.books.specs.Book.{bookBy, bookOf}
+use Rattle.books.specs.Press.{presses, IsPress}
 use Rattle.books.specs.Sheet.{sheetOf}
 use Rattle.books.specs.Calls.{sheetAnswer, ticketOf}
 use Rattle.books.specs.declared.answer.Answer.{Answer}
+use Rattle.books.specs.declared.sheet.Sheet.{Sheet}
 use Rattle.books.proofs.ReadingBooks.{farthestBook, book-refused-by}
 use Rattle.books.proofs.Area.{room-enough}
-use Rattle.books.proofs.ReadingSheets.{farthest, sheet-refused, sheet-ticket}
+use Rattle.books.proofs.ReadingSheets.{farthest, sheet-refused, sheet-ticket, no-press-none}
+use Rattle.books.proofs.LentEnds.{no-press-first}
 
 -- the parts of a packed answer
 pub record Apart (a : Answer) (count n : ℕ) : Type 0 where
@@ -74,5 +77,17 @@ pub sheet-placed : (press : ℕ) (s : List ℕ) (input : ℕ) → input < 2 ^ 4 
 sheet-placed press s input h = fault-placed s input (farthest press) (sheetOf press s .fault) (λ n l. omega arith) h (omega (arith, room-enough press)) (λ n. sheet-refused press s n .blamed)
 
 -- a sheet's ticket fits the count
-pub ticket-packs : (press : ℕ) (s : List ℕ) → Packs (sheetAnswer press s) (ticketOf press s)
+pub ticket-packs : (press : ℕ) (s : List ℕ) → Packs (blaming 1 (sheetOf press s .fault)) (ticketOf press s)
 ticket-packs press s = packs-with (ticketOf press s) (sheet-placed press s 1 (omega arith) .packs) (omega (arith, sheet-ticket press s))
+
+pub sheet-answer-packs : (press : ℕ) (s : List ℕ) → Packs (sheetAnswer press s) (ticketOf press s)
+sheet-answer-packs press s =
+    pick-ind (λ (a : Answer). Packs a (ticketOf press s)) (ltb press presses) (blaming 1 (sheetOf press s .fault)) (plain 21)
+    (λ _. ticket-packs press s)
+    (λ _. plain-packs 21 (ticketOf press s) (omega arith) (omega (arith, sheet-ticket press s)))
+
+-- where there is no such press, the number is 21 alone
+pub no-press-packed : (press : ℕ) (s : List ℕ) → (IsPress press → ⊥) → packed (sheetAnswer press s) (ticketOf press s) ≡ 21
+no-press-packed press s n =
+    let none : ticketOf press s ≡ 0 = ap (λ (x : Sheet). x .ticket) (no-press-none press s n) in
+    rw (no-press-first press (λ (x : Answer). x) (blaming 1 (sheetOf press s .fault)) n, none)

@@ -133,7 +133,10 @@ module _ (strict : Bool) (s : List ℕ) (z : coloursOf s .fault .number ≡ 0) w
       (λ t.
       let k = rules-lie strict s at (g .motifs) colours count (h .rules-few) (h .inside) (eqb-true _ 0 t) in
       pick-ind (Ended strict s) (ltb (rulesOf g at .next) (length s)) _ _
-      (λ e. inr (record { blamed = record { some = omega arith; known = known-by strict (omega arith); inside = k .inside; near = omega (arith, k .near, h .near, h .rules-few, l .near) }; empty = refl }))
+      (λ e. inr (record {
+        blamed = record { some = omega arith; known = known-by strict (omega arith); inside = k .inside; near = omega (arith, k .near, h .near, h .rules-few, l .near) };
+        empty = refl;
+      }))
       (λ e. inl (record { lies = book-found g at h k; spells = book-spells g at h k (ltb-false _ _ e) })))
       (λ t.
       let refused = rules-refused strict s at (g .motifs) colours count (h .rules-few) (h .inside) (eqb-false _ 0 t) in

@@ -19,13 +19,14 @@ use Rattle.names.proofs.Tests.{true-or-false}
 use Rattle.names.proofs.Onwards.{onward-ind}
 use Rattle.names.proofs.ReadingNumbers.{Blamed, blamed-later, number-lies, number-most, number-refused}
 use Rattle.names.proofs.ReadingColours.{listSpan, Places, places-none, ListLies, colours-lie, colours-refused}
-use Rattle.books.specs.Press.{greatestOf}
+use Rattle.books.specs.Press.{greatestOf, IsPress}
 use Rattle.books.specs.Size.{room, Within, sizeAt}
 use Rattle.books.specs.Cells.{CellsRead, noCells, cellsAt}
 use Rattle.books.specs.Sheet.{noSheet, refusedSheet, filledAt, sheetOf}
 use Rattle.books.specs.declared.size.Size.{Size}
 use Rattle.books.specs.declared.sheet.SheetRead.{SheetRead}
 use Rattle.books.proofs.Area.{within-area, within-room}
+use Rattle.books.proofs.Presses.{greatest-some}
 use Rattle.books.proofs.Onwards.{after-size-ind}
 use Rattle.books.proofs.ReadingSizes.{SizeLies, size-lies, size-refused}
 use Rattle.books.proofs.ReadingCells.{CellsLie, no-cells, stored-first, stored-end, cells-lie, cells-refused}
@@ -166,3 +167,14 @@ sheet-places press s =
 pub sheet-ticket : (press : ℕ) (s : List ℕ) → sheetOf press s .sheet .ticket ≤ greatestNumber
 sheet-ticket press s =
     ⊎-elim (λ t. number-most s _ _ _ (t .ticketed)) (λ r. rw (r .none) (omega arith)) (sheet-ended press s)
+
+-- ── The press ──
+
+module _ (press : ℕ) (s : List ℕ) where
+  -- a sheet is accepted on a press that there is, ...
+  pub sheet-press : sheetOf press s .fault .number ≡ 0 → IsPress press
+  sheet-press z = let w = sheet-lies press s z .within in greatest-some press .1 (omega (arith, w .rows-some, w .rows-few))
+
+  -- ... and on no other is there a sheet
+  pub no-press-none : (IsPress press → ⊥) → sheetOf press s .sheet ≡ noSheet
+  no-press-none n = sheet-refused press s (λ z. n (sheet-press z)) .none

@@ -3,16 +3,15 @@ use Prim.Native.Nat.{ℕ, _≤_}
 use mathlib.Core.Path.{_≡_, refl, sym, ap, _∙_}
 use mathlib.Core.List.{List}
 use mathlib.Core.Logic.{_↔_}
-use borrow.Author.Tests.{eq-eqb}
 use Rattle.names.specs.Number.{greatestNumber}
 use Rattle.books.specs.Contents.{Contents}
 use Rattle.books.specs.Grid.{Grid, GridKeeps, picture}
 use Rattle.books.specs.Derives.{Derives}
-use Rattle.books.specs.Lent.{pictureOf, lentBook, lentBoth}
+use Rattle.books.specs.Lent.{lentBook, lentBoth}
 use Rattle.books.specs.Picture.{Picture}
-use Rattle.books.specs.Sheet.{sheetOf}
 use Rattle.books.specs.Tickets.{withTicket, SameButTicket}
 use Rattle.books.specs.declared.answer.Answer.{Answer}
+use Rattle.books.proofs.LentEnds.{by-picture}
 use Rattle.books.proofs.SamePictures.{same-refl, same-derives}
 
 pub same-picture : (n : ℕ) (g : Grid) → picture (withTicket n g) ≡ picture g
@@ -33,15 +32,10 @@ ticket-keeps press n g h k =
 
 -- ── As bytes ──
 
--- what a call makes of a book and an accepted sheet, it makes of the sheet's picture
-by-picture : {A : Type 0} (press : ℕ) (book sheet : List ℕ) (refuse : Answer → A) (go : Contents → Picture → A) → sheetOf press sheet .fault .number ≡ 0
-    → lentBoth press book sheet refuse go ≡ lentBook 1 book refuse (λ b. go b (pictureOf press sheet))
-by-picture press book sheet refuse go z = simp (eq-eqb (sheetOf press sheet .fault .number) 0 z)
-
--- so every call does the same with both, whatever the book
+-- every call does the same with both, whatever the book
 pub ticket-alike : {A : Type 0} (press : ℕ) (book s t : List ℕ) (refuse : Answer → A) (go : Contents → Picture → A) → SameButTicket press s t
     → lentBoth press book t refuse go ≡ lentBoth press book s refuse go
 ticket-alike press book s t refuse go x =
-    by-picture press book t refuse go (x .second-fine)
+    by-picture press refuse book t go (x .second-fine)
     ∙ ap (λ (p : Picture). lentBook 1 book refuse (λ b. go b p)) (ap picture (x .else-same))
-    ∙ sym (by-picture press book s refuse go (x .first-fine))
+    ∙ sym (by-picture press refuse book s go (x .first-fine))

@@ -6,7 +6,7 @@ use lib.ListN.{length, getD}
 use Rattle.names.specs.Pick.{pick}
 use Rattle.names.specs.Name.{Name}
 use Rattle.books.specs.Contents.{name}
-use Rattle.books.specs.Lent.{contentsOf}
+use Rattle.books.specs.Lent.{contentsOf, onPress}
 use Rattle.books.specs.Book.{bookOf}
 use Rattle.books.specs.Sheet.{sheetOf}
 use Rattle.books.specs.Answer.{blaming}
@@ -15,10 +15,11 @@ use Rattle.books.specs.declared.answer.Answer.{Answer}
 abbrev pub bookAnswer : List ℕ → Answer
 bookAnswer s = blaming 1 (bookOf s .fault)
 
+-- 21 comes before all else
 abbrev pub sheetAnswer : ℕ → List ℕ → Answer
-sheetAnswer press s = blaming 1 (sheetOf press s .fault)
+sheetAnswer press s = onPress press (λ a. a) (blaming 1 (sheetOf press s .fault))
 
--- the ticket of a sheet: a refused one has 0
+-- the ticket of a sheet: a refused one has 0, and so has every one where there is no such press
 abbrev pub ticketOf : ℕ → List ℕ → ℕ
 ticketOf press s = sheetOf press s .sheet .ticket
 

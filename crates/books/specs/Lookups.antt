@@ -30,7 +30,7 @@ ruleOf s k = ruleWith (contentsOf s) k
 abbrev pub sizeIn : Grid → Size
 sizeIn g = sizeBy (g .rows) (g .cols)
 
--- that of a lent sheet of a press; a refused one has no rows and no columns
+-- that of a lent sheet of a press; a refused one has no rows and no columns, and so has every one where there is no such press
 abbrev pub sizeOf : ℕ → List ℕ → Size
 sizeOf press s = sizeIn (gridIn s (sheetOf press s .sheet))
 
@@ -56,4 +56,4 @@ sizeShown press s = packedSize (sizeOf press s)
 
 -- how many of the customer's requests have landed
 abbrev pub version : ℕ
-version = 12
+version = 13

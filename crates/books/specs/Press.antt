@@ -11,6 +11,10 @@ greatestOf zero = 12
 greatestOf (suc zero) = widest
 greatestOf (suc (suc press)) = 0
 
+-- how many there are
+abbrev pub presses : ℕ
+presses = 2
+
 -- there is such a press
 abbrev pub IsPress : ℕ → Type 0
-IsPress press = press < 2
+IsPress press = press < presses

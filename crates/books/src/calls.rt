@@ -1,6 +1,7 @@
 // The calls on one book or one sheet, for the C host.
 use crate::answer;
 use crate::book;
+use crate::press::PRESSES;
 use crate::sheet;
 ghost use mathlib.Core.Path.{_≡_};
 ghost use Rattle.names.specs.Part.{Part};
@@ -17,12 +18,15 @@ pub extern "C" fn dv_read_book(book: &[u8]) -> u64
     answer::pack(answer::blame(1, f), 0)
 }
 
-// Whether these bytes are a sheet; the answer blames input 1, and its count is the sheet's ticket.
+// Whether these bytes are a sheet of a press; the answer blames input 1, and its count is the sheet's ticket.
 #[no_mangle]
-pub extern "C" fn dv_read_sheet(sheet: &[u8]) -> u64
-    ensures { λ r. ⌜ r ≡ packed (sheetAnswer 0 (now (sheet .entry))) (ticketOf 0 (now (sheet .entry))) ⌝ }
+pub extern "C" fn dv_read_sheet(press: usize, sheet: &[u8]) -> u64
+    ensures { λ r. ⌜ r ≡ packed (sheetAnswer press (now (sheet .entry))) (ticketOf press (now (sheet .entry))) ⌝ }
 {
-    let g = sheet::sheet_figures(0, sheet);
+    if press >= PRESSES {
+        return answer::pack(answer::unblamed(21), 0);
+    }
+    let g = sheet::sheet_figures(press, sheet);
     answer::pack(answer::blame(1, g.fault), g.ticket)
 }
 

@@ -26,11 +26,11 @@ pub fn rule(book: &[u8], number: usize) -> RuleFound
     RuleFound::Missing
 }
 
-// Rows and columns of a sheet. A refused one has none.
-pub fn sheet_size(sheet: &[u8]) -> Size
-    ensures { λ r. ⌜ r ≡ sizeOf 0 (now (sheet .entry)) ⌝ }
+// Rows and columns of a sheet of a press. A refused one has none.
+pub fn sheet_size(press: usize, sheet: &[u8]) -> Size
+    ensures { λ r. ⌜ r ≡ sizeOf press (now (sheet .entry)) ⌝ }
 {
-    let g = sheet_figures(0, sheet);
+    let g = sheet_figures(press, sheet);
     g.size
 }
 
@@ -53,12 +53,12 @@ pub extern "C" fn dv_rule(book: &[u8], number: usize) -> u64
     }
 }
 
-// Rows and columns of a sheet, for the C host: in one number, or 0.
+// Rows and columns of a sheet of a press, for the C host: in one number, or 0.
 #[no_mangle]
-pub extern "C" fn dv_sheet_size(sheet: &[u8]) -> u64
-    ensures { λ r. ⌜ r ≡ sizeShown 0 (now (sheet .entry)) ⌝ }
+pub extern "C" fn dv_sheet_size(press: usize, sheet: &[u8]) -> u64
+    ensures { λ r. ⌜ r ≡ sizeShown press (now (sheet .entry)) ⌝ }
 {
-    let size = sheet_size(sheet);
+    let size = sheet_size(press, sheet);
     size.rows as u64 + 4294967296 * (size.cols as u64)
 }
 
@@ -67,5 +67,5 @@ pub extern "C" fn dv_sheet_size(sheet: &[u8]) -> u64
 pub extern "C" fn dv_version() -> u64
     ensures { λ r. ⌜ r ≡ version ⌝ }
 {
-    12
+    13
 }

@@ -2,6 +2,8 @@
 ghost use mathlib.Core.Path.{_≡_};
 ghost use Rattle.books.specs.Press.{greatestOf};
 
+pub const PRESSES: usize = 2;
+
 // The greatest number of rows, and of columns, of the widest press.
 pub const WIDEST: usize = 24;
 

@@ -1,5 +1,5 @@
--- Demand 1, of the call: whatever the bytes, the slices and the numbers, it answers 0 to 9, 11, 18 or 19, each exactly when its row says; a fault blames the input in which it
--- stands at a place within it; and unless 0 or 11 is answered nothing is written. Stated on the number that a C host gets, taken apart as the header does.
+-- Demand 1, of the call: whatever the bytes, the slices and the numbers, it answers 0 to 9, 11, 18, 19 or 21, each exactly when its row says; a fault blames the input in which
+-- it stands at a place within it; and unless 0 or 11 is answered nothing is written. Stated on the number that a C host gets, taken apart as the header does.
 use Prim.Native.Nat.{ℕ, _/_, _%_, _^_, _≤_, _<_}
 use mathlib.Core.Path.{_≡_, refl, sym, _∙_, subst}
 use mathlib.Core.Bool.{true≢false}
@@ -16,11 +16,12 @@ use Rattle.books.specs.Answer.{InputsNumber, answer, plain, Packs}
 use Rattle.books.specs.Book.{bookOf}
 use Rattle.books.specs.Contents.{Contents}
 use Rattle.books.specs.Lent.{contentsOf, pictureOf, Accepted}
+use Rattle.books.specs.Press.{IsPress}
 use Rattle.books.specs.Sheet.{sheetOf}
 use Rattle.books.proofs.LentEnds.{both-end}
 use Rattle.books.proofs.Packing.{apart, plain-packs, book-placed, sheet-placed}
 use Rattle.books.proofs.ReadingBooks.{book-refused}
-use Rattle.books.proofs.ReadingSheets.{sheet-refused}
+use Rattle.books.proofs.ReadingSheets.{sheet-refused, sheet-press}
 use Rattle.pieces.specs.Asking.{startAnswer}
 use Rattle.pieces.specs.Derivation.{entriesNeeded}
 use Rattle.pieces.specs.Largest.{marked}
@@ -37,11 +38,12 @@ module _ (press : ℕ) (book sheet entries : List ℕ) (row column colour : ℕ)
   abbrev pub Short : Type 0
   Short = length entries < entriesNeeded (pictureOf press sheet)
 
-  -- ── The five ways in which it ends ──
+  -- ── The six ways in which it ends ──
 
   pub record Cases (P : Recolouring → Type 0) : Type 0 where
-    pub in-book : (bookOf book .fault .number ≡ 0 → ⊥) → P (untouched (answer (bookOf book .fault .number) 1 (bookOf book .fault .place)) sheet entries)
-    pub in-sheet : bookOf book .fault .number ≡ 0 → (sheetOf press sheet .fault .number ≡ 0 → ⊥)
+    pub no-press : (IsPress press → ⊥) → P (untouched (plain 21) sheet entries)
+    pub in-book : IsPress press → (bookOf book .fault .number ≡ 0 → ⊥) → P (untouched (answer (bookOf book .fault .number) 1 (bookOf book .fault .place)) sheet entries)
+    pub in-sheet : IsPress press → bookOf book .fault .number ≡ 0 → (sheetOf press sheet .fault .number ≡ 0 → ⊥)
         → P (untouched (answer (sheetOf press sheet .fault .number) 2 (sheetOf press sheet .fault .place)) sheet entries)
     pub no-cell : Accepted press book sheet → (Found → ⊥) → P (untouched (plain 19) sheet entries)
     pub short-work : Accepted press book sheet → Found → Short → P (untouched (plain 9) sheet entries)
@@ -73,6 +75,7 @@ module _ (press : ℕ) (book sheet entries : List ℕ) (row column colour : ℕ)
         (pick (ltb (length entries) (entriesNeeded p)) (untouched (plain 9) sheet entries) (recast press b (sheetWith press sheet row column colour) row column entries))
         (untouched (plain 19) sheet entries))
         (record {
+          no-press = cases .no-press;
           in-book = cases .in-book;
           in-sheet = cases .in-sheet;
           in-neither = λ fine.
@@ -84,7 +87,9 @@ module _ (press : ℕ) (book sheet entries : List ℕ) (row column colour : ℕ)
   -- ── What each answer says ──
 
   pub record Answered (number blamed place : ℕ) (sheet-left work-left : List ℕ) : Type 0 where
-    pub faulty : ((1 ≤ number) × InputsNumber number) ↔ (Accepted press book sheet → ⊥)
+    pub listed : InputsNumber number ⊎ ((number ≡ 9) ⊎ (number ≡ 11) ⊎ (number ≡ 19) ⊎ (number ≡ 21))
+    pub no-press : (number ≡ 21) ↔ (IsPress press → ⊥)
+    pub faulty : ((1 ≤ number) × InputsNumber number) ↔ (IsPress press × (Accepted press book sheet → ⊥))
     pub faults : 1 ≤ number → InputsNumber number → InBook book number blamed place ⊎ InSheet press book sheet number blamed place
     pub nineteen : (number ≡ 19) ↔ (Accepted press book sheet × (Found → ⊥))
     pub nine : (number ≡ 9) ↔ (Accepted press book sheet × Found × Short)
@@ -95,17 +100,22 @@ module _ (press : ℕ) (book sheet entries : List ℕ) (row column colour : ℕ)
   abbrev Obeys : Recolouring → Type 0
   Obeys d = Answered (d .answer .number) (d .answer .blamed) (d .answer .place) (d .bytes) (d .entries)
 
+  on-press : Accepted press book sheet → IsPress press
+  on-press fine = sheet-press press sheet (fine .sheet-fine)
+
   -- no fault of an input
   done-unlisted : {n : ℕ} → 1 ≤ n → InputsNumber n → (n ≡ 0) ⊎ (n ≡ 11) → ⊥
   done-unlisted h g (inl e) = omega arith
   done-unlisted h g (inr e) = not-input 11 (subst InputsNumber e g) (omega arith) (λ u. omega arith)
 
   -- a fault in an input
-  faulted : (n blamed place : ℕ) → 1 ≤ n → InputsNumber n → (Accepted press book sheet → ⊥) → InBook book n blamed place ⊎ InSheet press book sheet n blamed place
-      → Answered n blamed place sheet entries
-  faulted n blamed place some known bad where-is =
+  faulted : (n blamed place : ℕ) → IsPress press → 1 ≤ n → InputsNumber n → (Accepted press book sheet → ⊥)
+      → InBook book n blamed place ⊎ InSheet press book sheet n blamed place → Answered n blamed place sheet entries
+  faulted n blamed place is some known bad where-is =
       record {
-        faulty = together (some, known) bad;
+        listed = inl known;
+        no-press = neither (λ e. not-input 21 (subst InputsNumber e known) (omega arith) (λ u. omega arith)) (λ none. none is);
+        faulty = together (some, known) (is, bad);
         faults = λ h l. where-is;
         nineteen = neither (λ e. not-input 19 (subst InputsNumber e known) (omega arith) (λ u. omega arith)) (λ x. bad (x .0));
         nine = neither (λ e. not-input 9 (subst InputsNumber e known) (omega arith) (λ u. omega arith)) (λ x. bad (x .0));
@@ -118,14 +128,28 @@ module _ (press : ℕ) (book sheet entries : List ℕ) (row column colour : ℕ)
   obeys =
       recolouring-ends Obeys
       (record {
-        in-book = λ n. let f = book-refused book n .blamed in
-            faulted _ 1 _ (f .some) (f .known) (λ fine. n (fine .book-fine)) (inl (record { number-is = refl; place-is = refl; first = refl; inside = f .inside }));
-        in-sheet = λ z n. let f = sheet-refused press sheet n .blamed in
-            faulted _ 2 _ (f .some) (inl (f .known)) (λ fine. n (fine .sheet-fine))
+        no-press = λ none.
+            record {
+              listed = inr (inr (inr (inr refl)));
+              no-press = together refl none;
+              faulty = neither (λ x. not-input 21 (x .1) (omega arith) (λ u. omega arith)) (λ x. none (x .0));
+              faults = λ h g. absurd (not-input 21 g (omega arith) (λ u. omega arith));
+              nineteen = neither (λ e. omega arith) (λ x. none (on-press (x .0)));
+              nine = neither (λ e. omega arith) (λ x. none (on-press (x .0)));
+              done = neither (λ x. ⊎-elim (λ e. omega arith) (λ e. omega arith) x) (λ x. none (on-press (x .0)));
+              unblamed = λ _. (refl, refl);
+              unwritten = λ _. (refl, refl);
+            };
+        in-book = λ is n. let f = book-refused book n .blamed in
+            faulted _ 1 _ is (f .some) (f .known) (λ fine. n (fine .book-fine)) (inl (record { number-is = refl; place-is = refl; first = refl; inside = f .inside }));
+        in-sheet = λ is z n. let f = sheet-refused press sheet n .blamed in
+            faulted _ 2 _ is (f .some) (inl (f .known)) (λ fine. n (fine .sheet-fine))
             (inr (record { book-fine = z; number-is = refl; place-is = refl; second = refl; inside = f .inside }));
         no-cell = λ fine none.
             record {
-              faulty = neither (λ x. not-input 19 (x .1) (omega arith) (λ u. omega arith)) (λ bad. bad fine);
+              listed = inr (inr (inr (inl refl)));
+              no-press = neither (λ e. omega arith) (λ none. none (on-press fine));
+              faulty = neither (λ x. not-input 19 (x .1) (omega arith) (λ u. omega arith)) (λ x. x .1 fine);
               faults = λ h g. absurd (not-input 19 g (omega arith) (λ u. omega arith));
               nineteen = together refl (fine, none);
               nine = neither (λ e. omega arith) (λ x. none (x .1));
@@ -135,7 +159,9 @@ module _ (press : ℕ) (book sheet entries : List ℕ) (row column colour : ℕ)
             };
         short-work = λ fine found short.
             record {
-              faulty = neither (λ x. not-input 9 (x .1) (omega arith) (λ u. omega arith)) (λ bad. bad fine);
+              listed = inr (inl refl);
+              no-press = neither (λ e. omega arith) (λ none. none (on-press fine));
+              faulty = neither (λ x. not-input 9 (x .1) (omega arith) (λ u. omega arith)) (λ x. x .1 fine);
               faults = λ h g. absurd (not-input 9 g (omega arith) (λ u. omega arith));
               nineteen = neither (λ e. omega arith) (λ x. x .1 found);
               nine = together refl (fine, found, short);
@@ -145,7 +171,9 @@ module _ (press : ℕ) (book sheet entries : List ℕ) (row column colour : ℕ)
             };
         recoloured = λ fine found long n told bytes work.
             record {
-              faulty = neither (λ x. done-unlisted (x .0) (x .1) told) (λ bad. bad fine);
+              listed = ⊎-elim (λ z. inl (inl (omega arith))) (λ z. inr (inr (inl z))) told;
+              no-press = neither (λ e. ⊎-elim (λ z. omega arith) (λ z. omega arith) told) (λ none. none (on-press fine));
+              faulty = neither (λ x. done-unlisted (x .0) (x .1) told) (λ x. x .1 fine);
               faults = λ h g. absurd (done-unlisted h g told);
               nineteen = neither (λ e. ⊎-elim (λ z. omega arith) (λ z. omega arith) told) (λ x. x .1 found);
               nine = neither (λ e. ⊎-elim (λ z. omega arith) (λ z. omega arith) told) (λ x. long (x .2));
@@ -159,8 +187,9 @@ module _ (press : ℕ) (book sheet entries : List ℕ) (row column colour : ℕ)
   packs =
       recolouring-ends (λ d. Packs (d .answer) 0)
       (record {
-        in-book = λ n. rw (ne-eqb (bookOf book .fault .number) 0 n) at (book-placed book 1 (omega arith) .packs);
-        in-sheet = λ z n. rw (ne-eqb (sheetOf press sheet .fault .number) 0 n) at (sheet-placed press sheet 2 (omega arith) .packs);
+        no-press = λ _. plain-packs 21 0 (omega arith) (omega arith);
+        in-book = λ is n. rw (ne-eqb (bookOf book .fault .number) 0 n) at (book-placed book 1 (omega arith) .packs);
+        in-sheet = λ is z n. rw (ne-eqb (sheetOf press sheet .fault .number) 0 n) at (sheet-placed press sheet 2 (omega arith) .packs);
         no-cell = λ fine none. plain-packs 19 0 (omega arith) (omega arith);
         short-work = λ fine found short. plain-packs 9 0 (omega arith) (omega arith);
         recoloured = λ fine found long n told bytes work. plain-packs n 0 (⊎-elim (λ e. omega arith) (λ e. omega arith) told) (omega arith);

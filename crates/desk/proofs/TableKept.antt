@@ -2,7 +2,7 @@
 -- its parts, which are right, and a piece without it shows what it showed and keeps its entry.
 use Prim.Native.Nat.{ℕ, zero, suc, _+_, _≤_, _<_}
 use mathlib.Core.Path.{_≡_, refl, sym, ap, _∙_}
-use mathlib.Core.Bool.{true, false, true≢false}
+use mathlib.Core.Bool.{true≢false}
 use mathlib.Core.List.{List}
 use mathlib.Core.Logic.{⊎-elim}
 use native.Mathlib.Omega.{arith}
@@ -19,7 +19,7 @@ use Rattle.pieces.specs.Derivation.{entriesNeeded}
 use Rattle.pieces.specs.Filling.{at}
 use Rattle.pieces.specs.Firing.{joinsFired}
 use Rattle.pieces.specs.Masks.{allMasks, splitOf}
-use Rattle.pieces.specs.Pieces.{piece, Inside, slotOf}
+use Rattle.pieces.specs.Pieces.{Inside, slotOf}
 use Rattle.pieces.specs.Recolour.{sheetWith, HasCell, hasCell?}
 use Rattle.pieces.specs.Rights.{Fires}
 use Rattle.pieces.specs.Table.{cut, entry, table}

@@ -7,6 +7,7 @@ ghost use Rattle.pieces.specs.Recolour.{recolouring, RecoloursPacked};
 // Recolours one cell of a sheet, as `pieces::recolour::recolour` does.
 #[no_mangle]
 pub extern "C" fn dv_recolour(
+    press: usize,
     book: &[u8],
     sheet: &mut [u8],
     work: &mut [u32],
@@ -14,8 +15,8 @@ pub extern "C" fn dv_recolour(
     column: usize,
     colour: usize,
 ) -> u64
-    ensures { λ r. ⌜ RecoloursPacked (recolouring 0 (now (book .entry)) (now (sheet .entry)) (now (work .entry)) row column colour)
+    ensures { λ r. ⌜ RecoloursPacked (recolouring press (now (book .entry)) (now (sheet .entry)) (now (work .entry)) row column colour)
         r (now (sheet .exit)) (now (work .exit)) ⌝ }
 {
-    answer::pack(recolour(book, sheet, work, row, column, colour), 0)
+    answer::pack(recolour(press, book, sheet, work, row, column, colour), 0)
 }

@@ -30,7 +30,8 @@ use Rattle.families.proofs.ReadingOff.{one-read, two-read}
 use Rattle.families.proofs.Refusing.{one-verdict}
 use Rattle.families.proofs.NewBooks.{made-spelled}
 use Rattle.families.proofs.Lengths.{changed-as-long}
-use Rattle.families.proofs.Theorems.{either-of-holds, beside-holds, above-holds, run-holds, stack-holds, mirrored-holds, flipped-holds, transposed-holds, mirrored-again, flipped-again, transposed-again}
+use Rattle.families.proofs.Theorems.{either-of-holds, beside-holds, above-holds, run-holds, stack-holds, mirrored-holds, flipped-holds, transposed-holds}
+use Rattle.families.proofs.Theorems.{mirrored-again, flipped-again, transposed-again}
 
 -- A call on two books that answers 0 has written a book that holds what X makes of theirs; ...
 abbrev pub HoldsTwo : (Contents → Contents → Contents) → ((Picture → Type 0) → (Picture → Type 0) → Picture → Type 0) → Type 0

@@ -20,14 +20,21 @@ fn told(work: &[u32], tree: &[u16], show: bool) {
     }
 }
 
-fn ask(book: &[u8], sheet: &[u8], work: &mut [u32], tree: &mut [u16], show: bool) {
-    printing::answer(pieces::derive::dv_derive(book, sheet, work, tree));
+fn ask(press: usize, book: &[u8], sheet: &[u8], work: &mut [u32], tree: &mut [u16], show: bool) {
+    printing::answer(pieces::derive::dv_derive(press, book, sheet, work, tree));
     told(work, tree, show);
 }
 
 // The answer, and what became of the slices. The line says how much of a tree slice is lent.
-pub(crate) fn derive(book: &[u8], sheet: &[u8], work: &mut [u32], said: usize, show: bool) {
-    let mut tree = [65535u16; 46];
-    let room = lent::room(said, 46);
-    ask(book, sheet, work, &mut tree[0..room], show);
+pub(crate) fn derive(
+    press: usize,
+    book: &[u8],
+    sheet: &[u8],
+    work: &mut [u32],
+    said: usize,
+    show: bool,
+) {
+    let mut tree = [65535u16; 2304];
+    let room = lent::room(said, 2304);
+    ask(press, book, sheet, work, &mut tree[0..room], show);
 }

@@ -13,7 +13,7 @@ fn shown(card: &[u32], rows: usize) {
 }
 
 // The answer, the number of sizes and the card.
-pub(crate) fn card(book: &[u8], card: &mut [u32], rows: usize) {
-    printing::answer_and_count(sizes::calls::dv_size_card(book, card));
+pub(crate) fn card(press: usize, book: &[u8], card: &mut [u32], rows: usize) {
+    printing::answer_and_count(sizes::calls::dv_size_card(press, book, card));
     shown(card, rows);
 }

@@ -5,8 +5,8 @@ use crate::spelling;
 ghost use Prim.Native.Nat.{_≤_};
 
 // The answer of the plain engine.
-pub(crate) fn plain(book: &[u8], sheet: &[u8]) {
-    printing::answer(plain::calls::dv_plain(book, sheet));
+pub(crate) fn plain(press: usize, book: &[u8], sheet: &[u8]) {
+    printing::answer(plain::calls::dv_plain(press, book, sheet));
     printing::end();
 }
 
@@ -38,10 +38,10 @@ struct Compared {
     same: bool,
 }
 
-fn ask(book: &[u8], sheet: &[u8], work: &mut [u32]) -> Compared {
+fn ask(press: usize, book: &[u8], sheet: &[u8], work: &mut [u32]) -> Compared {
     let mut tree = [0u16; 62];
-    let first = pieces::derive::dv_derive(book, sheet, work, &mut tree);
-    let second = plain::calls::dv_plain(book, sheet);
+    let first = pieces::derive::dv_derive(press, book, sheet, work, &mut tree);
+    let second = plain::calls::dv_plain(press, book, sheet);
     Compared {
         accepted: second % 256 == 0,
         same: first == second,
@@ -49,14 +49,14 @@ fn ask(book: &[u8], sheet: &[u8], work: &mut [u32]) -> Compared {
 }
 
 // How many sheets there are of a size, how many of them the family has, and to how many both engines give the same answer.
-pub(crate) fn both(book: &[u8], start: &[u8], work: &mut [u32], cells: usize) {
+pub(crate) fn both(press: usize, book: &[u8], start: &[u8], work: &mut [u32], cells: usize) {
     let mut sheet = [0u8; 64];
     let mut accepted = 0;
     let mut same = 0;
     let sheets = colourings(cells);
     for bits in 0..sheets {
         let end = coloured(start, cells, bits, &mut sheet);
-        let told = ask(book, lent::front(&sheet, end), work);
+        let told = ask(press, book, lent::front(&sheet, end), work);
         accepted += lent::one_if(told.accepted);
         same += lent::one_if(told.same);
     }

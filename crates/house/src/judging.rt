@@ -20,16 +20,21 @@ fn row(bytes: &[u8]) -> [Node; MOST_NODES] {
     nodes
 }
 
-fn judged(book: &[u8], sheet: &[u8], bytes: &[u8]) {
-    let a = calls::check_copied(book, sheet, row(bytes), bytes.len() / 2);
+fn judged(press: usize, book: &[u8], sheet: &[u8], bytes: &[u8]) {
+    let a = calls::check_copied(press, book, sheet, row(bytes), bytes.len() / 2);
     printing::answer(answer::pack(a, 0));
     printing::end();
 }
 
 // The answer about the row that the line spells.
 pub(crate) fn judge(line: &[u8], book: &[u8], sheet: &[u8], kept: &[u8]) {
-    let mut bytes = [0u8; 1024];
+    let mut bytes = [0u8; 2304];
     let length = spelling::spell(line, 4, kept, &mut bytes);
     printing::text(lines::part(line, 1));
-    judged(book, sheet, lent::front(&bytes, length));
+    judged(
+        lines::number(line, 0),
+        book,
+        sheet,
+        lent::front(&bytes, length),
+    );
 }

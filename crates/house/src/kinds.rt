@@ -1,4 +1,4 @@
-// Each line of the list is run by the call that it is for, which its first letter says.
+// Each line of the list is run by the call that it is for, which its first letter says, on the press whose number follows.
 use crate::asking;
 use crate::cards;
 use crate::combining;
@@ -14,30 +14,50 @@ use crate::spelling;
 use crate::why;
 
 // The calls that are lent a work slice, and those that read. The number is what a call wants besides.
-fn call(letter: u8, first: &[u8], second: &[u8], work: &mut [u32], number: usize) {
+fn call(letter: u8, press: usize, first: &[u8], second: &[u8], work: &mut [u32], number: usize) {
     match letter {
-        b'd' | b't' => asking::derive(first, second, work, number, letter == b't'),
-        b'c' => cards::card(first, work, number),
-        b'w' => why::why_not(first, second, work),
-        b'r' => reports::run(first, second, work),
-        b'u' => engines::plain(first, second),
-        b'a' => engines::both(first, second, work, number),
-        _ => reading::read(letter, first, second),
+        b'd' | b't' => asking::derive(press, first, second, work, number, letter == b't'),
+        b'c' => cards::card(press, first, work, number),
+        b'w' => why::why_not(press, first, second, work),
+        b'r' => reports::run(press, first, second, work, number),
+        b'u' => engines::plain(press, first, second),
+        b'a' => engines::both(press, first, second, work, number),
+        _ => reading::read(letter, press, first, second),
     }
 }
 
-// The words of a line, and what comes of it with as much of a work slice as it says.
-fn asked(line: &[u8], first: &[u8], second: &[u8]) {
-    printing::text(lines::part(line, 1));
-    let mut work = [4294967295u32; 6086];
-    let room = lent::room(lines::number(line, 4), 6086);
+// What comes of a line with as much of a work slice as it says.
+fn lend(line: &[u8], first: &[u8], second: &[u8], work: &mut [u32]) {
+    let room = lent::room(lines::number(line, 4), work.len());
     call(
         lent::byte_at(line, 0),
+        lines::number(line, 0),
         first,
         second,
         &mut work[0..room],
         lines::number(line, 5),
     );
+}
+
+// There are more entries than a sheet of press 0 can need, ...
+fn narrow(line: &[u8], first: &[u8], second: &[u8]) {
+    let mut work = [4294967295u32; 6086];
+    lend(line, first, second, &mut work);
+}
+
+// ... or more than one of any press can.
+fn wide(line: &[u8], first: &[u8], second: &[u8]) {
+    let mut work = [4294967295u32; 90002];
+    lend(line, first, second, &mut work);
+}
+
+// The words of a line, and what comes of it.
+fn asked(line: &[u8], first: &[u8], second: &[u8]) {
+    printing::text(lines::part(line, 1));
+    match lines::number(line, 0) {
+        0 => narrow(line, first, second),
+        _ => wide(line, first, second),
+    }
 }
 
 // A line with its inputs. What is kept is changed by lines of three kinds only.

@@ -9,9 +9,17 @@ fn book(bytes: &[u8]) {
     printing::end();
 }
 
-// Whether the bytes are a sheet, and its ticket.
-fn sheet(bytes: &[u8]) {
-    printing::answer_and_count(books::calls::dv_read_sheet(bytes));
+// Whether the bytes are a sheet of a press, and its ticket.
+fn sheet(press: usize, bytes: &[u8]) {
+    printing::answer_and_count(books::calls::dv_read_sheet(press, bytes));
+    printing::end();
+}
+
+// The rows and the columns of a sheet of a press.
+fn grid(press: usize, bytes: &[u8]) {
+    let size = books::lookups::dv_sheet_size(press, bytes);
+    printing::group(b':', size % 4294967296);
+    printing::also(size / 4294967296);
     printing::end();
 }
 
@@ -38,10 +46,11 @@ fn equal(first: &[u8], second: &[u8]) {
 }
 
 // A call that reads, by its letter, or a heading; any other line has nothing more to it.
-pub(crate) fn read(letter: u8, first: &[u8], second: &[u8]) {
+pub(crate) fn read(letter: u8, press: usize, first: &[u8], second: &[u8]) {
     match letter {
         b'b' => book(first),
-        b's' => sheet(first),
+        b's' => sheet(press, first),
+        b'g' => grid(press, first),
         b'i' => ink(first, second),
         b'f' => figures(first),
         b'e' => equal(first, second),

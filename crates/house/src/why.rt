@@ -13,8 +13,8 @@ fn reason(packed: u64) {
 }
 
 // The answer with the reason, and how much of the work slice was written.
-pub(crate) fn why_not(book: &[u8], sheet: &[u8], work: &mut [u32]) {
-    reason(reasons::calls::dv_why_not(book, sheet, work));
+pub(crate) fn why_not(press: usize, book: &[u8], sheet: &[u8], work: &mut [u32]) {
+    reason(reasons::calls::dv_why_not(press, book, sheet, work));
     printing::written(work);
     printing::end();
 }

@@ -11,6 +11,7 @@ use lib.ListN.{length, getD}
 use Rattle.names.proofs.Settled.{Settles, settles, SettlesBoth, settled}
 use Rattle.names.specs.Bytes.{Bytes}
 use Rattle.names.proofs.Tests.{true-or-false}
+use Rattle.books.specs.Press.{IsPress}
 use Rattle.books.specs.Contents.{Contents}
 use Rattle.books.specs.Picture.{Picture}
 use Rattle.books.specs.Derives.{Derives, Member}
@@ -116,12 +117,13 @@ module _ (press : ℕ) (book sheet entries numbers : List ℕ) (fine : bookOf bo
   says : {d : Derivation} → asking press book sheet entries ≡ unwritten (d .answer) (d .entries) → Says d
   says e = record { same-answer = sym (ap (λ (a : Asking). a .answer) e); same-entries = sym (ap (λ (a : Asking). a .entries) e) }
 
-  pub as-derived : Says (derivation press book sheet entries numbers)
-  as-derived =
+  pub as-derived : IsPress press → Says (derivation press book sheet entries numbers)
+  as-derived is =
       derivation-ends press book sheet entries numbers Says
       (record {
-        in-book = λ n. absurd (n fine);
-        in-sheet = λ z n. says (rw (ne-eqb (sheetOf press sheet .fault .number) 0 n) at (sheet-first press book sheet entries n));
+        no-press = λ none. absurd (none is);
+        in-book = λ _ n. absurd (n fine);
+        in-sheet = λ _ z n. says (rw (ne-eqb (sheetOf press sheet .fault .number) 0 n) at (sheet-first press book sheet entries n));
         short-work = λ f short. says (room-second press book sheet entries (f .sheet-fine) short);
         short-tree = λ f enough short. absurd (omega arith);
         declined = λ f r none. says (other-asked press book sheet entries f (r .work-long) none);

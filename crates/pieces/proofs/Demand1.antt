@@ -3,19 +3,21 @@
 use Prim.Native.Nat.{ℕ, _/_, _%_, _^_, _≤_}
 use mathlib.Core.Path.{_≡_, refl, subst}
 use mathlib.Core.List.{List, _++_}
-use mathlib.Core.Logic.{_⊎_, inl, inr, ⊎-elim}
+use mathlib.Core.Logic.{_↔_, _⊎_, inl, inr, ⊎-elim}
 use native.Mathlib.Omega.{arith}
 use lib.ListN.{length, drop}
 use Rattle.books.specs.Answer.{InputsNumber}
 use Rattle.books.specs.Book.{bookOf}
+use Rattle.books.specs.Press.{IsPress}
 use Rattle.books.specs.Sheet.{sheetOf}
 use Rattle.books.proofs.Packing.{apart}
 use Rattle.books.proofs.ReadingBooks.{book-refused}
-use Rattle.books.proofs.ReadingSheets.{sheet-refused}
+use Rattle.books.proofs.ReadingSheets.{sheet-refused, sheet-press}
+use Rattle.names.proofs.Tests.{together, neither}
 use Rattle.pieces.specs.Table.{table}
 use Rattle.pieces.specs.Derivation.{Derivation, entriesNeeded, derivation, LeavesPacked}
 use Rattle.pieces.proofs.DerivationAnswers.{derivation-packs}
-use Rattle.books.specs.Lent.{contentsOf, pictureOf}
+use Rattle.books.specs.Lent.{contentsOf, pictureOf, Accepted}
 use Rattle.pieces.proofs.Endings.{derivation-ends}
 
 -- The fault stands in the book: it is blamed at its place, which is a byte of the book or its end.
@@ -40,7 +42,8 @@ not-input n (inr e) h other = other e
 
 -- A call that was lent a book, a sheet and two slices answers so, and leaves the slices so.
 pub record Answered (press : ℕ) (book sheet work tree : List ℕ) (number blamed place : ℕ) (work-left tree-left : List ℕ) : Type 0 where
-  pub listed : (number ≤ 11) ⊎ (number ≡ 18)
+  pub listed : (number ≤ 11) ⊎ (number ≡ 18) ⊎ (number ≡ 21)
+  pub no-press : (number ≡ 21) ↔ (IsPress press → ⊥)
   pub faults : 1 ≤ number → InputsNumber number → InBook book number blamed place ⊎ InSheet press book sheet number blamed place
   pub others : (number ≡ 0) ⊎ (InputsNumber number → ⊥) → (blamed ≡ 0) × (place ≡ 0)
   pub unwritten : 1 ≤ number → (number ≡ 11 → ⊥) → (work-left ≡ work) × (tree-left ≡ tree)
@@ -54,27 +57,39 @@ module _ (press : ℕ) (book sheet work tree : List ℕ) where
   obeys =
       derivation-ends press book sheet work tree Obeys
       (record {
-        in-book = λ n. let f = book-refused book n .blamed in
+        no-press = λ none.
             record {
-              listed = ⊎-elim (λ h. inl (omega arith)) (λ e. inr e) (f .known);
+              listed = inr (inr refl);
+              no-press = together refl none;
+              faults = λ h g. absurd (not-input 21 g (omega arith) (λ u. omega arith));
+              others = λ o. (refl, refl);
+              unwritten = λ h g. (refl, refl);
+              eleven = λ e. absurd (omega arith);
+            };
+        in-book = λ is n. let f = book-refused book n .blamed in
+            record {
+              listed = ⊎-elim (λ h. inl (omega arith)) (λ e. inr (inl e)) (f .known);
+              no-press = neither (λ e. not-input 21 (subst InputsNumber e (f .known)) (omega arith) (λ u. omega arith)) (λ none. none is);
               faults = λ h g. inl (record { number-is = refl; place-is = refl; first = refl; inside = f .inside });
               others = λ z. absurd (unlisted _ (f .some) (f .known) z);
               unwritten = λ h g. (refl, refl);
               eleven = λ e. absurd (not-input 11 (subst InputsNumber e (f .known)) (omega arith) (λ u. omega arith));
             };
-        in-sheet = λ z n. let f = sheet-refused press sheet n .blamed in
+        in-sheet = λ is z n. let f = sheet-refused press sheet n .blamed in
             record {
               listed = inl (omega (arith, f .known));
+              no-press = neither (λ e. omega (arith, f .known, e)) (λ none. none is);
               faults = λ h g. inr (record { book-fine = z; number-is = refl; place-is = refl; second = refl; inside = f .inside });
               others = λ o. absurd (unlisted _ (f .some) (inl (f .known)) o);
               unwritten = λ h g. (refl, refl);
               eleven = λ e. absurd (omega (arith, f .known, e));
             };
-        short-work = λ fine short. still 9 (omega arith) (omega arith);
-        short-tree = λ fine enough short. still 10 (omega arith) (omega arith);
+        short-work = λ fine short. still 9 fine (omega arith) (omega arith);
+        short-tree = λ fine enough short. still 10 fine (omega arith) (omega arith);
         declined = λ fine room none.
             record {
               listed = inl (omega arith);
+              no-press = neither (λ e. omega arith) (λ none. none (on-press fine));
               faults = λ h g. absurd (not-input 11 g (omega arith) (λ u. omega arith));
               others = λ o. (refl, refl);
               unwritten = λ h g. absurd (g refl);
@@ -83,6 +98,7 @@ module _ (press : ℕ) (book sheet work tree : List ℕ) where
         derived = λ fine room x nodes given.
             record {
               listed = inl (omega arith);
+              no-press = neither (λ e. omega arith) (λ none. none (on-press fine));
               faults = λ h g. absurd (omega arith);
               others = λ o. (refl, refl);
               unwritten = λ h g. absurd (omega arith);
@@ -90,14 +106,18 @@ module _ (press : ℕ) (book sheet work tree : List ℕ) where
             };
       })
     where
+      on-press : Accepted press book sheet → IsPress press
+      on-press fine = sheet-press press sheet (fine .sheet-fine)
+
       unlisted : (n : ℕ) → 1 ≤ n → InputsNumber n → (n ≡ 0) ⊎ (InputsNumber n → ⊥) → ⊥
       unlisted n h g (inl e) = omega arith
       unlisted n h g (inr other) = other g
 
-      still : (n : ℕ) → 9 ≤ n → n ≤ 10 → Answered press book sheet work tree n 0 0 work tree
-      still n h g =
+      still : (n : ℕ) → Accepted press book sheet → 9 ≤ n → n ≤ 10 → Answered press book sheet work tree n 0 0 work tree
+      still n fine h g =
           record {
             listed = inl (omega arith);
+            no-press = neither (λ e. omega arith) (λ none. none (on-press fine));
             faults = λ u w. absurd (not-input n w h (λ u. omega arith));
             others = λ o. (refl, refl);
             unwritten = λ u w. (refl, refl);

@@ -18,6 +18,7 @@ use Rattle.books.specs.Answer.{plain}
 use Rattle.books.specs.declared.answer.Answer.{Answer}
 use Rattle.books.proofs.Deciding.{decided, refused}
 use Rattle.books.proofs.ReadingBooks.{book-accepted}
+use Rattle.books.proofs.ReadingSheets.{sheet-press}
 use Rattle.pieces.specs.declared.piece.Piece.{Piece}
 use Rattle.pieces.specs.Pieces.{Inside, slotOf}
 use Rattle.pieces.specs.Table.{cut, table}
@@ -63,8 +64,9 @@ module _ (press : ℕ) (book sheet entries numbers : List ℕ) (fine : Accepted 
   told =
       derivation-ends press book sheet entries numbers Told
       (record {
-        in-book = λ n. absurd (n (fine .book-fine));
-        in-sheet = λ z n. absurd (n (fine .sheet-fine));
+        no-press = λ n. absurd (n (sheet-press press sheet (fine .sheet-fine)));
+        in-book = λ is n. absurd (n (fine .book-fine));
+        in-sheet = λ is z n. absurd (n (fine .sheet-fine));
         short-work = λ f short. absurd (omega (arith, room .work-long));
         short-tree = λ f enough short. absurd (omega (arith, room .tree-long));
         declined = λ f r none. record { accepts = λ x. absurd (none x); declines = λ _. record { answered = refl; unwritten = refl }; holds = refl };

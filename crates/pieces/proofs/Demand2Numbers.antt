@@ -9,12 +9,13 @@ use lib.ListN.{length}
 use Rattle.names.proofs.Tests.{together, neither}
 use Rattle.books.specs.Contents.{Contents}
 use Rattle.books.specs.Picture.{Picture}
+use Rattle.books.specs.Press.{IsPress}
 use Rattle.books.specs.Derives.{Member}
 use Rattle.books.specs.Answer.{InputsNumber, packed}
 use Rattle.books.specs.declared.answer.Answer.{Answer}
 use Rattle.books.proofs.Packing.{apart}
 use Rattle.books.proofs.ReadingBooks.{book-refused}
-use Rattle.books.proofs.ReadingSheets.{sheet-refused}
+use Rattle.books.proofs.ReadingSheets.{sheet-refused, sheet-press}
 use Rattle.pieces.specs.Derivation.{Derivation, entriesNeeded, numbersNeeded, derivation, Leaves, LeavesPacked, Roomy}
 use Rattle.pieces.proofs.Demand1.{not-input}
 use Rattle.pieces.proofs.DerivationAnswers.{derivation-packs}
@@ -29,7 +30,8 @@ module _ (press : ℕ) (book sheet entries numbers : List ℕ) where
   p = pictureOf press sheet
 
   pub record Numbers (n : ℕ) : Type 0 where
-    pub faulty : ((1 ≤ n) × InputsNumber n) ↔ (Accepted press book sheet → ⊥)
+    pub twenty-one : (n ≡ 21) ↔ (IsPress press → ⊥)
+    pub faulty : ((1 ≤ n) × InputsNumber n) ↔ (IsPress press × (Accepted press book sheet → ⊥))
     pub nine : (n ≡ 9) ↔ (Accepted press book sheet × (length entries < entriesNeeded p))
     pub ten : (n ≡ 10) ↔ (Accepted press book sheet × (entriesNeeded p ≤ length entries) × (length numbers < numbersNeeded p))
     pub eleven : (n ≡ 11) ↔ (Accepted press book sheet × Roomy p entries numbers × (Member b p → ⊥))
@@ -38,10 +40,14 @@ module _ (press : ℕ) (book sheet entries numbers : List ℕ) where
   abbrev Numbered : Derivation → Type 0
   Numbered d = Numbers (d .answer .number)
 
-  in-input : (n : ℕ) → 1 ≤ n → InputsNumber n → (Accepted press book sheet → ⊥) → Numbers n
-  in-input n h g bad =
+  on-press : Accepted press book sheet → IsPress press
+  on-press fine = sheet-press press sheet (fine .sheet-fine)
+
+  in-input : (n : ℕ) → IsPress press → 1 ≤ n → InputsNumber n → (Accepted press book sheet → ⊥) → Numbers n
+  in-input n is h g bad =
       record {
-        faulty = together (h, g) bad;
+        twenty-one = neither (λ e. not-input 21 (subst InputsNumber e g) (omega arith) (λ u. omega arith)) (λ none. none is);
+        faulty = together (h, g) (is, bad);
         nine = neither (λ e. not-input 9 (subst InputsNumber e g) (omega arith) (λ u. omega arith)) (λ x. bad (x .0));
         ten = neither (λ e. not-input 10 (subst InputsNumber e g) (omega arith) (λ u. omega arith)) (λ x. bad (x .0));
         eleven = neither (λ e. not-input 11 (subst InputsNumber e g) (omega arith) (λ u. omega arith)) (λ x. bad (x .0));
@@ -52,11 +58,21 @@ module _ (press : ℕ) (book sheet entries numbers : List ℕ) where
   numbered =
       derivation-ends press book sheet entries numbers Numbered
       (record {
-        in-book = λ n. let f = book-refused book n .blamed in in-input _ (f .some) (f .known) (λ fine. n (fine .book-fine));
-        in-sheet = λ z n. let f = sheet-refused press sheet n .blamed in in-input _ (f .some) (inl (f .known)) (λ fine. n (fine .sheet-fine));
+        no-press = λ none.
+            record {
+              twenty-one = together refl none;
+              faulty = neither (λ e. not-input _ (e .1) (omega arith) (λ u. omega arith)) (λ x. none (x .0));
+              nine = neither (λ e. omega arith) (λ x. none (on-press (x .0)));
+              ten = neither (λ e. omega arith) (λ x. none (on-press (x .0)));
+              eleven = neither (λ e. omega arith) (λ x. none (on-press (x .0)));
+              zero = neither (λ e. omega arith) (λ x. none (on-press (x .0)));
+            };
+        in-book = λ is n. let f = book-refused book n .blamed in in-input _ is (f .some) (f .known) (λ fine. n (fine .book-fine));
+        in-sheet = λ is z n. let f = sheet-refused press sheet n .blamed in in-input _ is (f .some) (inl (f .known)) (λ fine. n (fine .sheet-fine));
         short-work = λ fine short.
             record {
-              faulty = neither (λ e. not-input _ (e .1) (omega arith) (λ u. omega arith)) (λ bad. bad fine);
+              twenty-one = neither (λ e. omega arith) (λ none. none (on-press fine));
+              faulty = neither (λ e. not-input _ (e .1) (omega arith) (λ u. omega arith)) (λ x. x .1 fine);
               nine = together refl (fine, short);
               ten = neither (λ e. omega arith) (λ x. omega (arith, x .1));
               eleven = neither (λ e. omega arith) (λ x. omega (arith, x .1 .work-long));
@@ -64,7 +80,8 @@ module _ (press : ℕ) (book sheet entries numbers : List ℕ) where
             };
         short-tree = λ fine enough short.
             record {
-              faulty = neither (λ e. not-input _ (e .1) (omega arith) (λ u. omega arith)) (λ bad. bad fine);
+              twenty-one = neither (λ e. omega arith) (λ none. none (on-press fine));
+              faulty = neither (λ e. not-input _ (e .1) (omega arith) (λ u. omega arith)) (λ x. x .1 fine);
               nine = neither (λ e. omega arith) (λ x. omega (arith, x .1));
               ten = together refl (fine, enough, short);
               eleven = neither (λ e. omega arith) (λ x. omega (arith, x .1 .tree-long));
@@ -72,7 +89,8 @@ module _ (press : ℕ) (book sheet entries numbers : List ℕ) where
             };
         declined = λ fine room none.
             record {
-              faulty = neither (λ e. not-input _ (e .1) (omega arith) (λ u. omega arith)) (λ bad. bad fine);
+              twenty-one = neither (λ e. omega arith) (λ none. none (on-press fine));
+              faulty = neither (λ e. not-input _ (e .1) (omega arith) (λ u. omega arith)) (λ x. x .1 fine);
               nine = neither (λ e. omega arith) (λ x. omega (arith, x .1, room .work-long));
               ten = neither (λ e. omega arith) (λ x. omega (arith, x .2, room .tree-long));
               eleven = together refl (fine, room, none);
@@ -80,7 +98,8 @@ module _ (press : ℕ) (book sheet entries numbers : List ℕ) where
             };
         derived = λ fine room x nodes given.
             record {
-              faulty = neither (λ e. omega (arith, e .0)) (λ bad. bad fine);
+              twenty-one = neither (λ e. omega arith) (λ none. none (on-press fine));
+              faulty = neither (λ e. omega (arith, e .0)) (λ x. x .1 fine);
               nine = neither (λ e. omega arith) (λ y. omega (arith, y .1, room .work-long));
               ten = neither (λ e. omega arith) (λ y. omega (arith, y .2, room .tree-long));
               eleven = neither (λ e. omega arith) (λ y. y .2 x);
@@ -90,8 +109,8 @@ module _ (press : ℕ) (book sheet entries numbers : List ℕ) where
 
   -- ── The theorems ──
 
-  -- 1 to 8 or 18 exactly where an input is refused, 9 exactly where both are accepted and the work slice is too short, 10 where only the tree slice is, 11 exactly where both are
-  -- long enough and the family has not the sheet, and 0 exactly where it has it
+  -- 21 exactly where there is no such press, 1 to 8 or 18 exactly where there is and an input is refused, 9 exactly where both are accepted and the work slice is too short, 10
+  -- where only the tree slice is, 11 exactly where both are long enough and the family has not the sheet, and 0 exactly where it has it
   pub derive-numbers : {r : Answer} {w t : List ℕ} → Leaves (derivation press book sheet entries numbers) r w t → Numbers (r .number)
   derive-numbers left = rw (left .answers) numbered
 

@@ -10,6 +10,7 @@ use Rattle.books.specs.Answer.{plain, blaming}
 use Rattle.books.specs.Book.{bookOf}
 use Rattle.books.specs.Lent.{contentsOf, pictureOf}
 use Rattle.books.specs.Numbering.{numbersOf, numbersFor, Numbers}
+use Rattle.books.specs.Press.{IsPress}
 use Rattle.books.specs.RuleBytes.{BookInto, rulesIn}
 use Rattle.books.specs.Sheet.{sheetOf}
 use Rattle.books.specs.Size.{room}
@@ -32,7 +33,7 @@ use Rattle.pieces.specs.inner.Seen.{wholeOf, hasBit, seen}
 use Rattle.pieces.specs.inner.Small.{SmallRules}
 use Rattle.pieces.specs.inner.Verdict.{Verdict, verdict, lacking}
 use Rattle.pieces.proofs.AcceptedInputs.{rules-read, as-read, cells-numbered}
-use Rattle.pieces.proofs.DerivationAnswers.{book-first, sheet-second, then-room}
+use Rattle.pieces.proofs.DerivationAnswers.{book-second, sheet-third, then-room}
 use Rattle.pieces.proofs.Judging.{made-fits, judged-made}
 use Rattle.pieces.proofs.Lacking.{nothing-lacks, roomed-short, roomed-enough}
 use Rattle.pieces.proofs.ServingMasks.{split-fit, split-serves}
@@ -44,9 +45,9 @@ module _ (book : List ℕ) {b : BookFigures} {rows : List (List ℕ)} (read : Bo
   abbrev rules : List Rule
   rules = rulesIn (take (b .rules) rows)
 
-  pub book-blamed : (press : ℕ) (sheet entries numbers : List ℕ) → (b .fault .number ≡ 0 → ⊥)
+  pub book-blamed : (press : ℕ) (sheet entries numbers : List ℕ) → IsPress press → (b .fault .number ≡ 0 → ⊥)
       → derivation press book sheet entries numbers ≡ leaving (blaming 1 (b .fault)) entries numbers
-  book-blamed press sheet entries numbers n = rw (read .figures) (book-first press book sheet entries numbers (rw (read .figures) at n))
+  book-blamed press sheet entries numbers is n = rw (read .figures) (book-second press book sheet entries numbers is (rw (read .figures) at n))
 
   pub rows-small : b .fault .number ≡ 0 → SmallRules rules
   rows-small z = rw (rows-back book read) (rules-read book (rw (read .figures) at z))
@@ -64,8 +65,8 @@ module _ (book : List ℕ) {b : BookFigures} {rows : List (List ℕ)} (read : Bo
 
 module _ (press : ℕ) (book sheet : List ℕ) {b : BookFigures} {rows : List (List ℕ)} (read : BookInto book b rows) {s : SheetFigures} {cells : List ℕ}
     (shown : Numbers press book (b .colours) sheet (replicate room 0) s cells) (z : b .fault .number ≡ 0) (entries numbers : List ℕ) where
-  pub sheet-blamed : (s .fault .number ≡ 0 → ⊥) → derivation press book sheet entries numbers ≡ leaving (blaming 2 (s .fault)) entries numbers
-  sheet-blamed n = rw (shown .figures) (sheet-second press book sheet entries numbers (rw (read .figures) at z) (rw (shown .figures) at n))
+  pub sheet-blamed : IsPress press → (s .fault .number ≡ 0 → ⊥) → derivation press book sheet entries numbers ≡ leaving (blaming 2 (s .fault)) entries numbers
+  sheet-blamed is n = rw (shown .figures) (sheet-third press book sheet entries numbers is (rw (read .figures) at z) (rw (shown .figures) at n))
 
   module _ (y : s .fault .number ≡ 0) where
     abbrev lack : ℕ
@@ -74,7 +75,7 @@ module _ (press : ℕ) (book sheet : List ℕ) {b : BookFigures} {rows : List (L
     pub room-lacks : (lack ≡ 0 → ⊥) → derivation press book sheet entries numbers ≡ leaving (plain lack) entries numbers
     room-lacks n =
         rw (shown .figures)
-        (then-room press book sheet entries numbers (rw (read .figures) at z) (rw (shown .figures) at y)
+        (then-room press book sheet entries numbers (record { book-fine = rw (read .figures) at z; sheet-fine = rw (shown .figures) at y })
         ∙ roomed-short (contentsOf book) (pictureOf press sheet) entries numbers (rw (shown .figures) at n))
 
     module _ (bytes-book : Bytes book) (bytes-sheet : Bytes sheet) (enough : lack ≡ 0) {masks : List ℕ} {j : Joins}
@@ -116,5 +117,6 @@ module _ (press : ℕ) (book sheet : List ℕ) {b : BookFigures} {rows : List (L
       pub derived-as : derivation press book sheet entries numbers ≡ record { answer = plain (tells .number); entries = made; numbers = tells .numbers }
       derived-as =
           rw (shown .figures, rows-back book read, read .figures)
-          (then-room press book sheet entries numbers book-fine sheet-fine ∙ roomed-enough (contentsOf book) (pictureOf press sheet) entries numbers (rw (shown .figures) at enough)
+          (then-room press book sheet entries numbers (record { book-fine = book-fine; sheet-fine = sheet-fine })
+          ∙ roomed-enough (contentsOf book) (pictureOf press sheet) entries numbers (rw (shown .figures) at enough)
           ∙ judged-made given cells numbered masks j (masks-serve book read z split) entries (nothing-lacks _ _ _ _ (rw (shown .figures) at enough) .0) numbers)

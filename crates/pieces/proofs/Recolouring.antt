@@ -1,28 +1,34 @@
--- A book and a sheet that were read: where one has a fault, or the sheet has not got the cell or the colour, or the slice is too short, that is the answer; and else the
+-- A press, a book and a sheet: where there is no such press, or an input has a fault, or the sheet has not got the cell or the colour, or the slice is too short, that is the answer; and else the
 -- sheet and the slice are left with the cell recoloured.
 use Prim.Native.Nat.{ℕ, _≤_, _<_}
-use mathlib.Core.Path.{_≡_, refl}
+use mathlib.Core.Path.{_≡_, refl, _∙_}
 use mathlib.Core.Bool.{true, false}
 use mathlib.Core.List.{List}
 use mathlib.Core.Logic.{_⊎_, inl, inr}
 use native.Mathlib.Omega.{arith}
-use borrow.Author.Tests.{eq-eqb, ne-eqb, ltb-true, ltb-false, lt-ltb}
+use borrow.Author.Tests.{ltb-true, ltb-false, lt-ltb}
 use lib.Dec.{ltb}
 use lib.ListN.{length}
+use Rattle.names.specs.Pick.{pick}
 use Rattle.names.proofs.Tests.{true-or-false, and-both, and-make}
 use Rattle.books.specs.Answer.{plain, blaming}
 use Rattle.books.specs.Book.{bookOf}
-use Rattle.books.specs.Lent.{contentsOf, pictureOf}
+use Rattle.books.specs.Contents.{Contents}
+use Rattle.books.specs.Lent.{contentsOf, pictureOf, lentBook, lentSheet}
+use Rattle.books.specs.Picture.{Picture}
+use Rattle.books.specs.Press.{IsPress}
 use Rattle.books.specs.Sheet.{sheetOf, sheetFigures}
 use Rattle.books.specs.Size.{Within}
+use Rattle.books.specs.declared.answer.Answer.{Answer}
 use Rattle.books.specs.declared.sheet.SheetFigures.{SheetFigures}
 use Rattle.books.specs.declared.size.Size.{Size}
+use Rattle.books.proofs.LentEnds.{no-press-first, book-refused-next, sheet-refused-last, both-go-on}
 use Rattle.books.proofs.Presses.{greatest-few}
 use Rattle.books.proofs.ReadingSheets.{sheet-lies}
 use Rattle.books.proofs.SizesWithin.{within-more}
 use Rattle.pieces.specs.Derivation.{entriesNeeded}
 use Rattle.pieces.specs.Most.{most}
-use Rattle.pieces.specs.Recolour.{has?, sheetWith, untouched, recast, recolouring}
+use Rattle.pieces.specs.Recolour.{has?, sheetWith, Recolouring, untouched, recast, recolouring}
 use Rattle.pieces.specs.inner.Refill.{lackingFor}
 
 -- ── What the sheet has ──
@@ -56,29 +62,45 @@ module _ (press : ℕ) (book sheet entries : List ℕ) (row column colour : ℕ)
   abbrev lack : ℕ
   lack = lackingFor size colours row column colour (length entries)
 
-  pub book-first : (bookOf book .fault .number ≡ 0 → ⊥) → recolouring press book sheet entries row column colour ≡ untouched (blaming 1 (bookOf book .fault)) sheet entries
+  abbrev refuse : Answer → Recolouring
+  refuse a = untouched a sheet entries
+
+  abbrev go : Contents → Picture → Recolouring
+  go b p =
+      pick (has? size colours row column colour)
+      (pick (ltb (length entries) (entriesNeeded p)) (refuse (plain 9)) (recast press b (sheetWith press sheet row column colour) row column entries))
+      (refuse (plain 19))
+
+  pub press-first : (IsPress press → ⊥) → recolouring press book sheet entries row column colour ≡ untouched (plain 21) sheet entries
   unfolding recolouring
-  book-first n = simp (ne-eqb (bookOf book .fault .number) 0 n)
+  press-first n = no-press-first press refuse (lentBook 1 book refuse (λ b. lentSheet press 2 sheet refuse (go b))) n
+
+  pub book-second : IsPress press → (bookOf book .fault .number ≡ 0 → ⊥)
+      → recolouring press book sheet entries row column colour ≡ untouched (blaming 1 (bookOf book .fault)) sheet entries
+  unfolding recolouring
+  book-second is n = book-refused-next press refuse book sheet go is n
 
   module _ (book-fine : bookOf book .fault .number ≡ 0) where
-    pub sheet-second : (sheetOf press sheet .fault .number ≡ 0 → ⊥) → recolouring press book sheet entries row column colour ≡ untouched (blaming 2 (sheetOf press sheet .fault)) sheet entries
+    pub sheet-third : IsPress press → (sheetOf press sheet .fault .number ≡ 0 → ⊥)
+        → recolouring press book sheet entries row column colour ≡ untouched (blaming 2 (sheetOf press sheet .fault)) sheet entries
     unfolding recolouring
-    sheet-second n = simp (eq-eqb (bookOf book .fault .number) 0 book-fine, ne-eqb (sheetOf press sheet .fault .number) 0 n)
+    sheet-third is n = sheet-refused-last press refuse book sheet go is book-fine n
 
     module _ (sheet-fine : sheetOf press sheet .fault .number ≡ 0) where
-      pub cell-third : has? size colours row column colour ≡ false → recolouring press book sheet entries row column colour ≡ untouched (plain 19) sheet entries
+      then-cell : recolouring press book sheet entries row column colour ≡ go (contentsOf book) (pictureOf press sheet)
       unfolding recolouring
-      cell-third e = simp (eq-eqb (bookOf book .fault .number) 0 book-fine, eq-eqb (sheetOf press sheet .fault .number) 0 sheet-fine, e)
+      then-cell = both-go-on press refuse book sheet go (record { book-fine = book-fine; sheet-fine = sheet-fine })
+
+      pub cell-fourth : has? size colours row column colour ≡ false → recolouring press book sheet entries row column colour ≡ untouched (plain 19) sheet entries
+      cell-fourth e = then-cell ∙ simp e
 
       module _ (has : has? size colours row column colour ≡ true) where
-        pub room-fourth : ltb (length entries) (entriesNeeded (pictureOf press sheet)) ≡ true → recolouring press book sheet entries row column colour ≡ untouched (plain 9) sheet entries
-        unfolding recolouring
-        room-fourth e = simp (eq-eqb (bookOf book .fault .number) 0 book-fine, eq-eqb (sheetOf press sheet .fault .number) 0 sheet-fine, has, e)
+        pub room-fifth : ltb (length entries) (entriesNeeded (pictureOf press sheet)) ≡ true → recolouring press book sheet entries row column colour ≡ untouched (plain 9) sheet entries
+        room-fifth e = then-cell ∙ simp (has, e)
 
         pub recast-last : ltb (length entries) (entriesNeeded (pictureOf press sheet)) ≡ false
             → recolouring press book sheet entries row column colour ≡ recast press (contentsOf book) (sheetWith press sheet row column colour) row column entries
-        unfolding recolouring
-        recast-last e = simp (eq-eqb (bookOf book .fault .number) 0 book-fine, eq-eqb (sheetOf press sheet .fault .number) 0 sheet-fine, has, e)
+        recast-last e = then-cell ∙ simp (has, e)
 
       -- what lacks is answered, ...
       pub lack-told : (lack ≡ 0 → ⊥) → recolouring press book sheet entries row column colour ≡ untouched (plain lack) sheet entries
@@ -88,8 +110,8 @@ module _ (press : ℕ) (book sheet entries : List ℕ) (row column colour : ℕ)
           go : (has? size colours row column colour ≡ true) ⊎ (has? size colours row column colour ≡ false)
               → (ltb (length entries) (entriesNeeded (pictureOf press sheet)) ≡ true) ⊎ (ltb (length entries) (entriesNeeded (pictureOf press sheet)) ≡ false)
               → recolouring press book sheet entries row column colour ≡ untouched (plain lack) sheet entries
-          go (inr h) e = rw h (cell-third h)
-          go (inl h) (inl e) = rw (h, e) (room-fourth h e)
+          go (inr h) e = rw h (cell-fourth h)
+          go (inl h) (inl e) = rw (h, e) (room-fifth h e)
           go (inl h) (inr e) = absurd (some (rw (h, e) refl))
 
       -- ... and where nothing does, the sheet has the cell, and the slice is long enough
@@ -111,8 +133,8 @@ module _ (press : ℕ) (sheet : List ℕ) {g : SheetFigures} (is : g ≡ sheetFi
   read-within = rw is (λ fine. within-more (greatest-few press) (sheet-lies press sheet fine .within))
 
 module _ (press : ℕ) (book sheet entries : List ℕ) (row column colour : ℕ) {g : SheetFigures} (is : g ≡ sheetFigures (sheetOf press sheet)) (book-fine : bookOf book .fault .number ≡ 0) where
-  pub read-blamed : (g .fault .number ≡ 0 → ⊥) → recolouring press book sheet entries row column colour ≡ untouched (blaming 2 (g .fault)) sheet entries
-  read-blamed = rw is (λ n. sheet-second press book sheet entries row column colour book-fine n)
+  pub read-blamed : IsPress press → (g .fault .number ≡ 0 → ⊥) → recolouring press book sheet entries row column colour ≡ untouched (blaming 2 (g .fault)) sheet entries
+  read-blamed on = rw is (λ n. sheet-third press book sheet entries row column colour book-fine on n)
 
   pub read-lacks : g .fault .number ≡ 0 → (lackingFor (g .size) (g .colours) row column colour (length entries) ≡ 0 → ⊥)
       → recolouring press book sheet entries row column colour ≡ untouched (plain (lackingFor (g .size) (g .colours) row column colour (length entries))) sheet entries

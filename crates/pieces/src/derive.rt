@@ -8,6 +8,7 @@ use books::answer;
 use books::answer::Answer;
 use books::lent::read_rules;
 use books::numbering::number_sheet;
+use books::press::PRESSES;
 use books::rule::MOST_RULES;
 use books::size::ROOM;
 use books::size::Size;
@@ -31,11 +32,14 @@ fn lack(size: Size, entries: usize, numbers: usize) -> u8
     0
 }
 
-// Asks whether the family of a book has a sheet. The work slice gets the table of pieces, and on 0 the tree slice the derivation given.
-pub fn derive(book: &[u8], sheet: &[u8], work: &mut [u32], tree: &mut [u16]) -> Answer
-    ensures { λ r. ⌜ Leaves (derivation 0 (now (book .entry)) (now (sheet .entry)) (now (work .entry)) (now (tree .entry)))
+// Asks whether the family of a book has a sheet of a press. The work slice gets the table of pieces, and on 0 the tree slice the derivation given.
+pub fn derive(press: usize, book: &[u8], sheet: &[u8], work: &mut [u32], tree: &mut [u16]) -> Answer
+    ensures { λ r. ⌜ Leaves (derivation press (now (book .entry)) (now (sheet .entry)) (now (work .entry)) (now (tree .entry)))
         r (now (work .exit)) (now (tree .exit)) ⌝ }
 {
+    if press >= PRESSES {
+        return answer::unblamed(21);
+    }
     let mut rules = [[0u8; 4]; MOST_RULES];
     let b = read_rules(book, &mut rules);
     if b.fault.number != 0 {
@@ -43,7 +47,7 @@ pub fn derive(book: &[u8], sheet: &[u8], work: &mut [u32], tree: &mut [u16]) -> 
     }
     let c = b.colours;
     let mut cells = [0u8; ROOM];
-    let s = number_sheet(0, book, c.count, &c.starts, &c.lens, sheet, &mut cells);
+    let s = number_sheet(press, book, c.count, &c.starts, &c.lens, sheet, &mut cells);
     if s.fault.number != 0 {
         return answer::blame(2, s.fault);
     }
@@ -60,9 +64,15 @@ pub fn derive(book: &[u8], sheet: &[u8], work: &mut [u32], tree: &mut [u16]) -> 
 
 // The same for the C host.
 #[no_mangle]
-pub extern "C" fn dv_derive(book: &[u8], sheet: &[u8], work: &mut [u32], tree: &mut [u16]) -> u64
-    ensures { λ r. ⌜ LeavesPacked (derivation 0 (now (book .entry)) (now (sheet .entry)) (now (work .entry)) (now (tree .entry)))
+pub extern "C" fn dv_derive(
+    press: usize,
+    book: &[u8],
+    sheet: &[u8],
+    work: &mut [u32],
+    tree: &mut [u16],
+) -> u64
+    ensures { λ r. ⌜ LeavesPacked (derivation press (now (book .entry)) (now (sheet .entry)) (now (work .entry)) (now (tree .entry)))
         r (now (work .exit)) (now (tree .exit)) ⌝ }
 {
-    answer::pack(derive(book, sheet, work, tree), 0)
+    answer::pack(derive(press, book, sheet, work, tree), 0)
 }

@@ -36,7 +36,8 @@ fn lies_on(size: Size, p: Piece) -> bool
     false
 }
 
-// The two parts of a piece of a sheet at a cut, for their motifs. Where the piece does not lie on the sheet, or the cut not in the piece, both are the piece itself.
+// The two parts of a piece of a sheet at a cut, for their motifs. Where the piece does not lie on the sheet, or the cut not in the piece, both are the piece
+// itself.
 pub fn parts_on(size: Size, p: Piece, d: Dir, k: usize, l: u8, r: u8) -> Parts
     ensures { λ x. ⌜ x ≡ partsOn size d k l r p ⌝ }
 {

@@ -11,6 +11,7 @@ use crate::table;
 use books::answer;
 use books::answer::Answer;
 use books::numbering::number_sheet;
+use books::press::PRESSES;
 use books::sheet::sheet_figures;
 use books::size::ROOM;
 use books::size::Size;
@@ -59,13 +60,13 @@ fn put_cell(sheet: &mut [u8], size: Size, row: usize, column: usize, colour: usi
 }
 
 // The motifs that paint a cell of a sheet, by what is kept of a book.
-fn painters(book: &[u8], split: Split, masks: &[u32], sheet: &[u8], at: usize) -> u32
-    requires { ⌜ PaintersDue 0 (now sheet) (length (now masks)) at ⌝ }
-    ensures { λ x. ⌜ x ≡ paintersOf 0 (now (book .entry)) (split .colours) (now (masks .entry)) (now (sheet .entry)) at ⌝ }
+fn painters(press: usize, book: &[u8], split: Split, masks: &[u32], sheet: &[u8], at: usize) -> u32
+    requires { ⌜ PaintersDue press (now sheet) (length (now masks)) at ⌝ }
+    ensures { λ x. ⌜ x ≡ paintersOf press (now (book .entry)) (split .colours) (now (masks .entry)) (now (sheet .entry)) at ⌝ }
 {
     let c = split.colours;
     let mut cells = [0u8; ROOM];
-    number_sheet(0, book, c.count, &c.starts, &c.lens, sheet, &mut cells);
+    number_sheet(press, book, c.count, &c.starts, &c.lens, sheet, &mut cells);
     masks[PAINTERS_FROM + cells[at] as usize]
 }
 
@@ -162,9 +163,10 @@ fn refill(
     }
 }
 
-// Recolours one cell of a sheet, by its row, its column and the number of a colour in the sheet's list. Where the work slice held the table of the sheet, it
-// then holds that of the sheet as it is left.
+// Recolours one cell of a sheet of a press, by its row, its column and the number of a colour in the sheet's list. Where the work slice held the table of the
+// sheet, it then holds that of the sheet as it is left.
 pub fn recolour(
+    press: usize,
     book: &[u8],
     sheet: &mut [u8],
     work: &mut [u32],
@@ -172,15 +174,18 @@ pub fn recolour(
     column: usize,
     colour: usize,
 ) -> Answer
-    ensures { λ r. ⌜ Recolours (recolouring 0 (now (book .entry)) (now (sheet .entry)) (now (work .entry)) row column colour)
+    ensures { λ r. ⌜ Recolours (recolouring press (now (book .entry)) (now (sheet .entry)) (now (work .entry)) row column colour)
         r (now (sheet .exit)) (now (work .exit)) ⌝ }
 {
+    if press >= PRESSES {
+        return answer::unblamed(21);
+    }
     let mut masks = [0u32; ALL_MASKS];
     let split = split_book(book, &mut masks);
     if split.fault.number != 0 {
         return answer::blame(1, split.fault);
     }
-    let g = sheet_figures(0, sheet);
+    let g = sheet_figures(press, sheet);
     if g.fault.number != 0 {
         return answer::blame(2, g.fault);
     }
@@ -189,7 +194,7 @@ pub fn recolour(
         return answer::unblamed(lacks);
     }
     let at = put_cell(sheet, g.size, row, column, colour);
-    let paint = painters(book, split, &masks, sheet, at);
+    let paint = painters(press, book, split, &masks, sheet, at);
     refill(work, &masks, split.joins, g.size, row, column, paint);
     answer::unblamed(asking::whole_sheet(work, g.size, split.start))
 }

@@ -1,5 +1,5 @@
--- A book or a sheet with a fault is answered with it, a sheet of more than 16 cells with 20, and else with what the search of the whole sheet finds: the pieces of the sheet
--- are searched as the picture.
+-- 21 is answered where there is no such press, a book or a sheet with a fault is answered with it, a sheet of more than 16 cells with 20, and else with what the search of the
+-- whole sheet finds: the pieces of the sheet are searched as the picture.
 use Prim.Native.Nat.{ℕ, _*_, _≤_, _<_}
 use mathlib.Core.Path.{_≡_, ap, _∙_}
 use mathlib.Core.List.{List}
@@ -12,9 +12,10 @@ use Rattle.books.specs.Answer.{plain, blaming}
 use Rattle.books.specs.Book.{bookOf}
 use Rattle.books.specs.Contents.{Contents}
 use Rattle.books.specs.Decide.{pictures, derives?}
-use Rattle.books.specs.Lent.{contentsOf, pictureOf, Accepted, lentSheet}
+use Rattle.books.specs.Lent.{contentsOf, pictureOf, Accepted, lentBook, lentSheet}
 use Rattle.books.specs.Numbering.{Numbers, numbersOf, numbersFor}
 use Rattle.books.specs.Picture.{Picture}
+use Rattle.books.specs.Press.{IsPress}
 use Rattle.books.specs.RuleBytes.{BookInto, rulesIn}
 use Rattle.books.specs.Sheet.{sheetOf}
 use Rattle.books.specs.Size.{room}
@@ -23,7 +24,7 @@ use Rattle.books.specs.declared.lent.BookFigures.{BookFigures}
 use Rattle.books.specs.declared.sheet.Sheet.{Sheet}
 use Rattle.books.specs.declared.sheet.SheetFigures.{SheetFigures}
 use Rattle.books.proofs.AlikeSearches.{found-alike}
-use Rattle.books.proofs.LentEnds.{book-refused-first, sheet-refused-second, both-go-on}
+use Rattle.books.proofs.LentEnds.{no-press-first, book-refused-next, sheet-refused-last, both-go-on}
 use Rattle.books.proofs.LentRules.{rows-back}
 use Rattle.books.proofs.NumberedCells.{numbers-for, numbers-fresh, fresh-room}
 use Rattle.books.proofs.Presses.{greatest-few}
@@ -42,11 +43,14 @@ unfolding found derives?
 found-whole b p cells given a hr hc =
     found-alike (onSheet (sizeOf p) cells) (pictures b) (b .rules) (CutsOut p) (pieces-alike b p cells given) _ a (whole (p .rows) (p .cols)) p (whole-cuts p hr hc)
 
+pub press-first : (press : ℕ) (book sheet : List ℕ) → (IsPress press → ⊥) → plainAnswer press book sheet ≡ plain 21
+unfolding plainAnswer
+press-first press book sheet n = no-press-first press (λ a. a) (lentBook 1 book (λ a. a) (λ c. lentSheet press 2 sheet (λ a. a) (λ p. searched c p))) n
+
 module _ (press : ℕ) (book sheet : List ℕ) {b : BookFigures} {rows : List (List ℕ)} (read : BookInto book b rows) where
-  pub book-blamed : (b .fault .number ≡ 0 → ⊥) → plainAnswer press book sheet ≡ blaming 1 (b .fault)
+  pub book-blamed : IsPress press → (b .fault .number ≡ 0 → ⊥) → plainAnswer press book sheet ≡ blaming 1 (b .fault)
   unfolding plainAnswer
-  book-blamed n =
-      rw (read .figures) (book-refused-first book (λ a. a) 1 (λ c. lentSheet press 2 sheet (λ a. a) (λ p. searched c p)) (rw (read .figures) at n))
+  book-blamed is n = rw (read .figures) (book-refused-next press (λ a. a) book sheet searched is (rw (read .figures) at n))
 
   module _ {s : SheetFigures} {cells : List ℕ} (shown : Numbers press book (b .colours) sheet (replicate room 0) s cells) (z : b .fault .number ≡ 0) where
     abbrev f : Family
@@ -58,9 +62,9 @@ module _ (press : ℕ) (book sheet : List ℕ) {b : BookFigures} {rows : List (L
     book-fine : bookOf book .fault .number ≡ 0
     book-fine = rw (read .figures) at z
 
-    pub sheet-blamed : (s .fault .number ≡ 0 → ⊥) → plainAnswer press book sheet ≡ blaming 2 (s .fault)
+    pub sheet-blamed : IsPress press → (s .fault .number ≡ 0 → ⊥) → plainAnswer press book sheet ≡ blaming 2 (s .fault)
     unfolding plainAnswer
-    sheet-blamed n = rw (shown .figures) (sheet-refused-second book (λ a. a) press sheet searched book-fine (rw (shown .figures) at n))
+    sheet-blamed is n = rw (shown .figures) (sheet-refused-last press (λ a. a) book sheet searched is book-fine (rw (shown .figures) at n))
 
     pub cells-room : length cells ≡ room
     cells-room = fresh-room press book (b .colours) sheet shown
@@ -71,7 +75,7 @@ module _ (press : ℕ) (book sheet : List ℕ) {b : BookFigures} {rows : List (L
 
       goes-on : plainAnswer press book sheet ≡ searched (contentsOf book) (pictureOf press sheet)
       unfolding plainAnswer
-      goes-on = both-go-on book (λ a. a) press sheet searched fine
+      goes-on = both-go-on press (λ a. a) book sheet searched fine
 
       pub whole-lies : Lies (s .size) cells (whole (s .size .rows) (s .size .cols))
       whole-lies =

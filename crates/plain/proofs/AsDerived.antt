@@ -1,4 +1,4 @@
--- For each pair that the plain engine takes, its answer is that of a derivation with room enough: both begin with the same faults, and both say whether the family has the sheet.
+-- For each pair that the plain engine takes, its answer is that of a derivation with room enough: both begin with 21 and the same faults, and both say whether the family has the sheet.
 use Prim.Native.Nat.{ℕ, _%_, _^_}
 use mathlib.Core.Path.{_≡_, refl, sym, ap, _∙_}
 use mathlib.Core.List.{List}
@@ -11,8 +11,9 @@ use Rattle.books.specs.Sheet.{sheetOf}
 use Rattle.books.specs.declared.answer.Answer.{Answer}
 use Rattle.books.proofs.LentEnds.{blamed-is}
 use Rattle.books.proofs.Packing.{apart}
+use Rattle.books.proofs.ReadingSheets.{sheet-press}
 use Rattle.pieces.specs.Derivation.{Derivation, Roomy, derivation, Leaves, LeavesPacked}
-use Rattle.pieces.proofs.DerivationAnswers.{book-first, sheet-second}
+use Rattle.pieces.proofs.DerivationAnswers.{press-first, book-second, sheet-third}
 use Rattle.pieces.proofs.Endings.{derivation-ends}
 use Rattle.plain.specs.Outcome.{plainAnswer}
 use Rattle.plain.proofs.Demand1.{plain-answer-packs}
@@ -30,8 +31,9 @@ module _ (press : ℕ) (book sheet entries numbers : List ℕ) (room : Roomy (pi
   says fine a none some =
       derivation-ends press book sheet entries numbers (λ (x : Derivation). a ≡ x .answer)
       (record {
-        in-book = λ n. absurd (n (fine .book-fine));
-        in-sheet = λ z n. absurd (n (fine .sheet-fine));
+        no-press = λ none. absurd (none (sheet-press press sheet (fine .sheet-fine)));
+        in-book = λ _ n. absurd (n (fine .book-fine));
+        in-sheet = λ _ z n. absurd (n (fine .sheet-fine));
         short-work = λ _ short. absurd (omega (arith, room .work-long));
         short-tree = λ _ _ short. absurd (omega (arith, room .tree-long));
         declined = λ _ _ x. none x;
@@ -42,8 +44,9 @@ module _ (press : ℕ) (book sheet entries numbers : List ℕ) (room : Roomy (pi
   as-derived =
       plain-ends press book sheet (λ (a : Answer). (a .number ≡ 20 → ⊥) → a ≡ d .answer)
       (record {
-        in-book = λ n _. sym (ap (λ (x : Derivation). x .answer) (book-first press book sheet entries numbers n) ∙ blamed-is 1 (bookOf book .fault) n);
-        in-sheet = λ z n _. sym (ap (λ (x : Derivation). x .answer) (sheet-second press book sheet entries numbers z n) ∙ blamed-is 2 (sheetOf press sheet .fault) n);
+        no-press = λ none _. sym (ap (λ (x : Derivation). x .answer) (press-first press book sheet entries numbers none));
+        in-book = λ is n _. sym (ap (λ (x : Derivation). x .answer) (book-second press book sheet entries numbers is n) ∙ blamed-is 1 (bookOf book .fault) n);
+        in-sheet = λ is z n _. sym (ap (λ (x : Derivation). x .answer) (sheet-third press book sheet entries numbers is z n) ∙ blamed-is 2 (sheetOf press sheet .fault) n);
         too-many = λ _ _ taken. absurd (taken refl);
         declined = λ fine _ none _. says fine (plain 11) (λ _. refl) (λ has. absurd (none has));
         derived = λ fine _ has _. says fine (plain 0) (λ none. absurd (none has)) (λ _. refl);

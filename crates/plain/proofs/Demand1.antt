@@ -11,11 +11,12 @@ use Rattle.books.specs.Answer.{InputsNumber, packed, Packs}
 use Rattle.books.specs.Book.{bookOf}
 use Rattle.books.specs.Derives.{Member}
 use Rattle.books.specs.Lent.{contentsOf, pictureOf, Accepted}
+use Rattle.books.specs.Press.{IsPress}
 use Rattle.books.specs.Sheet.{sheetOf}
 use Rattle.books.specs.declared.answer.Answer.{Answer}
 use Rattle.books.proofs.Packing.{apart, plain-packs, book-placed, sheet-placed}
 use Rattle.books.proofs.ReadingBooks.{book-refused}
-use Rattle.books.proofs.ReadingSheets.{sheet-refused}
+use Rattle.books.proofs.ReadingSheets.{sheet-refused, sheet-press}
 use Rattle.pieces.proofs.Demand1.{InBook, InSheet, not-input}
 use Rattle.plain.specs.Outcome.{mostCells, cells, plainAnswer}
 use Rattle.plain.proofs.Endings.{plain-ends}
@@ -30,44 +31,62 @@ module _ (press : ℕ) (book sheet : List ℕ) where
 
   -- A call that was lent a book and a sheet answers so.
   pub record Answered (number blamed place : ℕ) : Type 0 where
-    pub listed : InputsNumber number ⊎ ((number ≡ 11) ⊎ (number ≡ 20))
-    pub faulty : ((1 ≤ number) × InputsNumber number) ↔ (Accepted press book sheet → ⊥)
+    pub listed : InputsNumber number ⊎ ((number ≡ 11) ⊎ (number ≡ 20) ⊎ (number ≡ 21))
+    pub no-press : (number ≡ 21) ↔ (IsPress press → ⊥)
+    pub faulty : ((1 ≤ number) × InputsNumber number) ↔ (IsPress press × (Accepted press book sheet → ⊥))
     pub twenty : (number ≡ 20) ↔ (Accepted press book sheet × (mostCells < cells (pictureOf press sheet)))
     pub eleven : (number ≡ 11) ↔ (Accepted press book sheet × Few × (Has → ⊥))
     pub zero : (number ≡ 0) ↔ (Accepted press book sheet × Few × Has)
     -- a fault is blamed on its input, at its place
     pub faults : 1 ≤ number → InputsNumber number → InBook book number blamed place ⊎ InSheet press book sheet number blamed place
-    pub others : Accepted press book sheet → (blamed ≡ 0) × (place ≡ 0)
+    pub others : ((1 ≤ number) × InputsNumber number → ⊥) → (blamed ≡ 0) × (place ≡ 0)
 
   abbrev Obeys : Answer → Type 0
   Obeys a = Answered (a .number) (a .blamed) (a .place)
 
-  in-input : (n blamed place : ℕ) → 1 ≤ n → InputsNumber n → (Accepted press book sheet → ⊥) → InBook book n blamed place ⊎ InSheet press book sheet n blamed place → Answered n blamed place
-  in-input n blamed place h g bad which =
+  on-press : Accepted press book sheet → IsPress press
+  on-press fine = sheet-press press sheet (fine .sheet-fine)
+
+  in-input : (n blamed place : ℕ) → IsPress press → 1 ≤ n → InputsNumber n → (Accepted press book sheet → ⊥)
+      → InBook book n blamed place ⊎ InSheet press book sheet n blamed place → Answered n blamed place
+  in-input n blamed place is h g bad which =
       record {
         listed = inl g;
-        faulty = together (h, g) bad;
+        no-press = neither (λ e. not-input 21 (subst InputsNumber e g) (omega arith) (λ u. omega arith)) (λ none. none is);
+        faulty = together (h, g) (is, bad);
         twenty = neither (λ e. not-input 20 (subst InputsNumber e g) (omega arith) (λ u. omega arith)) (λ x. bad (x .0));
         eleven = neither (λ e. not-input 11 (subst InputsNumber e g) (omega arith) (λ u. omega arith)) (λ x. bad (x .0));
         zero = neither (λ e. omega arith) (λ x. bad (x .0));
         faults = λ _ _. which;
-        others = λ fine. absurd (bad fine);
+        others = λ out. absurd (out (h, g));
       }
 
   obeys : Obeys (plainAnswer press book sheet)
   obeys =
       plain-ends press book sheet Obeys
       (record {
-        in-book = λ n. let f = book-refused book n .blamed in
-            in-input _ _ _ (f .some) (f .known) (λ fine. n (fine .book-fine))
+        no-press = λ none.
+            record {
+              listed = inr (inr (inr refl));
+              no-press = together refl none;
+              faulty = neither (λ e. not-input 21 (e .1) (omega arith) (λ u. omega arith)) (λ x. none (x .0));
+              twenty = neither (λ e. omega arith) (λ x. none (on-press (x .0)));
+              eleven = neither (λ e. omega arith) (λ x. none (on-press (x .0)));
+              zero = neither (λ e. omega arith) (λ x. none (on-press (x .0)));
+              faults = λ h g. absurd (not-input 21 g (omega arith) (λ u. omega arith));
+              others = λ _. (refl, refl);
+            };
+        in-book = λ is n. let f = book-refused book n .blamed in
+            in-input _ _ _ is (f .some) (f .known) (λ fine. n (fine .book-fine))
             (inl (record { number-is = refl; place-is = refl; first = refl; inside = f .inside }));
-        in-sheet = λ z n. let f = sheet-refused press sheet n .blamed in
-            in-input _ _ _ (f .some) (inl (f .known)) (λ fine. n (fine .sheet-fine))
+        in-sheet = λ is z n. let f = sheet-refused press sheet n .blamed in
+            in-input _ _ _ is (f .some) (inl (f .known)) (λ fine. n (fine .sheet-fine))
             (inr (record { book-fine = z; number-is = refl; place-is = refl; second = refl; inside = f .inside }));
         too-many = λ fine many.
             record {
-              listed = inr (inr refl);
-              faulty = neither (λ e. not-input 20 (e .1) (omega arith) (λ u. omega arith)) (λ bad. bad fine);
+              listed = inr (inr (inl refl));
+              no-press = neither (λ e. omega arith) (λ none. none (on-press fine));
+              faulty = neither (λ e. not-input 20 (e .1) (omega arith) (λ u. omega arith)) (λ x. x .1 fine);
               twenty = together refl (fine, many);
               eleven = neither (λ e. omega arith) (λ x. omega (arith, x .1));
               zero = neither (λ e. omega arith) (λ x. omega (arith, x .1));
@@ -77,7 +96,8 @@ module _ (press : ℕ) (book sheet : List ℕ) where
         declined = λ fine few none.
             record {
               listed = inr (inl refl);
-              faulty = neither (λ e. not-input 11 (e .1) (omega arith) (λ u. omega arith)) (λ bad. bad fine);
+              no-press = neither (λ e. omega arith) (λ none. none (on-press fine));
+              faulty = neither (λ e. not-input 11 (e .1) (omega arith) (λ u. omega arith)) (λ x. x .1 fine);
               twenty = neither (λ e. omega arith) (λ x. omega (arith, x .1));
               eleven = together refl (fine, few, none);
               zero = neither (λ e. omega arith) (λ x. none (x .2));
@@ -87,7 +107,8 @@ module _ (press : ℕ) (book sheet : List ℕ) where
         derived = λ fine few has.
             record {
               listed = inl (inl (omega arith));
-              faulty = neither (λ e. omega (arith, e .0)) (λ bad. bad fine);
+              no-press = neither (λ e. omega arith) (λ none. none (on-press fine));
+              faulty = neither (λ e. omega (arith, e .0)) (λ x. x .1 fine);
               twenty = neither (λ e. omega arith) (λ x. omega (arith, x .1));
               eleven = neither (λ e. omega arith) (λ x. x .2 has);
               zero = together refl (fine, few, has);
@@ -100,8 +121,9 @@ module _ (press : ℕ) (book sheet : List ℕ) where
   plain-answer-packs =
       plain-ends press book sheet (λ a. Packs a 0)
       (record {
-        in-book = λ n. rw (ne-eqb (bookOf book .fault .number) 0 n) at (book-placed book 1 (omega arith) .packs);
-        in-sheet = λ z n. rw (ne-eqb (sheetOf press sheet .fault .number) 0 n) at (sheet-placed press sheet 2 (omega arith) .packs);
+        no-press = λ _. plain-packs 21 0 (omega arith) (omega arith);
+        in-book = λ is n. rw (ne-eqb (bookOf book .fault .number) 0 n) at (book-placed book 1 (omega arith) .packs);
+        in-sheet = λ is z n. rw (ne-eqb (sheetOf press sheet .fault .number) 0 n) at (sheet-placed press sheet 2 (omega arith) .packs);
         too-many = λ _ _. plain-packs 20 0 (omega arith) (omega arith);
         declined = λ _ _ _. plain-packs 11 0 (omega arith) (omega arith);
         derived = λ _ _ _. plain-packs 0 0 (omega arith) (omega arith);
@@ -109,8 +131,8 @@ module _ (press : ℕ) (book sheet : List ℕ) where
 
   -- ── The theorems ──
 
-  -- 1 to 8 or 18 exactly where an input is refused, 20 exactly where both are accepted and the sheet has more than 16 cells, 11 exactly where it has no more and the family has
-  -- not the sheet, and 0 exactly where it has it
+  -- 21 exactly where there is no such press, 1 to 8 or 18 exactly where there is and an input is refused, 20 exactly where both are accepted and the sheet has more than 16 cells,
+  -- 11 exactly where it has no more and the family has not the sheet, and 0 exactly where it has it
   pub plain-answered : (r : Answer) → r ≡ plainAnswer press book sheet → Answered (r .number) (r .blamed) (r .place)
   plain-answered r e = rw e obeys
 

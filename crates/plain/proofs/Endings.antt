@@ -1,4 +1,4 @@
--- The five ways in which the call ends: what holds of each holds of every call.
+-- The six ways in which the call ends: what holds of each holds of every call.
 use Prim.Native.Nat.{ℕ, _≤_, _<_}
 use mathlib.Core.Path.{_≡_}
 use mathlib.Core.List.{List}
@@ -12,6 +12,7 @@ use Rattle.books.specs.Decide.{derives?}
 use Rattle.books.specs.Derives.{Member}
 use Rattle.books.specs.Lent.{contentsOf, pictureOf, Accepted}
 use Rattle.books.specs.Picture.{Picture}
+use Rattle.books.specs.Press.{IsPress}
 use Rattle.books.specs.Sheet.{sheetOf}
 use Rattle.books.specs.declared.answer.Answer.{Answer}
 use Rattle.books.proofs.Deciding.{decided, refused}
@@ -26,8 +27,10 @@ module _ (press : ℕ) (book sheet : List ℕ) where
   p = pictureOf press sheet
 
   pub record Cases (P : Answer → Type 0) : Type 0 where
-    pub in-book : (bookOf book .fault .number ≡ 0 → ⊥) → P (answer (bookOf book .fault .number) 1 (bookOf book .fault .place))
-    pub in-sheet : bookOf book .fault .number ≡ 0 → (sheetOf press sheet .fault .number ≡ 0 → ⊥) → P (answer (sheetOf press sheet .fault .number) 2 (sheetOf press sheet .fault .place))
+    pub no-press : (IsPress press → ⊥) → P (plain 21)
+    pub in-book : IsPress press → (bookOf book .fault .number ≡ 0 → ⊥) → P (answer (bookOf book .fault .number) 1 (bookOf book .fault .place))
+    pub in-sheet : IsPress press → bookOf book .fault .number ≡ 0 → (sheetOf press sheet .fault .number ≡ 0 → ⊥)
+        → P (answer (sheetOf press sheet .fault .number) 2 (sheetOf press sheet .fault .place))
     pub too-many : Accepted press book sheet → mostCells < cells p → P (plain 20)
     pub declined : Accepted press book sheet → cells p ≤ mostCells → (Member b p → ⊥) → P (plain 11)
     pub derived : Accepted press book sheet → cells p ≤ mostCells → Member b p → P (plain 0)
@@ -46,4 +49,5 @@ module _ (press : ℕ) (book sheet : List ℕ) where
     pub plain-ends : P (plainAnswer press book sheet)
     unfolding plainAnswer
     plain-ends =
-        both-end P (λ a. a) press book sheet searched (record { in-book = cases .in-book; in-sheet = cases .in-sheet; in-neither = by-searching })
+        both-end P (λ a. a) press book sheet searched
+        (record { no-press = cases .no-press; in-book = cases .in-book; in-sheet = cases .in-sheet; in-neither = by-searching })

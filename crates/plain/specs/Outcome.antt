@@ -1,5 +1,5 @@
--- What the plain engine answers on a sheet of a press: the book's fault, then the sheet's, then 20 for more than 16 cells; else 0 where the start motif
--- derives the sheet, and 11 where it does not.
+-- What the plain engine answers on a sheet of a press: 21 where there is no such press, then the book's fault, then the sheet's, then 20 for more than 16
+-- cells; else 0 where the start motif derives the sheet, and 11 where it does not.
 use Prim.Native.Nat.{ℕ, _*_}
 use mathlib.Core.List.{List}
 use lib.Dec.{ltb}

@@ -4,6 +4,7 @@ use books::answer;
 use books::answer::Answer;
 use books::lent::read_rules;
 use books::numbering::number_sheet;
+use books::press::PRESSES;
 use books::rule::MOST_RULES;
 use books::size::ROOM;
 use pieces::piece::Piece;
@@ -14,10 +15,14 @@ ghost use Rattle.plain.specs.Outcome.{plainAnswer};
 // The most cells that the search takes. Every call ends, but the time grows with the ways in which a sheet comes apart.
 pub const MOST_CELLS: usize = 16;
 
-// Asks whether the family of a book has a sheet: the book's fault, then the sheet's, then 20 for a sheet of too many cells, and else 0 or 11.
-pub fn plain(book: &[u8], sheet: &[u8]) -> Answer
-    ensures { λ r. ⌜ r ≡ plainAnswer 0 (now (book .entry)) (now (sheet .entry)) ⌝ }
+// Asks whether the family of a book has a sheet of a press: 21 where there is no such press, then the book's fault, then the sheet's, then 20 for a sheet
+// of too many cells, and else 0 or 11.
+pub fn plain(press: usize, book: &[u8], sheet: &[u8]) -> Answer
+    ensures { λ r. ⌜ r ≡ plainAnswer press (now (book .entry)) (now (sheet .entry)) ⌝ }
 {
+    if press >= PRESSES {
+        return answer::unblamed(21);
+    }
     let mut rules = [[0u8; 4]; MOST_RULES];
     let b = read_rules(book, &mut rules);
     if b.fault.number != 0 {
@@ -25,7 +30,7 @@ pub fn plain(book: &[u8], sheet: &[u8]) -> Answer
     }
     let c = b.colours;
     let mut cells = [0u8; ROOM];
-    let s = number_sheet(0, book, c.count, &c.starts, &c.lens, sheet, &mut cells);
+    let s = number_sheet(press, book, c.count, &c.starts, &c.lens, sheet, &mut cells);
     if s.fault.number != 0 {
         return answer::blame(2, s.fault);
     }
@@ -48,8 +53,8 @@ pub fn plain(book: &[u8], sheet: &[u8]) -> Answer
 
 // The same for the C host.
 #[no_mangle]
-pub extern "C" fn dv_plain(book: &[u8], sheet: &[u8]) -> u64
-    ensures { λ r. ⌜ r ≡ packed (plainAnswer 0 (now (book .entry)) (now (sheet .entry))) 0 ⌝ }
+pub extern "C" fn dv_plain(press: usize, book: &[u8], sheet: &[u8]) -> u64
+    ensures { λ r. ⌜ r ≡ packed (plainAnswer press (now (book .entry)) (now (sheet .entry))) 0 ⌝ }
 {
-    answer::pack(plain(book, sheet), 0)
+    answer::pack(plain(press, book, sheet), 0)
 }

@@ -100,8 +100,9 @@ pub why-not-packs : (press : ℕ) (book sheet entries : List ℕ) → Packable (
 why-not-packs press book sheet entries =
     why-not-ends press book sheet entries Packable
     (record {
-      in-book = λ n. record { fits = no-values; packs = rw (ne-eqb (bookOf book .fault .number) 0 n) at (book-placed book 1 (omega arith) .packs) };
-      in-sheet = λ z n. record { fits = no-values; packs = rw (ne-eqb (sheetOf press sheet .fault .number) 0 n) at (sheet-placed press sheet 2 (omega arith) .packs) };
+      no-press = λ none. record { fits = no-values; packs = plain-packs 21 0 (omega arith) (omega arith) };
+      in-book = λ is n. record { fits = no-values; packs = rw (ne-eqb (bookOf book .fault .number) 0 n) at (book-placed book 1 (omega arith) .packs) };
+      in-sheet = λ is z n. record { fits = no-values; packs = rw (ne-eqb (sheetOf press sheet .fault .number) 0 n) at (sheet-placed press sheet 2 (omega arith) .packs) };
       short-work = λ fine short. record { fits = no-values; packs = plain-packs 9 0 (omega arith) (omega arith) };
       in-family = λ fine room x. record { fits = no-values; packs = plain-packs 15 0 (omega arith) (omega arith) };
       explained = λ fine room other first.

@@ -15,9 +15,10 @@ use Rattle.books.specs.Answer.{plain, blaming}
 use Rattle.books.specs.declared.answer.Answer.{Answer}
 use Rattle.books.specs.Book.{bookOf}
 use Rattle.books.specs.Sheet.{sheetOf}
-use Rattle.books.specs.Press.{greatestOf}
+use Rattle.books.specs.Press.{greatestOf, IsPress}
 use Rattle.books.specs.Size.{Within}
 use Rattle.books.proofs.ReadingBooks.{book-accepted}
+use Rattle.books.proofs.LentEnds.{no-press-first, book-refused-next}
 use Rattle.books.proofs.Presses.{greatest-few}
 use Rattle.books.proofs.ReadingSheets.{sheet-lies, sheet-refused}
 use Rattle.books.proofs.SizesWithin.{within-more}
@@ -34,7 +35,7 @@ use Rattle.sizes.specs.Table.{hasSizeBy}
 use Rattle.sizes.proofs.OneSize.{placed-has}
 use Rattle.reasons.specs.declared.calls.WhyNot.{WhyNot}
 use Rattle.reasons.specs.declared.reason.Reason.{Reason}
-use Rattle.reasons.specs.Why.{Outcome, refused, reasonOf, whyNot, Answers}
+use Rattle.reasons.specs.Why.{Outcome, refused, reasonOf, roomed, whyNot, Answers}
 use Rattle.reasons.specs.inner.FromTable.{reasonIn, unexplained}
 use Rattle.reasons.proofs.Endings.{why-not-ends}
 use Rattle.reasons.proofs.FromTables.{reason-shown}
@@ -63,12 +64,13 @@ module _ (press : ℕ) (book sheet entries : List ℕ) where
     pub eleven : a .answer .number ≡ 11 → Called o a
     pub other : (a .answer .number ≡ 0 → ⊥) → (a .answer .number ≡ 11 → ⊥) → o ≡ refused (a .answer) (a .entries)
 
-  pub follows : bookOf book .fault .number ≡ 0 → Follows (whyNot press book sheet entries) (asking press book sheet entries)
-  follows book-fine =
+  pub follows : IsPress press → bookOf book .fault .number ≡ 0 → Follows (whyNot press book sheet entries) (asking press book sheet entries)
+  follows is book-fine =
       why-not-ends press book sheet entries (λ o. Follows o (asking press book sheet entries))
       (record {
-        in-book = λ n. absurd (n book-fine);
-        in-sheet = λ z n. let f = sheet-refused press sheet n .blamed in
+        no-press = λ none. absurd (none is);
+        in-book = λ _ n. absurd (n book-fine);
+        in-sheet = λ _ z n. let f = sheet-refused press sheet n .blamed in
             rw (sheet-first press book sheet entries n, ne-eqb (sheetOf press sheet .fault .number) 0 n)
             (record { zero = λ e. absurd (n e); eleven = λ e. absurd (omega (arith, f .known)); other = λ _ _. refl });
         short-work = λ fine short.
@@ -88,17 +90,27 @@ module _ (press : ℕ) (book sheet entries : List ℕ) where
 
 -- ── What is told ──
 
-book-first : (press : ℕ) (book sheet entries : List ℕ) → (bookOf book .fault .number ≡ 0 → ⊥) → whyNot press book sheet entries ≡ refused (blaming 1 (bookOf book .fault)) entries
+press-first : (press : ℕ) (book sheet entries : List ℕ) → (IsPress press → ⊥) → whyNot press book sheet entries ≡ refused (plain 21) entries
 unfolding whyNot
-book-first press book sheet entries n = simp (ne-eqb (bookOf book .fault .number) 0 n)
+press-first press book sheet entries n = no-press-first press (λ a. refused a entries) _ n
+
+book-second : (press : ℕ) (book sheet entries : List ℕ) → IsPress press → (bookOf book .fault .number ≡ 0 → ⊥)
+    → whyNot press book sheet entries ≡ refused (blaming 1 (bookOf book .fault)) entries
+unfolding whyNot
+book-second press book sheet entries is n = book-refused-next press (λ a. refused a entries) book sheet (λ b p. roomed b p entries) is n
 
 module _ (press : ℕ) (book sheet entries : List ℕ) (w : WhyNot) (a : Answer) (told : w ≡ unexplained a) where
-  pub told-faulty : (f : Fault) → f ≡ bookOf book .fault → (f .number ≡ 0 → ⊥) → a ≡ blaming 1 f → Answers (whyNot press book sheet entries) w entries
-  told-faulty f read n e =
-      rw (book-first press book sheet entries (λ z. n (ap (λ (x : Fault). x .number) read ∙ z)))
+  pub told-no-press : (IsPress press → ⊥) → a ≡ plain 21 → Answers (whyNot press book sheet entries) w entries
+  told-no-press n e =
+      rw (press-first press book sheet entries n)
+      (record { answers = ap (λ (x : WhyNot). x .answer) told ∙ e; reasons = ap (λ (x : WhyNot). x .reason) told; leaves = refl })
+
+  pub told-faulty : IsPress press → (f : Fault) → f ≡ bookOf book .fault → (f .number ≡ 0 → ⊥) → a ≡ blaming 1 f → Answers (whyNot press book sheet entries) w entries
+  told-faulty is f read n e =
+      rw (book-second press book sheet entries is (λ z. n (ap (λ (x : Fault). x .number) read ∙ z)))
       (record { answers = ap (λ (x : WhyNot). x .answer) told ∙ e ∙ ap (blaming 1) read; reasons = ap (λ (x : WhyNot). x .reason) told; leaves = refl })
 
-  module _ (left : List ℕ) (r : Asked) {before cells : List ℕ} (asks : Asks press book sheet before entries r cells left) (book-fine : bookOf book .fault .number ≡ 0) where
+  module _ (left : List ℕ) (r : Asked) {before cells : List ℕ} (asks : Asks press book sheet before entries r cells left) (is : IsPress press) (book-fine : bookOf book .fault .number ≡ 0) where
     number-asked : (n : ℕ) → r .answer .number ≡ n → asking press book sheet entries .answer .number ≡ n
     number-asked n e = sym (ap (λ (x : Answer). x .number) (asks .answers)) ∙ e
 
@@ -107,20 +119,20 @@ module _ (press : ℕ) (book sheet entries : List ℕ) (w : WhyNot) (a : Answer)
 
     pub told-in : r .answer .number ≡ 0 → a ≡ plain 15 → Answers (whyNot press book sheet entries) w left
     told-in z e =
-        rw (follows press book sheet entries book-fine .zero (number-asked 0 z))
+        rw (follows press book sheet entries is book-fine .zero (number-asked 0 z))
         (record { answers = ap (λ (x : WhyNot). x .answer) told ∙ e; reasons = ap (λ (x : WhyNot). x .reason) told; leaves = asks .leaves-work })
 
     pub told-refused : (r .answer .number ≡ 0 → ⊥) → (r .answer .number ≡ 11 → ⊥) → a ≡ r .answer → Answers (whyNot press book sheet entries) w left
     told-refused n m e =
-        rw (follows press book sheet entries book-fine .other (other-number 0 n) (other-number 11 m))
+        rw (follows press book sheet entries is book-fine .other (other-number 0 n) (other-number 11 m))
         (record { answers = ap (λ (x : WhyNot). x .answer) told ∙ e ∙ asks .answers; reasons = ap (λ (x : WhyNot). x .reason) told; leaves = asks .leaves-work })
 
 -- ── The reason that the code finds ──
 
 module _ (press : ℕ) (book sheet entries left : List ℕ) (r : Asked) {before cells : List ℕ} (asks : Asks press book sheet before entries r cells left)
-    (book-fine : bookOf book .fault .number ≡ 0) (eleven : r .answer .number ≡ 11) where
+    (is : IsPress press) (book-fine : bookOf book .fault .number ≡ 0) (eleven : r .answer .number ≡ 11) where
   called : Called press book sheet entries (whyNot press book sheet entries) (asking press book sheet entries)
-  called = follows press book sheet entries book-fine .eleven (sym (ap (λ (x : Answer). x .number) (asks .answers)) ∙ eleven)
+  called = follows press book sheet entries is book-fine .eleven (sym (ap (λ (x : Answer). x .number) (asks .answers)) ∙ eleven)
 
   holds : left ≡ filled (contentsOf book) (pictureOf press sheet) entries
   holds = asks .leaves-work ∙ called .holds

@@ -11,10 +11,11 @@ use Rattle.names.proofs.Tests.{together, neither}
 use Rattle.books.specs.Answer.{InputsNumber}
 use Rattle.books.specs.Contents.{Contents}
 use Rattle.books.specs.Picture.{Picture}
+use Rattle.books.specs.Press.{IsPress}
 use Rattle.books.specs.Derives.{Member}
 use Rattle.books.proofs.Packing.{apart}
 use Rattle.books.proofs.ReadingBooks.{book-refused}
-use Rattle.books.proofs.ReadingSheets.{sheet-refused}
+use Rattle.books.proofs.ReadingSheets.{sheet-refused, sheet-press}
 use Rattle.pieces.specs.Derivation.{entriesNeeded}
 use Rattle.pieces.specs.Table.{table}
 use Rattle.pieces.proofs.Demand1.{InBook, InSheet, not-input}
@@ -29,10 +30,11 @@ use Rattle.reasons.proofs.Apart.{values-read, reason-read, Packable, wh
 use Rattle.reasons.proofs.Endings.{why-not-ends}
 
 -- a number on which nothing is written
-unread : (n : ℕ) → 1 ≤ n → InputsNumber n ⊎ (n ≡ 9) → (n ≡ 0) ⊎ (n ≡ 15) → ⊥
+unread : (n : ℕ) → 1 ≤ n → InputsNumber n ⊎ (n ≡ 9) ⊎ (n ≡ 21) → (n ≡ 0) ⊎ (n ≡ 15) → ⊥
 unread n h g (inl e) = omega arith
 unread n h (inl g) (inr e) = not-input 15 (subst InputsNumber e g) (omega arith) (λ u. omega arith)
-unread n h (inr g) (inr e) = omega arith
+unread n h (inr (inl g)) (inr e) = omega arith
+unread n h (inr (inr g)) (inr e) = omega arith
 
 module _ (press : ℕ) (book sheet work : List ℕ) where
   abbrev b : Contents
@@ -51,8 +53,9 @@ module _ (press : ℕ) (book sheet work : List ℕ) where
 
   -- A call that was lent a book, a sheet and a work slice answers so, with this reason, and leaves the slice so.
   pub record Answered (number blamed place : ℕ) (reason : Reason) (left : List ℕ) : Type 0 where
-    pub listed : InputsNumber number ⊎ ((number ≡ 9) ⊎ (number ≡ 15))
-    pub faulty : ((1 ≤ number) × InputsNumber number) ↔ (Accepted press book sheet → ⊥)
+    pub listed : InputsNumber number ⊎ (number ≡ 9) ⊎ (number ≡ 15) ⊎ (number ≡ 21)
+    pub no-press : (number ≡ 21) ↔ (IsPress press → ⊥)
+    pub faulty : ((1 ≤ number) × InputsNumber number) ↔ (IsPress press × (Accepted press book sheet → ⊥))
     pub nine : (number ≡ 9) ↔ (Accepted press book sheet × (length work < entriesNeeded p))
     pub fifteen : (number ≡ 15) ↔ (Ready × Member b p)
     pub zero : (number ≡ 0) ↔ (Ready × (Member b p → ⊥))
@@ -60,18 +63,22 @@ module _ (press : ℕ) (book sheet work : List ℕ) where
     pub others : (number ≡ 0) ⊎ (InputsNumber number → ⊥) → (blamed ≡ 0) × (place ≡ 0)
     pub first : number ≡ 0 → First b p reason
     pub no-reason : (number ≡ 0 → ⊥) → reason ≡ NoReason
-    pub unwritten : 1 ≤ number → InputsNumber number ⊎ (number ≡ 9) → left ≡ work
+    pub unwritten : 1 ≤ number → InputsNumber number ⊎ (number ≡ 9) ⊎ (number ≡ 21) → left ≡ work
     pub written : (number ≡ 0) ⊎ (number ≡ 15) → left ≡ tabled
 
   abbrev Obeys : Outcome → Type 0
   Obeys o = Answered (o .answer .number) (o .answer .blamed) (o .answer .place) (o .reason) (o .entries)
 
-  faulty-input : (n blamed place : ℕ) → 1 ≤ n → InputsNumber n → (Accepted press book sheet → ⊥) → InBook book n blamed place ⊎ InSheet press book sheet n blamed place
+  on-press : Accepted press book sheet → IsPress press
+  on-press fine = sheet-press press sheet (fine .sheet-fine)
+
+  faulty-input : (n blamed place : ℕ) → IsPress press → 1 ≤ n → InputsNumber n → (Accepted press book sheet → ⊥) → InBook book n blamed place ⊎ InSheet press book sheet n blamed place
       → Answered n blamed place NoReason work
-  faulty-input n blamed place h g bad where-it-is =
+  faulty-input n blamed place is h g bad where-it-is =
       record {
         listed = inl g;
-        faulty = together (h, g) bad;
+        no-press = neither (λ e. not-input 21 (subst InputsNumber e g) (omega arith) (λ u. omega arith)) (λ none. none is);
+        faulty = together (h, g) (is, bad);
         nine = neither (λ e. not-input 9 (subst InputsNumber e g) (omega arith) (λ u. omega arith)) (λ x. bad (x .0));
         fifteen = neither (λ e. not-input 15 (subst InputsNumber e g) (omega arith) (λ u. omega arith)) (λ x. bad (x .0 .0));
         zero = neither (λ e. omega arith) (λ x. bad (x .0 .0));
@@ -91,16 +98,32 @@ module _ (press : ℕ) (book sheet work : List ℕ) where
   obeys =
       why-not-ends press book sheet work Obeys
       (record {
-        in-book = λ n. let f = book-refused book n .blamed in
-            faulty-input _ _ _ (f .some) (f .known) (λ fine. n (fine .book-fine))
+        no-press = λ none.
+            record {
+              listed = inr (inr (inr refl));
+              no-press = together refl none;
+              faulty = neither (λ e. not-input 21 (e .1) (omega arith) (λ u. omega arith)) (λ x. none (x .0));
+              nine = neither (λ e. omega arith) (λ x. none (on-press (x .0)));
+              fifteen = neither (λ e. omega arith) (λ x. none (on-press (x .0 .0)));
+              zero = neither (λ e. omega arith) (λ x. none (on-press (x .0 .0)));
+              faults = λ h g. absurd (not-input 21 g (omega arith) (λ u. omega arith));
+              others = λ o. (refl, refl);
+              first = λ e. absurd (omega arith);
+              no-reason = λ _. refl;
+              unwritten = λ _ _. refl;
+              written = λ o. absurd (unread 21 (omega arith) (inr (inr refl)) o);
+            };
+        in-book = λ is n. let f = book-refused book n .blamed in
+            faulty-input _ _ _ is (f .some) (f .known) (λ fine. n (fine .book-fine))
             (inl (record { number-is = refl; place-is = refl; first = refl; inside = f .inside }));
-        in-sheet = λ z n. let f = sheet-refused press sheet n .blamed in
-            faulty-input _ _ _ (f .some) (inl (f .known)) (λ fine. n (fine .sheet-fine))
+        in-sheet = λ is z n. let f = sheet-refused press sheet n .blamed in
+            faulty-input _ _ _ is (f .some) (inl (f .known)) (λ fine. n (fine .sheet-fine))
             (inr (record { book-fine = z; number-is = refl; place-is = refl; second = refl; inside = f .inside }));
         short-work = λ fine short.
             record {
               listed = inr (inl refl);
-              faulty = neither (λ e. not-input 9 (e .1) (omega arith) (λ u. omega arith)) (λ bad. bad fine);
+              no-press = neither (λ e. omega arith) (λ none. none (on-press fine));
+              faulty = neither (λ e. not-input 9 (e .1) (omega arith) (λ u. omega arith)) (λ x. x .1 fine);
               nine = together refl (fine, short);
               fifteen = neither (λ e. omega arith) (λ x. omega (arith, x .0 .1));
               zero = neither (λ e. omega arith) (λ x. omega (arith, x .0 .1));
@@ -109,12 +132,13 @@ module _ (press : ℕ) (book sheet work : List ℕ) where
               first = λ e. absurd (omega arith);
               no-reason = λ _. refl;
               unwritten = λ _ _. refl;
-              written = λ o. absurd (unread 9 (omega arith) (inr refl) o);
+              written = λ o. absurd (unread 9 (omega arith) (inr (inl refl)) o);
             };
         in-family = λ fine room x.
             record {
-              listed = inr (inr refl);
-              faulty = neither (λ e. not-input 15 (e .1) (omega arith) (λ u. omega arith)) (λ bad. bad fine);
+              listed = inr (inr (inl refl));
+              no-press = neither (λ e. omega arith) (λ none. none (on-press fine));
+              faulty = neither (λ e. not-input 15 (e .1) (omega arith) (λ u. omega arith)) (λ x. x .1 fine);
               nine = neither (λ e. omega arith) (λ y. omega (arith, y .1));
               fifteen = together refl ((fine, room), x);
               zero = neither (λ e. omega arith) (λ y. y .1 x);
@@ -128,7 +152,8 @@ module _ (press : ℕ) (book sheet work : List ℕ) where
         explained = λ fine room other first.
             record {
               listed = inl (inl (omega arith));
-              faulty = neither (λ e. omega (arith, e .0)) (λ bad. bad fine);
+              no-press = neither (λ e. omega arith) (λ none. none (on-press fine));
+              faulty = neither (λ e. omega (arith, e .0)) (λ x. x .1 fine);
               nine = neither (λ e. omega arith) (λ y. omega (arith, y .1));
               fifteen = neither (λ e. omega arith) (λ y. other (y .1));
               zero = together refl ((fine, room), other);
@@ -143,8 +168,8 @@ module _ (press : ℕ) (book sheet work : List ℕ) where
 
   -- ── The theorems ──
 
-  -- 1 to 8 or 18 exactly where an input is refused, 9 exactly where both are accepted and the work slice is too short, 15 exactly where the family has the sheet, and
-  -- 0 exactly where it has not: then with the first reason that holds
+  -- 21 exactly where there is no such press, 1 to 8 or 18 exactly where there is and an input is refused, 9 exactly where both are accepted and the work slice is too short, 15
+  -- exactly where the family has the sheet, and 0 exactly where it has not: then with the first reason that holds
   pub why-not-answered : (r : WhyNot) (left : List ℕ) → Answers (whyNot press book sheet work) r left
       → Answered (r .answer .number) (r .answer .blamed) (r .answer .place) (r .reason) left
   why-not-answered r left a = rw (a .answers, a .reasons, a .leaves) obeys

@@ -86,7 +86,7 @@ judged b p entries =
 unfoldable pub roomed : Contents → Picture → List ℕ → Outcome
 roomed b p entries = pick (ltb (length entries) (entriesNeeded p)) (refused (plain 9) entries) (judged b p entries)
 
--- the book's fault, then the sheet's
+-- 21, then the book's fault, then the sheet's
 unfoldable pub whyNot : ℕ → List ℕ → List ℕ → List ℕ → Outcome
 whyNot press book sheet entries =
     lentBoth press book sheet (λ a. refused a entries) (λ b p. roomed b p entries)

@@ -10,6 +10,7 @@ use Rattle.names.specs.Counted.{each}
 use Rattle.names.specs.Pick.{pick}
 use Rattle.books.specs.Book.{bookOf}
 use Rattle.books.specs.Calls.{ticketOf}
+use Rattle.books.specs.Press.{IsPress}
 use Rattle.runs.specs.Figures.{answerOf, showing, answering, accepted, got, cellsOf, tickets, figuresOf, inARow}
 use Rattle.runs.specs.Lists.{those, howMany, addedUp, anyIn, leastOf, greatestOf}
 use Rattle.runs.specs.inner.Adding.{answered, coloured, ticketed}
@@ -17,7 +18,7 @@ use Rattle.runs.proofs.AnswersOfSheets.{answer-listed}
 use Rattle.runs.proofs.CountingLists.{once, those-append, how-many-append, how-many-one, added-append, added-one, least-more, greatest-more, any-more}
 use Rattle.runs.proofs.FiguresInARow.{row, ticketRow, Low, row-answered, row-coloured, row-ticketed}
 
-module _ (press : ℕ) (book : List ℕ) (fine : bookOf book .fault .number ≡ 0) (sheets : List (List ℕ)) (sheet : List ℕ) where
+module _ (press : ℕ) (is : IsPress press) (book : List ℕ) (fine : bookOf book .fault .number ≡ 0) (sheets : List (List ℕ)) (sheet : List ℕ) where
   abbrev more : List (List ℕ)
   more = sheets ++ (sheet ∷ [])
 
@@ -44,7 +45,8 @@ module _ (press : ℕ) (book : List ℕ) (fine : bookOf book .fault .number ≡ 
     answered-row : answered so-far (answerOf press book sheet) ≡ row (length more) (got press book more) (cellsOf press book sheets) (ticketRow (tickets press book sheets) rest)
     unfolding inARow figuresOf each
     answered-row =
-        row-answered (length sheets) (got press book sheets) (cellsOf press book sheets) (ticketRow (tickets press book sheets) rest) (answerOf press book sheet) (answer-listed press book sheet fine)
+        row-answered (length sheets) (got press book sheets) (cellsOf press book sheets) (ticketRow (tickets press book sheets) rest) (answerOf press book sheet)
+        (answer-listed press book sheet is fine)
         ∙ (λ i. row (sym (length-append sheets (sheet ∷ [])) i) (λ a. got-more a i) (cellsOf press book sheets) (ticketRow (tickets press book sheets) rest))
 
     pub declined-row : (answerOf press book sheet ≡ 0 → ⊥) → answered so-far (answerOf press book sheet) ≡ with-it

@@ -1,5 +1,5 @@
--- With room enough for the greatest sheet neither slice of a derivation can be too short, so that it ends in one of four ways: an input is refused, or the
--- family has the sheet, or not. So the answer is 0 to 8 or 11.
+-- With room enough for the greatest sheet neither slice of a derivation can be too short, so that it ends in one of five ways: there is no such press, or an
+-- input is refused, or the family has the sheet, or not. So on a press the answer is 0 to 8 or 11.
 use Prim.Native.Nat.{ℕ, _+_, _≤_, _<_}
 use mathlib.Core.Path.{_≡_, refl, ap}
 use mathlib.Core.List.{List, []}
@@ -16,9 +16,10 @@ use Rattle.names.proofs.Tests.{together, neither}
 use Rattle.books.specs.Book.{bookOf}
 use Rattle.books.specs.Derives.{Member}
 use Rattle.books.specs.Lent.{contentsOf, pictureOf, Accepted}
+use Rattle.books.specs.Press.{IsPress}
 use Rattle.books.specs.Sheet.{sheetOf}
 use Rattle.books.proofs.Area.{within-area}
-use Rattle.books.proofs.ReadingSheets.{sheet-refused, sheet-lies}
+use Rattle.books.proofs.ReadingSheets.{sheet-refused, sheet-lies, sheet-press}
 use Rattle.pieces.specs.Derivation.{Derivation, entriesNeeded, numbersNeeded}
 use Rattle.pieces.proofs.Endings.{derivation-ends}
 use Rattle.pieces.proofs.Stretches.{total-few}
@@ -53,6 +54,7 @@ of-listed P zero one two three four five six seven eight eleven n (inr e) = rw e
 
 module _ (press : ℕ) (book sheet : List ℕ) where
   pub record Ways (P : ℕ → Type 0) : Type 0 where
+    pub no-press : (IsPress press → ⊥) → P 21
     pub in-book : (bookOf book .fault .number ≡ 0 → ⊥) → P (bookOf book .fault .number)
     pub in-sheet : bookOf book .fault .number ≡ 0 → (sheetOf press sheet .fault .number ≡ 0 → ⊥) → P (sheetOf press sheet .fault .number)
     pub declined : Accepted press book sheet → (Member (contentsOf book) (pictureOf press sheet) → ⊥) → P 11
@@ -63,18 +65,20 @@ module _ (press : ℕ) (book sheet : List ℕ) where
   answer-ends P ways =
       derivation-ends press book sheet (replicate (workRoom press) 0) (replicate (treeRoom press) 0) (λ (d : Derivation). P (d .answer .number))
       (record {
-        in-book = ways .in-book;
-        in-sheet = ways .in-sheet;
+        no-press = ways .no-press;
+        in-book = λ _. ways .in-book;
+        in-sheet = λ _. ways .in-sheet;
         short-work = λ fine short. absurd (omega (arith, short, length-replicate {A = ℕ} (workRoom press) 0, table-fits press sheet (fine .sheet-fine)));
         short-tree = λ fine enough short. absurd (omega (arith, short, length-replicate {A = ℕ} (treeRoom press) 0, tree-fits press sheet));
         declined = λ fine room none. ways .declined fine none;
         derived = λ fine room x nodes given. ways .derived fine x;
       })
 
-  pub answer-listed : bookOf book .fault .number ≡ 0 → Listed (answerOf press book sheet)
-  answer-listed fine =
+  pub answer-listed : IsPress press → bookOf book .fault .number ≡ 0 → Listed (answerOf press book sheet)
+  answer-listed is fine =
       answer-ends Listed
       (record {
+        no-press = λ none. absurd (none is);
         in-book = λ n. absurd (n fine);
         in-sheet = λ z n. inl (sheet-refused press sheet n .blamed .known);
         declined = λ fine none. inr refl;
@@ -86,6 +90,7 @@ module _ (press : ℕ) (book sheet : List ℕ) where
   accepted-exactly =
       answer-ends (λ n. (n ≡ 0) ↔ (Accepted press book sheet × Member (contentsOf book) (pictureOf press sheet)))
       (record {
+        no-press = λ none. neither (λ e. omega arith) (λ x. none (sheet-press press sheet (x .0 .sheet-fine)));
         in-book = λ n. neither n (λ x. n (x .0 .book-fine));
         in-sheet = λ z n. neither n (λ x. n (x .0 .sheet-fine));
         declined = λ fine none. neither (λ e. omega arith) (λ x. none (x .1));
@@ -97,11 +102,12 @@ nothing-read : (press : ℕ) → sheetOf press [] .fault ≡ fault 1 0
 unfolding sheetOf coloursOf numberIn numberAt
 nothing-read press = refl
 
-pub nothing-answers : (press : ℕ) (book : List ℕ) → bookOf book .fault .number ≡ 0 → answerOf press book [] ≡ 1
-nothing-answers press book z =
+pub nothing-answers : (press : ℕ) → IsPress press → (book : List ℕ) → bookOf book .fault .number ≡ 0 → answerOf press book [] ≡ 1
+nothing-answers press is book z =
     let ends : sheetOf press [] .fault .number ≡ 1 = ap (λ (f : Fault). f .number) (nothing-read press) in
     answer-ends press book [] (λ n. n ≡ 1)
     (record {
+      no-press = λ none. absurd (none is);
       in-book = λ n. absurd (n z);
       in-sheet = λ _ _. ends;
       declined = λ fine _. absurd (omega (arith, ends, fine .sheet-fine));

@@ -14,6 +14,7 @@ use Rattle.names.specs.Bytes.{Bytes}
 use Rattle.books.specs.Book.{bookOf}
 use Rattle.books.specs.Derives.{Member}
 use Rattle.books.specs.Lent.{contentsOf, pictureOf, Accepted}
+use Rattle.books.specs.Press.{IsPress}
 use Rattle.books.specs.Sheet.{sheetOf, over}
 use Rattle.books.specs.declared.answer.Answer.{Answer}
 use Rattle.books.proofs.NumberedCells.{numbers-all, sheet-cells}
@@ -41,7 +42,7 @@ past-front t s n m size h =
     let d : n + k ≡ m = omega arith in
     ap (λ (x : ℕ). drop x (t ++ drop n s)) e ∙ drop-append-add t (drop n s) k ∙ drop-drop k n s ∙ ap (λ (x : ℕ). drop x s) d
 
-module _ (press : ℕ) (book sheet work : List ℕ) (fine : bookOf book .fault .number ≡ 0) (enough : workRoom press ≤ length work) where
+module _ (press : ℕ) (is : IsPress press) (book sheet work : List ℕ) (fine : bookOf book .fault .number ≡ 0) (enough : workRoom press ≤ length work) where
   fits : sheetOf press sheet .fault .number ≡ 0 → entriesNeeded (pictureOf press sheet) ≤ length work
   fits z = omega (arith, table-fits press sheet z, enough)
 
@@ -49,6 +50,7 @@ module _ (press : ℕ) (book sheet work : List ℕ) (fine : bookOf book .fault .
   asked-number =
       answer-ends press book sheet (λ n. asking press book sheet work .answer .number ≡ n)
       (record {
+        no-press = λ none. absurd (none is);
         in-book = λ n. absurd (n fine);
         in-sheet = λ z n. rw (sheet-first press book sheet work n, ne-eqb (sheetOf press sheet .fault .number) 0 n) refl;
         declined = λ f none. ap (λ (a : Asking). a .answer .number) (other-asked press book sheet work f (fits (f .sheet-fine)) none);
@@ -94,7 +96,7 @@ module _ (press : ℕ) (book sheet work : List ℕ) (fine : bookOf book .fault .
         let few = rw (← asks .size) at (g .area-few) in
         let all = ap length (asks .cells-are) ∙ numbers-all book (bookOf book .family .colours) sheet (over before (sheetOf press sheet) .sheet) (g .cells-all) in
         record {
-          counted = rw number-is (count-low (answerOf press book sheet) (answer-listed press book sheet fine));
+          counted = rw number-is (count-low (answerOf press book sheet) (answer-listed press book sheet is fine));
           spare = spare;
           area-few = few;
           cells-all = rw (asks .size) (omega (arith, g .cells-all, all));
@@ -111,8 +113,8 @@ module _ (press : ℕ) (book sheet work : List ℕ) (fine : bookOf book .fault .
         go : Dec (r .answer .number ≡ 0) → withAsked (inARow (figuresOf press book so-far) ++ rest) r cells ≡ inARow (figuresOf press book (so-far ++ (sheet ∷ []))) ++ rest
         go (yes z) =
             rw (eq-eqb (r .answer .number) 0 z, asks .ticket, number-is)
-            (accepted-row press book fine so-far sheet rest (sym number-is ∙ z) (take area cells) (taken-low z) (shows z))
-        go (no n) = rw (ne-eqb (r .answer .number) 0 n, number-is) (declined-row press book fine so-far sheet rest (λ z. n (number-is ∙ z)))
+            (accepted-row press is book fine so-far sheet rest (sym number-is ∙ z) (take area cells) (taken-low z) (shows z))
+        go (no n) = rw (ne-eqb (r .answer .number) 0 n, number-is) (declined-row press is book fine so-far sheet rest (λ z. n (number-is ∙ z)))
 
     pub asked-adds : (f : List ℕ) → Adds press book sheet work left f (withAsked f r cells)
     asked-adds f =

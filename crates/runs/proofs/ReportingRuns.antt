@@ -1,7 +1,7 @@
--- The ways down the call: a refused book comes first, then the run's framing, then the work slice, and else the sheets are counted and the work
--- slice is cleared. A slice of zeros holds no figures.
+-- The ways down the call: 21 comes first where there is no such press, then a refused book, then the run's framing, then the work slice, and else the
+-- sheets are counted and the work slice is cleared. A slice of zeros holds no figures.
 use Prim.Native.Nat.{ℕ, _≤_, _<_}
-use mathlib.Core.Path.{_≡_, refl, sym, ap, ap₂, _∙_}
+use mathlib.Core.Path.{_≡_, refl, sym, ap, _∙_}
 use mathlib.Core.List.{List, _++_}
 use native.Mathlib.Omega.{arith}
 use borrow.Author.Tests.{eq-eqb, ne-eqb, lt-ltb, le-ltb, eqb-true, eqb-false, ltb-true, ltb-false}
@@ -13,8 +13,9 @@ use Rattle.names.specs.declared.number.Fault.{Fault}
 use Rattle.names.proofs.Picking.{pick-ind}
 use Rattle.books.specs.Answer.{answer, plain, blaming, packed}
 use Rattle.books.specs.Book.{bookOf}
+use Rattle.books.specs.Press.{presses, IsPress}
 use Rattle.books.specs.declared.answer.Answer.{Answer}
-use Rattle.books.proofs.LentEnds.{blamed-is}
+use Rattle.books.proofs.LentEnds.{blamed-is, press-ends, no-press-first}
 use Rattle.runs.specs.Run.{framing, sheetsOf}
 use Rattle.runs.specs.Figures.{workRoom, figuresOf, noFigures, figuresLong, inARow}
 use Rattle.runs.specs.Outcome.{Outcome, refusedRun, refusal, refused, reported, report, Answers, Told, told, runReport, Leaves}
@@ -24,53 +25,66 @@ use Rattle.runs.specs.inner.Reporting.{refusing, Counts, telling}
 
 -- ── What is refused ──
 
-module _ (room : ℕ) (f : Fault) (run : List ℕ) (entries : ℕ) where
-  pub book-first : (f .number ≡ 0 → ⊥) → refusing room f run entries ≡ blaming 1 f
-  book-first n = rw (ne-eqb (f .number) 0 n) refl
+module _ (press : ℕ) (f : Fault) (run : List ℕ) (entries : ℕ) where
+  pub press-first : (IsPress press → ⊥) → refusing press f run entries ≡ plain 21
+  press-first n = no-press-first press (λ a. a) _ n
 
-  module _ (z : f .number ≡ 0) where
-    pub run-second : (framing run .number ≡ 0 → ⊥) → refusing room f run entries ≡ blaming 2 (framing run)
-    unfolding refusedRun
-    run-second n = rw (eq-eqb (f .number) 0 z, ne-eqb (framing run .number) 0 n) refl
+  module _ (is : IsPress press) where
+    pub book-second : (f .number ≡ 0 → ⊥) → refusing press f run entries ≡ blaming 1 f
+    book-second n = rw (lt-ltb press presses is, ne-eqb (f .number) 0 n) refl
 
-    module _ (y : framing run .number ≡ 0) where
-      pub work-third : entries < room → refusing room f run entries ≡ plain 9
+    module _ (z : f .number ≡ 0) where
+      pub run-third : (framing run .number ≡ 0 → ⊥) → refusing press f run entries ≡ blaming 2 (framing run)
       unfolding refusedRun
-      work-third h = rw (eq-eqb (f .number) 0 z, eq-eqb (framing run .number) 0 y, lt-ltb entries room h) refl
+      run-third n = rw (lt-ltb press presses is, eq-eqb (f .number) 0 z, ne-eqb (framing run .number) 0 n) refl
 
-      pub nothing-refused : room ≤ entries → refusing room f run entries ≡ plain 0
-      unfolding refusedRun
-      nothing-refused h = rw (eq-eqb (f .number) 0 z, eq-eqb (framing run .number) 0 y, le-ltb entries room h) refl
+      module _ (y : framing run .number ≡ 0) where
+        pub work-fourth : entries < workRoom press → refusing press f run entries ≡ plain 9
+        unfolding refusedRun
+        work-fourth h = rw (lt-ltb press presses is, eq-eqb (f .number) 0 z, eq-eqb (framing run .number) 0 y, lt-ltb entries (workRoom press) h) refl
+
+        pub nothing-refused : workRoom press ≤ entries → refusing press f run entries ≡ plain 0
+        unfolding refusedRun
+        nothing-refused h = rw (lt-ltb press presses is, eq-eqb (f .number) 0 z, eq-eqb (framing run .number) 0 y, le-ltb entries (workRoom press) h) refl
 
   pub record Granted : Type 0 where
+    pub on-press : IsPress press
     pub book-fine : f .number ≡ 0
     pub run-fine : framing run .number ≡ 0
-    pub work-long : room ≤ entries
+    pub work-long : workRoom press ≤ entries
 
   -- what holds of each way holds of what is refused
   pub record Ways (P : Answer → Type 0) : Type 0 where
-    pub in-book : (f .number ≡ 0 → ⊥) → P (answer (f .number) 1 (f .place))
-    pub in-run : f .number ≡ 0 → (framing run .number ≡ 0 → ⊥) → P (answer (framing run .number) 2 (framing run .place))
-    pub short-work : f .number ≡ 0 → framing run .number ≡ 0 → entries < room → P (plain 9)
+    pub no-press : (IsPress press → ⊥) → P (plain 21)
+    pub in-book : IsPress press → (f .number ≡ 0 → ⊥) → P (answer (f .number) 1 (f .place))
+    pub in-run : IsPress press → f .number ≡ 0 → (framing run .number ≡ 0 → ⊥) → P (answer (framing run .number) 2 (framing run .place))
+    pub short-work : IsPress press → f .number ≡ 0 → framing run .number ≡ 0 → entries < workRoom press → P (plain 9)
     pub nothing : Granted → P (plain 0)
 
-  pub refusing-ends : (P : Answer → Type 0) → Ways P → P (refusing room f run entries)
+  pub refusing-ends : (P : Answer → Type 0) → Ways P → P (refusing press f run entries)
   unfolding refusedRun
   refusing-ends P ways =
-      pick-ind P (eqb (f .number) 0) (refusedRun room run entries) (blaming 1 f)
+      press-ends P (λ a. a) press _ (ways .no-press) (λ is.
+      pick-ind P (eqb (f .number) 0) (refusedRun (workRoom press) run entries) (blaming 1 f)
       (λ z. let fine = eqb-true (f .number) 0 z in
       pick-ind P (eqb (framing run .number) 0) _ (blaming 2 (framing run))
       (λ y. let good = eqb-true (framing run .number) 0 y in
-      pick-ind P (ltb entries room) (plain 9) (plain 0)
-      (λ h. ways .short-work fine good (ltb-true entries room h))
-      (λ h. ways .nothing (record { book-fine = fine; run-fine = good; work-long = ltb-false entries room h })))
-      (λ n. let bad = eqb-false (framing run .number) 0 n in rw (blamed-is 2 (framing run) bad) (ways .in-run fine bad)))
-      (λ n. let bad = eqb-false (f .number) 0 n in rw (blamed-is 1 f bad) (ways .in-book bad))
+      pick-ind P (ltb entries (workRoom press)) (plain 9) (plain 0)
+      (λ h. ways .short-work is fine good (ltb-true entries (workRoom press) h))
+      (λ h. ways .nothing (record { on-press = is; book-fine = fine; run-fine = good; work-long = ltb-false entries (workRoom press) h })))
+      (λ n. let bad = eqb-false (framing run .number) 0 n in rw (blamed-is 2 (framing run) bad) (ways .in-run is fine bad)))
+      (λ n. let bad = eqb-false (f .number) 0 n in rw (blamed-is 1 f bad) (ways .in-book is bad)))
 
-  pub granted : refusing room f run entries .number ≡ 0 → Granted × (refusing room f run entries ≡ plain 0)
+  pub granted : refusing press f run entries .number ≡ 0 → Granted × (refusing press f run entries ≡ plain 0)
   granted =
       refusing-ends (λ a. a .number ≡ 0 → Granted × (a ≡ plain 0))
-      (record { in-book = λ n z. absurd (n z); in-run = λ _ n z. absurd (n z); short-work = λ _ _ _ z. absurd (omega arith); nothing = λ g _. (g, refl) })
+      (record {
+        no-press = λ _ z. absurd (omega arith);
+        in-book = λ _ n z. absurd (n z);
+        in-run = λ _ _ n z. absurd (n z);
+        short-work = λ _ _ _ _ z. absurd (omega arith);
+        nothing = λ g _. (g, refl);
+      })
 
 -- ── What is reported ──
 
@@ -86,9 +100,9 @@ cleared figures start e = e ∙ ap (λ (l : List ℕ). replicate figuresLong 0 +
 module _ (press : ℕ) (book run entries : List ℕ) where
   -- from a slice that was cleared first
   module _ (figures start : List ℕ) (clear : start ≡ replicate figuresLong 0 ++ drop figuresLong figures) (a : Answer) (f : Fault) (read : f ≡ bookOf book .fault)
-      {room : ℕ} (enough : room ≡ workRoom press) (is : a ≡ refusing room f run (length entries)) where
+      (is : a ≡ refusing press f run (length entries)) where
     answer-is : a ≡ refusal press book run entries
-    answer-is = is ∙ ap₂ (λ (n : ℕ) (e : Fault). refusing n e run (length entries)) enough read
+    answer-is = is ∙ ap (λ (e : Fault). refusing press e run (length entries)) read
 
     pub reports-refusal : (a .number ≡ 0 → ⊥) → telling a entries start ≡ told (report press book run entries) figures
     unfolding report told inARow
@@ -97,11 +111,11 @@ module _ (press : ℕ) (book run entries : List ℕ) where
         rw (ne-eqb (refusal press book run entries .number) 0 none) (λ i. telling (answer-is i) entries (clear i))
 
     pub reports-run : a .number ≡ 0 → (work left after : List ℕ) → Counts press book (sheetsOf run) entries work start left
-        → after ≡ replicate room 0 ++ drop room work → telling a after left ≡ told (report press book run entries) figures
+        → {n : ℕ} → n ≡ workRoom press → after ≡ replicate n 0 ++ drop n work → telling a after left ≡ told (report press book run entries) figures
     unfolding report told
-    reports-run z work left after c e =
+    reports-run z work left after c enough e =
         let y : refusal press book run entries .number ≡ 0 = ap (λ (b : Answer). b .number) (sym answer-is) ∙ z in
-        let answers = answer-is ∙ granted (workRoom press) (bookOf book .fault) run (length entries) y .1 in
+        let answers = answer-is ∙ granted press (bookOf book .fault) run (length entries) y .1 in
         let works = (rw enough at e) ∙ ap (λ (l : List ℕ). replicate (workRoom press) 0 ++ l) (c .work-same) in
         let counts = c .counts ∙ ap (λ (l : List ℕ). inARow (figuresOf press book (sheetsOf run)) ++ drop figuresLong l) clear in
         rw (eq-eqb (refusal press book run entries .number) 0 y) (λ i. telling (answers i) (works i) (counts i))
@@ -126,13 +140,17 @@ module _ (press : ℕ) (book run entries : List ℕ) where
   -- ── For the C host ──
 
   module _ (slice : List ℕ) where
-    pub short-slice : length slice < figuresLong → (a : Answer) → a ≡ plain 13 → telling a entries slice ≡ runReport press book run entries slice
+    pub no-such-press : (IsPress press → ⊥) → (a : Answer) → a ≡ plain 21 → telling a entries slice ≡ runReport press book run entries slice
     unfolding runReport
-    short-slice h a e = rw (lt-ltb (length slice) figuresLong h) (ap (λ (b : Answer). telling b entries slice) e)
+    no-such-press n a e = ap (λ (b : Answer). telling b entries slice) e ∙ sym (no-press-first press (λ (b : Answer). telling b entries slice) _ n)
 
-    pub long-slice : figuresLong ≤ length slice → told (report press book run entries) slice ≡ runReport press book run entries slice
+    pub short-slice : IsPress press → length slice < figuresLong → (a : Answer) → a ≡ plain 13 → telling a entries slice ≡ runReport press book run entries slice
     unfolding runReport
-    long-slice h = rw (le-ltb (length slice) figuresLong h) refl
+    short-slice is h a e = rw (lt-ltb press presses is, lt-ltb (length slice) figuresLong h) (ap (λ (b : Answer). telling b entries slice) e)
+
+    pub long-slice : IsPress press → figuresLong ≤ length slice → told (report press book run entries) slice ≡ runReport press book run entries slice
+    unfolding runReport
+    long-slice is h = rw (lt-ltb press presses is, le-ltb (length slice) figuresLong h) refl
 
     pub leaves-report : (a : Answer) (r : ℕ) (work left : List ℕ) → telling a work left ≡ runReport press book run entries slice → r ≡ packed a 0
         → Leaves (runReport press book run entries slice) r work left

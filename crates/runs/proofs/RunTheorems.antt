@@ -1,9 +1,9 @@
--- What the figures say of a run, over the list of its sheets: every sheet has one of the ten answers, whatever the slices of a derivation that is asked, so
+-- What the figures say of a run on a press, over the list of its sheets: every sheet has one of the ten answers, whatever the slices of a derivation that is asked, so
 -- that the counts add up; the least and the greatest ticket are tickets of accepted sheets and bound them; and where no sheet is accepted, nothing is told of tickets.
 use Prim.Native.Nat.{ℕ, _≤_}
 use mathlib.Core.Path.{_≡_, refl, sym, ap, _∙_}
 use mathlib.Core.List.{List, [], _∷_, map}
-use mathlib.Core.Logic.{_⊎_, inl, inr}
+use mathlib.Core.Logic.{_⊎_, inl, inr, ⊎-elim}
 use native.Mathlib.Decide.{ℕ-discrete}
 use native.Mathlib.Omega.{arith}
 use lib.Dec.{eqb}
@@ -11,12 +11,15 @@ use lib.ListN.{length, replicate}
 use Rattle.names.specs.Number.{numberAt}
 use Rattle.names.specs.Pick.{fault}
 use Rattle.names.specs.declared.number.Read.the-variants.{Value}
+use Rattle.names.proofs.Tests.{lt-or-le}
+use Rattle.books.specs.Answer.{plain, blaming}
 use Rattle.books.specs.Book.{bookOf}
 use Rattle.books.specs.Calls.{ticketOf}
+use Rattle.books.specs.Press.{presses, IsPress}
 use Rattle.books.specs.declared.answer.Answer.{Answer}
-use Rattle.pieces.specs.Derivation.{Derivation, derivation}
+use Rattle.pieces.specs.Derivation.{Derivation, leaving, derivation}
 use Rattle.pieces.proofs.AskingAnswers.{as-derived}
-use Rattle.pieces.proofs.DerivationAnswers.{book-first}
+use Rattle.pieces.proofs.DerivationAnswers.{press-first, book-second}
 use Rattle.names.specs.Counted.{each}
 use Rattle.runs.specs.Run.{frameAt, sheetIn, walkFrom, framing, sheetsOf}
 use Rattle.runs.specs.Figures.{workRoom, treeRoom, answerOf, answering, accepted, got, cellsOf, tickets, answersGiven, figuresOf, noFigures}
@@ -27,7 +30,7 @@ use Rattle.runs.proofs.AnswersOfSheets.{tree-fits, of-listed, nothing-a
 use Rattle.runs.proofs.AskedSheets.{asked-number}
 use Rattle.runs.proofs.CountingLists.{once, how-many-none, how-many-cons, Bounds, least-bounds, greatest-bounds}
 use Rattle.runs.proofs.WalkingRuns.{framed-whole, sheet-framed}
--- The answer of a sheet under an accepted book is 0 to 8, or 11 (`answer-listed`), and 0 exactly where book and sheet are read and the family has the sheet (`accepted-exactly`).
+-- The answer of a sheet of a press under an accepted book is 0 to 8, or 11 (`answer-listed`), and 0 exactly where book and sheet are read and the family has the sheet (`accepted-exactly`).
 pub use Rattle.runs.proofs.AnswersOfSheets.{Listed, answer-listed, accepted-exactly}
 
 -- ── The answer of a sheet ──
@@ -36,17 +39,25 @@ pub use Rattle.runs.proofs.AnswersOfSheets.{Listed, answer-listed, acce
 pub any-room : (press : ℕ) (book sheet work tree : List ℕ) → workRoom press ≤ length work → treeRoom press ≤ length tree
     → derivation press book sheet work tree .answer .number ≡ answerOf press book sheet
 unfolding answerOf
-any-room press book sheet work tree enough long = go (ℕ-discrete (bookOf book .fault .number) 0)
+any-room press book sheet work tree enough long =
+    ⊎-elim (λ is. go is (ℕ-discrete (bookOf book .fault .number) 0))
+    (λ h. refused (plain 21) (λ w t. press-first press book sheet w t (λ is. omega arith)))
+    (lt-or-le press presses)
   where
+    Same : Type 0
+    Same = derivation press book sheet work tree .answer .number ≡ derivation press book sheet (replicate (workRoom press) 0) (replicate (treeRoom press) 0) .answer .number
+
     number : Derivation → ℕ
     number d = d .answer .number
 
-    go : Dec (bookOf book .fault .number ≡ 0)
-        → derivation press book sheet work tree .answer .number ≡ derivation press book sheet (replicate (workRoom press) 0) (replicate (treeRoom press) 0) .answer .number
-    go (yes z) =
-        ap (λ (a : Answer). a .number) (as-derived press book sheet work tree z (omega (arith, tree-fits press sheet)) .same-answer)
-        ∙ asked-number press book sheet work z enough
-    go (no n) = ap number (book-first press book sheet work tree n) ∙ sym (ap number (book-first press book sheet (replicate (workRoom press) 0) (replicate (treeRoom press) 0) n))
+    refused : (a : Answer) → ((w t : List ℕ) → derivation press book sheet w t ≡ leaving a w t) → Same
+    refused a whatever = ap number (whatever work tree) ∙ sym (ap number (whatever (replicate (workRoom press) 0) (replicate (treeRoom press) 0)))
+
+    go : IsPress press → Dec (bookOf book .fault .number ≡ 0) → Same
+    go is (yes z) =
+        ap (λ (a : Answer). a .number) (as-derived press book sheet work tree z (omega (arith, tree-fits press sheet)) is .same-answer)
+        ∙ asked-number press is book sheet work z enough
+    go is (no n) = refused (blaming 1 (bookOf book .fault)) (λ w t. book-second press book sheet w t is n)
 
 -- ── The counts add up ──
 
@@ -65,18 +76,18 @@ once-in-all : (n : ℕ) → Listed n → Once n
 unfolding addedUp
 once-in-all = of-listed Once refl refl refl refl refl refl refl refl refl refl
 
--- under an accepted book the answer counts of any list of sheets add up to the number of sheets
-pub answers-add-up : (press : ℕ) (book : List ℕ) → bookOf book .fault .number ≡ 0 → (sheets : List (List ℕ)) → inAll (got press book sheets) ≡ length sheets
+-- on a press under an accepted book the answer counts of any list of sheets add up to the number of sheets
+pub answers-add-up : (press : ℕ) → IsPress press → (book : List ℕ) → bookOf book .fault .number ≡ 0 → (sheets : List (List ℕ)) → inAll (got press book sheets) ≡ length sheets
 unfolding got addedUp
-answers-add-up press book fine [] = ap inAll (λ i a. how-many-none (answering press book a) i)
-answers-add-up press book fine (s ∷ sheets) =
+answers-add-up press is book fine [] = ap inAll (λ i a. how-many-none (answering press book a) i)
+answers-add-up press is book fine (s ∷ sheets) =
     let counts = ap inAll (λ i a. how-many-cons (answering press book a) s sheets i) in
-    omega (arith, counts, once-in-all (answerOf press book s) (answer-listed press book s fine), answers-add-up press book fine sheets)
+    omega (arith, counts, once-in-all (answerOf press book s) (answer-listed press book s is fine), answers-add-up press is book fine sheets)
 
-pub counts-add-up : (press : ℕ) (book : List ℕ) → bookOf book .fault .number ≡ 0 → (sheets : List (List ℕ))
+pub counts-add-up : (press : ℕ) → IsPress press → (book : List ℕ) → bookOf book .fault .number ≡ 0 → (sheets : List (List ℕ))
     → addedUp itself (figuresOf press book sheets .answers) ≡ figuresOf press book sheets .sheets
 unfolding figuresOf
-counts-add-up press book fine sheets = answers-add-up press book fine sheets
+counts-add-up press is book fine sheets = answers-add-up press is book fine sheets
 
 -- ── Tickets ──
 
@@ -129,11 +140,11 @@ pub empty-run : (framing [] ≡ fault 0 0) × (sheetsOf [] ≡ [])
 unfolding framing sheetsOf walkFrom
 empty-run = (refl, refl)
 
--- a length of 0 frames a sheet of no bytes, which an accepted book answers with 1
+-- a length of 0 frames a sheet of no bytes, which an accepted book answers with 1 on every press
 pub no-bytes : (run : List ℕ) (at next : ℕ) → numberAt run at ≡ Value 0 next → (frameAt run at .fault ≡ fault 0 0) × (sheetIn run (frameAt run at) ≡ [])
 no-bytes run at next e =
     let whole = framed-whole run at 0 next e (omega arith) in
     (ap (λ (f : Frame). f .fault) whole, ap (sheetIn run) whole ∙ sheet-framed run next 0)
 
-pub no-bytes-answers : (press : ℕ) (book : List ℕ) → bookOf book .fault .number ≡ 0 → answerOf press book [] ≡ 1
+pub no-bytes-answers : (press : ℕ) → IsPress press → (book : List ℕ) → bookOf book .fault .number ≡ 0 → answerOf press book [] ≡ 1
 no-bytes-answers = nothing-answers

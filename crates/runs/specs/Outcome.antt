@@ -6,7 +6,7 @@ use lib.Dec.{eqb, ltb}
 use lib.ListN.{length, drop, replicate}
 use Rattle.names.specs.Pick.{pick}
 use Rattle.books.specs.Answer.{plain, blaming, packed}
-use Rattle.books.specs.Lent.{lentBook}
+use Rattle.books.specs.Lent.{onPress, lentBook}
 use Rattle.books.specs.declared.answer.Answer.{Answer}
 use Rattle.runs.specs.Run.{framing, sheetsOf}
 use Rattle.runs.specs.Figures.{workRoom, figuresOf, noFigures, figuresLong, inARow}
@@ -32,9 +32,9 @@ reported press book run entries =
 unfoldable pub refusedRun : ℕ → List ℕ → ℕ → Answer
 refusedRun room run entries = pick (eqb (framing run .number) 0) (pick (ltb entries room) (plain 9) (plain 0)) (blaming 2 (framing run))
 
--- the book's fault comes first, and there must be room for the greatest sheet of the press
+-- 21 where there is no such press comes first, then the book's fault, and there must be room for the greatest sheet of the press
 abbrev pub refusal : ℕ → List ℕ → List ℕ → List ℕ → Answer
-refusal press book run entries = lentBook 1 book (λ a. a) (λ _. refusedRun (workRoom press) run (length entries))
+refusal press book run entries = onPress press (λ a. a) (lentBook 1 book (λ a. a) (λ _. refusedRun (workRoom press) run (length entries)))
 
 unfoldable pub report : ℕ → List ℕ → List ℕ → List ℕ → Outcome
 report press book run entries =
@@ -54,14 +54,15 @@ pub record Told : Type 0 where
   pub entries : List ℕ
   pub slice : List ℕ
 
--- the figures stand at the front of the slice, whatever is answered, and the slice beyond is as it was
+-- the figures stand at the front of the slice, whatever a report answers, and the slice beyond is as it was
 unfoldable pub told : Outcome → List ℕ → Told
 told o slice = record { answer = o .answer; entries = o .entries; slice = inARow (o .figures) ++ drop figuresLong slice }
 
--- 13 where that slice is too short, before anything is read
+-- 21 where there is no such press, and then 13 where that slice is too short, before anything is read: nothing is written
 unfoldable pub runReport : ℕ → List ℕ → List ℕ → List ℕ → List ℕ → Told
 runReport press book run entries slice =
-    pick (ltb (length slice) figuresLong) (record { answer = plain 13; entries = entries; slice = slice }) (told (report press book run entries) slice)
+    onPress press (λ a. record { answer = a; entries = entries; slice = slice })
+    (pick (ltb (length slice) figuresLong) (record { answer = plain 13; entries = entries; slice = slice }) (told (report press book run entries) slice))
 
 -- the number that the host gets, with 0 for the count, and both slices as the call leaves them
 pub record Leaves (t : Told) (r : ℕ) (entries slice : List ℕ) : Type 0 where

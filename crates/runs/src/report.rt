@@ -6,6 +6,7 @@ use crate::framing::framing;
 use books::answer::Answer;
 use books::answer::blame;
 use books::answer::unblamed;
+use books::press::PRESSES;
 use books::press::greatest;
 use books::size::ROOM;
 use names::number::Fault;
@@ -83,10 +84,13 @@ fn add_sheets(
     }
 }
 
-// What is refused of a book with a fault, of a run and of so many entries, in that order, where there must be room for so many; the number 0 is nothing.
-fn refused(room: usize, fault: Fault, run: &[u8], entries: usize) -> Answer
-    ensures { λ r. ⌜ r ≡ refusing room fault (now (run .entry)) entries ⌝ }
+// What is refused of a press, of a book with a fault, of a run and of so many entries, in that order; the number 0 is nothing.
+fn refused(press: usize, fault: Fault, run: &[u8], entries: usize) -> Answer
+    ensures { λ r. ⌜ r ≡ refusing press fault (now (run .entry)) entries ⌝ }
 {
+    if press >= PRESSES {
+        return unblamed(21);
+    }
     if fault.number != 0 {
         return blame(1, fault);
     }
@@ -94,7 +98,7 @@ fn refused(room: usize, fault: Fault, run: &[u8], entries: usize) -> Answer
     if framed.number != 0 {
         return blame(2, framed);
     }
-    if entries < room {
+    if entries < work_room(press) {
         return unblamed(9);
     }
     unblamed(0)
@@ -115,10 +119,10 @@ pub(crate) fn report_into(
     clear(&mut figures[..FIGURES_LONG]);
     let mut masks = [0u32; ALL_MASKS];
     let split = split_book(book, &mut masks);
-    let room = work_room(press);
-    let answer = refused(room, split.fault, run, work.len());
+    let answer = refused(press, split.fault, run, work.len());
     if answer.number == 0 {
         add_sheets(press, book, split, &masks, run, work, figures);
+        let room = work_room(press);
         clear(&mut work[..room]);
     }
     answer

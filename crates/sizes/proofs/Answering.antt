@@ -1,4 +1,4 @@
--- The ways down the call: a refused book comes first, then a slice that is too short, and else the card is written. Every answer packs, since places are bounded
+-- The ways down the call: a press that there is not comes first, then a refused book, then a slice that is too short, and else the card is written. Every answer packs, since places are bounded
 -- and a press has few sizes.
 use Prim.Native.Nat.{ℕ, zero, suc, _*_, _≤_, _<_}
 use mathlib.Core.Path.{_≡_, refl, _∙_}
@@ -15,10 +15,11 @@ use Rattle.names.specs.Bytes.{Bytes}
 use Rattle.books.specs.Answer.{plain, blaming, Packs}
 use Rattle.books.specs.Book.{bookOf}
 use Rattle.books.specs.Contents.{Contents}
-use Rattle.books.specs.Lent.{contentsOf}
+use Rattle.books.specs.Lent.{contentsOf, lentBook}
 use Rattle.books.specs.Press.{greatestOf, IsPress}
 use Rattle.books.specs.Size.{sizeBy as by}
 use Rattle.books.specs.declared.answer.Answer.{Answer}
+use Rattle.books.proofs.LentEnds.{press-ends, no-press-first, on-press}
 use Rattle.books.proofs.Presses.{greatest-some}
 use Rattle.books.proofs.Area.{room-enough}
 use Rattle.books.proofs.Packing.{plain-packs, book-placed}
@@ -37,14 +38,24 @@ use Rattle.sizes.proofs.CardRows.{card-counted, card-written}
 -- ── The ways down ──
 
 module _ (press : ℕ) (book slice : List ℕ) where
-  pub book-first : (bookOf book .fault .number ≡ 0 → ⊥) → sizeCard press book slice ≡ refused (blaming 1 (bookOf book .fault)) slice
-  unfolding sizeCard
-  book-first n = simp (ne-eqb (bookOf book .fault .number) 0 n)
+  abbrev refuse : Answer → Outcome
+  refuse a = refused a slice
 
-  module _ (fine : bookOf book .fault .number ≡ 0) where
-    pub then-room : sizeCard press book slice ≡ roomed press (contentsOf book) slice
+  abbrev go : Outcome
+  go = lentBook 1 book refuse (λ b. roomed press b slice)
+
+  pub press-first : (IsPress press → ⊥) → sizeCard press book slice ≡ refused (plain 21) slice
+  unfolding sizeCard
+  press-first n = no-press-first press refuse go n
+
+  pub book-second : IsPress press → (bookOf book .fault .number ≡ 0 → ⊥) → sizeCard press book slice ≡ refused (blaming 1 (bookOf book .fault)) slice
+  unfolding sizeCard
+  book-second is n = on-press press refuse go is ∙ simp (ne-eqb (bookOf book .fault .number) 0 n)
+
+  module _ (is : IsPress press) (fine : bookOf book .fault .number ≡ 0) where
+    then-room : sizeCard press book slice ≡ roomed press (contentsOf book) slice
     unfolding sizeCard
-    then-room = simp (eq-eqb (bookOf book .fault .number) 0 fine)
+    then-room = on-press press refuse go is ∙ simp (eq-eqb (bookOf book .fault .number) 0 fine)
 
     pub no-room : length slice < greatestOf press → sizeCard press book slice ≡ refused (plain 13) slice
     unfolding roomed
@@ -64,11 +75,12 @@ module _ (book before : List ℕ) {split : Split} {masks : List ℕ} (is : keptW
   start-low fine = let l = book-lies book (accepted fine) in omega (arith, kept-start book before is, l .start-fits, l .motifs-few)
 
   module _ (press : ℕ) (slice : List ℕ) (a : Answer) where
-    pub refuses : (split .fault .number ≡ 0 → ⊥) → a ≡ blaming 1 (split .fault) → Answers (sizeCard press book slice) (record { answer = a; sizes = 0 }) slice
-    refuses = rw (kept-fault book before is) (λ bad e. rw (book-first press book slice bad) (record { answers = e; counts = refl; leaves = refl }))
+    pub refuses : IsPress press → (split .fault .number ≡ 0 → ⊥) → a ≡ blaming 1 (split .fault) → Answers (sizeCard press book slice) (record { answer = a; sizes = 0 }) slice
+    refuses there = rw (kept-fault book before is) (λ bad e. rw (book-second press book slice there bad) (record { answers = e; counts = refl; leaves = refl }))
 
-    pub lacks : {most : ℕ} → most ≡ greatestOf press → split .fault .number ≡ 0 → length slice < most → a ≡ plain 13 → Answers (sizeCard press book slice) (record { answer = a; sizes = 0 }) slice
-    lacks m fine short e = rw (no-room press book slice (accepted fine) (rw m at short)) (record { answers = e; counts = refl; leaves = refl })
+    pub lacks : {most : ℕ} → most ≡ greatestOf press → IsPress press → split .fault .number ≡ 0 → length slice < most → a ≡ plain 13
+        → Answers (sizeCard press book slice) (record { answer = a; sizes = 0 }) slice
+    lacks m there fine short e = rw (no-room press book slice there (accepted fine) (rw m at short)) (record { answers = e; counts = refl; leaves = refl })
 
     pub writes : {most : ℕ} → most ≡ greatestOf press → IsPress press → length before ≡ allMasks → Bytes book → split .fault .number ≡ 0 → most ≤ length slice
         → a ≡ plain 0 → (n : ℕ) (after : List ℕ)
@@ -82,7 +94,7 @@ module _ (book before : List ℕ) {split : Split} {masks : List ℕ} (is : keptW
         let rows = rw (m, kept-start book before is) at wrote in
         let some = greatest-some press .0 there in
         let few = room-enough press in
-        rw (with-room press book slice (accepted fine) (rw m at roomy))
+        rw (with-room press book slice there (accepted fine) (rw m at roomy))
         (record {
           answers = e;
           counts = card-counted b keeps masks (split .joins) serves most some few slice n after rows;
@@ -118,6 +130,8 @@ roomed-packs press b slice =
 pub card-packs : (press : ℕ) (book slice : List ℕ) → Packed (sizeCard press book slice)
 unfolding sizeCard
 card-packs press book slice =
-    pick-ind Packed (eqb (bookOf book .fault .number) 0) _ (refused (blaming 1 (bookOf book .fault)) slice)
+    press-ends Packed (λ a. refused a slice) press _
+    (λ _. plain-packs 21 0 (omega arith) (omega arith))
+    (λ _. pick-ind Packed (eqb (bookOf book .fault .number) 0) _ (refused (blaming 1 (bookOf book .fault)) slice)
     (λ _. roomed-packs press _ slice)
-    (λ _. book-placed book 1 (omega arith) .packs)
+    (λ _. book-placed book 1 (omega arith) .packs))

@@ -133,6 +133,6 @@ gets-sized press book r c x =
 pub bit-gets-0 : (press : ℕ) (book slice left : List ℕ) (n : ℕ) → Bytes book → Leaves (sizeCard press book slice) n left → n % 2 ^ 8 ≡ 0
     → (r c : ℕ) → 1 ≤ r → r ≤ greatestOf press → 1 ≤ c → c ≤ greatestOf press → (bit (getD left (r - 1) 0) (c - 1) ≡ 1) ↔ Gets0 press book r c
 bit-gets-0 press book slice left n bytes called zero r c hr kr hc kc =
-    let fine = dv-size-card-answered press book slice n left called .zero .0 zero .0 in
+    let fine = dv-size-card-answered press book slice n left called .zero .0 zero .1 in
     let says = bit-exactly (greatestOf press) (contentsOf book) slice left (n / 2 ^ 32) (dv-size-card-holds press book slice n left called zero) r c hr kr hc kc in
     (λ o. sized-gets press book bytes fine r c kr kc (says .0 o), λ x. says .1 (gets-sized press book r c x))

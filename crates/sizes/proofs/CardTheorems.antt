@@ -48,15 +48,15 @@ module _ (press : ℕ) (book slice : List ℕ) where
   pub size-card-holds : (r : CardAnswer) (left : List ℕ) → Answers (sizeCard press book slice) r left → r .answer .number ≡ 0
       → CardLeft (greatestOf press) (contentsOf book) slice left (r .sizes)
   size-card-holds r left a z =
-      let (fine, room) = size-card-answered press book slice r left a .zero .0 z in
-      let e = with-room press book slice fine room in
+      let (is, fine, room) = size-card-answered press book slice r left a .zero .0 z in
+      let e = with-room press book slice is fine room in
       card-left (greatestOf press) (contentsOf book) slice left (r .sizes) room (a .leaves ∙ ap (λ (o : Outcome). o .slice) e) (a .counts ∙ ap (λ (o : Outcome). o .sizes) e)
 
   pub dv-size-card-holds : (r : ℕ) (left : List ℕ) → Leaves (sizeCard press book slice) r left → r % 2 ^ 8 ≡ 0
       → CardLeft (greatestOf press) (contentsOf book) slice left (r / 2 ^ 32)
   dv-size-card-holds r left l z =
-      let (fine, room) = dv-size-card-answered press book slice r left l .zero .0 z in
-      let e = with-room press book slice fine room in
+      let (is, fine, room) = dv-size-card-answered press book slice r left l .zero .0 z in
+      let e = with-room press book slice is fine room in
       let counted : r / 2 ^ 32 ≡ sizeCard press book slice .sizes = ap (λ (n : ℕ). n / 2 ^ 32) (l .answers) ∙ apart _ _ (card-packs press book slice) .count-is in
       card-left (greatestOf press) (contentsOf book) slice left (r / 2 ^ 32) room (l .leaves ∙ ap (λ (o : Outcome). o .slice) e) (counted ∙ ap (λ (o : Outcome). o .sizes) e)
 

@@ -8,79 +8,94 @@ use native.Mathlib.Decide.{ℕ-discrete}
 use native.Mathlib.Omega.{arith}
 use borrow.Author.Tests.{ne-eqb}
 use lib.ListN.{length}
-use Rattle.names.proofs.Tests.{lt-or-le}
+use Rattle.names.proofs.Tests.{lt-or-le, together, neither}
 use Rattle.books.specs.Answer.{InputsNumber}
 use Rattle.books.specs.Book.{bookOf}
-use Rattle.books.specs.Press.{greatestOf}
+use Rattle.books.specs.Lent.{Fine}
+use Rattle.books.specs.Press.{greatestOf, presses, IsPress}
 use Rattle.books.proofs.Packing.{apart}
 use Rattle.books.proofs.ReadingBooks.{book-refused}
 use Rattle.pieces.proofs.Demand1.{not-input}
 use Rattle.sizes.specs.declared.calls.CardAnswer.{CardAnswer}
 use Rattle.sizes.specs.Outcome.{Outcome, sizeCard, Answers, Leaves}
-use Rattle.sizes.proofs.Answering.{book-first, no-room, with-room, card-packs}
-
-abbrev pub Fine : List ℕ → Type 0
-Fine book = bookOf book .fault .number ≡ 0
+use Rattle.sizes.proofs.Answering.{press-first, book-second, no-room, with-room, card-packs}
 
 -- A call that was lent a book and a card slice answers so, with so many sizes, and leaves the slice so.
 pub record Answered (press : ℕ) (book slice : List ℕ) (number blamed place count : ℕ) (left : List ℕ) : Type 0 where
-  pub listed : InputsNumber number ⊎ (number ≡ 13)
-  pub zero : (number ≡ 0) ↔ (Fine book × (greatestOf press ≤ length slice))
-  pub faulty : ((1 ≤ number) × InputsNumber number) ↔ (Fine book → ⊥)
-  pub thirteen : (number ≡ 13) ↔ (Fine book × (length slice < greatestOf press))
+  pub listed : InputsNumber number ⊎ (number ≡ 13) ⊎ (number ≡ 21)
+  pub no-press : (number ≡ 21) ↔ (IsPress press → ⊥)
+  pub zero : (number ≡ 0) ↔ (IsPress press × Fine book × (greatestOf press ≤ length slice))
+  pub faulty : ((1 ≤ number) × InputsNumber number) ↔ (IsPress press × (Fine book → ⊥))
+  pub thirteen : (number ≡ 13) ↔ (IsPress press × Fine book × (length slice < greatestOf press))
   -- a fault of the book is blamed on it at its place, which is a byte of the book or its end
-  pub in-book : (Fine book → ⊥) → (number ≡ bookOf book .fault .number) × (blamed ≡ 1) × (place ≡ bookOf book .fault .place) × (place ≤ length book)
-  pub others : Fine book → (blamed ≡ 0) × (place ≡ 0)
+  pub in-book : IsPress press → (Fine book → ⊥) → (number ≡ bookOf book .fault .number) × (blamed ≡ 1) × (place ≡ bookOf book .fault .place) × (place ≤ length book)
+  pub others : (IsPress press → ⊥) ⊎ Fine book → (blamed ≡ 0) × (place ≡ 0)
   pub unwritten : (number ≡ 0 → ⊥) → (count ≡ 0) × (left ≡ slice)
 
 module _ (press : ℕ) (book slice : List ℕ) where
   abbrev Obeys : Outcome → Type 0
   Obeys o = Answered press book slice (o .answer .number) (o .answer .blamed) (o .answer .place) (o .sizes) (o .slice)
 
-  refuses : (Fine book → ⊥) → Obeys (sizeCard press book slice)
-  refuses bad =
-      let f = book-refused book bad .blamed in
-      rw (book-first press book slice bad, ne-eqb (bookOf book .fault .number) 0 bad) (record {
-        listed = inl (f .known);
-        zero = (λ z. absurd (bad z), λ x. absurd (bad (x .0)));
-        faulty = (λ _. bad, λ _. (f .some, f .known));
-        thirteen = (λ e. absurd (not-input 13 (subst InputsNumber e (f .known)) (omega arith) (λ u. omega arith)), λ x. absurd (bad (x .0)));
-        in-book = λ _. (refl, refl, refl, f .inside);
-        others = λ z. absurd (bad z);
+  other-press : (IsPress press → ⊥) → Obeys (sizeCard press book slice)
+  other-press none =
+      rw (press-first press book slice none) (record {
+        listed = inr (inr refl);
+        no-press = together refl none;
+        zero = neither (λ z. omega arith) (λ x. none (x .0));
+        faulty = neither (λ x. not-input 21 (x .1) (omega arith) (λ u. omega arith)) (λ x. none (x .0));
+        thirteen = neither (λ e. omega arith) (λ x. none (x .0));
+        in-book = λ is. absurd (none is);
+        others = λ _. (refl, refl);
         unwritten = λ _. (refl, refl);
       })
 
-  module _ (fine : Fine book) where
+  refuses : IsPress press → (Fine book → ⊥) → Obeys (sizeCard press book slice)
+  refuses is bad =
+      let f = book-refused book bad .blamed in
+      rw (book-second press book slice is bad, ne-eqb (bookOf book .fault .number) 0 bad) (record {
+        listed = inl (f .known);
+        no-press = neither (λ e. not-input 21 (subst InputsNumber e (f .known)) (omega arith) (λ u. omega arith)) (λ none. none is);
+        zero = neither bad (λ x. bad (x .1));
+        faulty = together (f .some, f .known) (is, bad);
+        thirteen = neither (λ e. not-input 13 (subst InputsNumber e (f .known)) (omega arith) (λ u. omega arith)) (λ x. bad (x .1));
+        in-book = λ _ _. (refl, refl, refl, f .inside);
+        others = ⊎-elim (λ none. absurd (none is)) (λ z. absurd (bad z));
+        unwritten = λ _. (refl, refl);
+      })
+
+  module _ (is : IsPress press) (fine : Fine book) where
     lacks : length slice < greatestOf press → Obeys (sizeCard press book slice)
     lacks h =
-        rw (no-room press book slice fine h) (record {
-          listed = inr refl;
-          zero = (λ z. absurd (omega arith), λ x. absurd (omega (arith, x .1)));
-          faulty = (λ x. absurd (not-input 13 (x .1) (omega arith) (λ u. omega arith)), λ bad. absurd (bad fine));
-          thirteen = (λ _. (fine, h), λ _. refl);
-          in-book = λ bad. absurd (bad fine);
+        rw (no-room press book slice is fine h) (record {
+          listed = inr (inl refl);
+          no-press = neither (λ e. omega arith) (λ none. none is);
+          zero = neither (λ z. omega arith) (λ x. omega (arith, x .2));
+          faulty = neither (λ x. not-input 13 (x .1) (omega arith) (λ u. omega arith)) (λ x. x .1 fine);
+          thirteen = together refl (is, fine, h);
+          in-book = λ _ bad. absurd (bad fine);
           others = λ _. (refl, refl);
           unwritten = λ _. (refl, refl);
         })
 
     writes : greatestOf press ≤ length slice → Obeys (sizeCard press book slice)
     writes h =
-        rw (with-room press book slice fine h) (record {
+        rw (with-room press book slice is fine h) (record {
           listed = inl (inl (omega arith));
-          zero = (λ _. (fine, h), λ _. refl);
-          faulty = (λ x. absurd (omega (arith, x .0)), λ bad. absurd (bad fine));
-          thirteen = (λ z. absurd (omega arith), λ x. absurd (omega (arith, x .1)));
-          in-book = λ bad. absurd (bad fine);
+          no-press = neither (λ e. omega arith) (λ none. none is);
+          zero = together refl (is, fine, h);
+          faulty = neither (λ x. omega (arith, x .0)) (λ x. x .1 fine);
+          thirteen = neither (λ z. omega arith) (λ x. omega (arith, x .2));
+          in-book = λ _ bad. absurd (bad fine);
           others = λ _. (refl, refl);
           unwritten = λ n. absurd (n refl);
         })
 
   pub obeys : Obeys (sizeCard press book slice)
-  obeys = go (ℕ-discrete (bookOf book .fault .number) 0)
+  obeys = ⊎-elim (λ is. go is (ℕ-discrete (bookOf book .fault .number) 0)) (λ past. other-press (λ is. omega arith)) (lt-or-le press presses)
     where
-      go : Dec (Fine book) → Obeys (sizeCard press book slice)
-      go (yes fine) = ⊎-elim (lacks fine) (writes fine) (lt-or-le (length slice) (greatestOf press))
-      go (no bad) = refuses bad
+      go : IsPress press → Dec (Fine book) → Obeys (sizeCard press book slice)
+      go is (yes fine) = ⊎-elim (lacks is fine) (writes is fine) (lt-or-le (length slice) (greatestOf press))
+      go is (no bad) = refuses is bad
 
   -- ── The theorems ──
 

@@ -7,7 +7,7 @@ use lib.ListN.{length, drop}
 use Rattle.names.specs.Pick.{pick}
 use Rattle.books.specs.Answer.{plain, packed}
 use Rattle.books.specs.Contents.{Contents}
-use Rattle.books.specs.Lent.{lentBook}
+use Rattle.books.specs.Lent.{onPress, lentBook}
 use Rattle.books.specs.Press.{greatestOf}
 use Rattle.books.specs.declared.answer.Answer.{Answer}
 use Rattle.sizes.specs.declared.calls.CardAnswer.{CardAnswer}
@@ -33,9 +33,10 @@ carded press b slice =
 unfoldable pub roomed : ℕ → Contents → List ℕ → Outcome
 roomed press b slice = pick (ltb (length slice) (greatestOf press)) (refused (plain 13) slice) (carded press b slice)
 
+-- 21 where there is no such press, then the book's fault
 unfoldable pub sizeCard : ℕ → List ℕ → List ℕ → Outcome
 sizeCard press book slice =
-    lentBook 1 book (λ a. refused a slice) (λ b. roomed press b slice)
+    onPress press (λ a. refused a slice) (lentBook 1 book (λ a. refused a slice) (λ b. roomed press b slice))
 
 -- what the call answers, and the slice as it leaves it, are those of an outcome
 pub record Answers (o : Outcome) (r : CardAnswer) (slice : List ℕ) : Type 0 where

@@ -2,6 +2,7 @@
 use crate::card::write_card;
 use books::answer;
 use books::answer::Answer;
+use books::press::PRESSES;
 use books::press::greatest;
 use pieces::asking;
 use pieces::masks::ALL_MASKS;
@@ -13,10 +14,16 @@ pub struct CardAnswer {
     pub sizes: usize,
 }
 
-// Writes the size card of a book's family: bit c - 1 of number r - 1 is set exactly when the family has a sheet of r rows and c columns.
-pub fn size_card(book: &[u8], card: &mut [u32]) -> CardAnswer
-    ensures { λ r. ⌜ Answers (sizeCard 0 (now (book .entry)) (now (card .entry))) r (now (card .exit)) ⌝ }
+// Writes the size card of a book's family on a press: bit c - 1 of number r - 1 is set exactly when the family has a sheet of r rows and c columns.
+pub fn size_card(press: usize, book: &[u8], card: &mut [u32]) -> CardAnswer
+    ensures { λ r. ⌜ Answers (sizeCard press (now (book .entry)) (now (card .entry))) r (now (card .exit)) ⌝ }
 {
+    if press >= PRESSES {
+        return CardAnswer {
+            answer: answer::unblamed(21),
+            sizes: 0,
+        };
+    }
     let mut masks = [0u32; ALL_MASKS];
     let split = asking::split_book(book, &mut masks);
     if split.fault.number != 0 {
@@ -25,7 +32,7 @@ pub fn size_card(book: &[u8], card: &mut [u32]) -> CardAnswer
             sizes: 0,
         };
     }
-    let most = greatest(0);
+    let most = greatest(press);
     if card.len() < most {
         return CardAnswer {
             answer: answer::unblamed(13),
@@ -41,9 +48,9 @@ pub fn size_card(book: &[u8], card: &mut [u32]) -> CardAnswer
 
 // The same for the C host.
 #[no_mangle]
-pub extern "C" fn dv_size_card(book: &[u8], card: &mut [u32]) -> u64
-    ensures { λ r. ⌜ Leaves (sizeCard 0 (now (book .entry)) (now (card .entry))) r (now (card .exit)) ⌝ }
+pub extern "C" fn dv_size_card(press: usize, book: &[u8], card: &mut [u32]) -> u64
+    ensures { λ r. ⌜ Leaves (sizeCard press (now (book .entry)) (now (card .entry))) r (now (card .exit)) ⌝ }
 {
-    let r = size_card(book, card);
+    let r = size_card(press, book, card);
     answer::pack(r.answer, r.sizes)
 }

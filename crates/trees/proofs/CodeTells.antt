@@ -1,4 +1,4 @@
--- Of any book and sheet the code answers what the definition does: it judges the whole sheet as the picture, and nodes beyond as many as a tree can have, and one, change nothing.
+-- Of any book and sheet of a press the code answers what the definition does: it judges the whole sheet as the picture, and nodes beyond as many as a tree can have, and one, change nothing.
 use Prim.Native.Nat.{ℕ, _+_, _*_, _≤_, _<_, min}
 use mathlib.Core.Path.{_≡_, refl, sym, ap, _∙_}
 use mathlib.Core.List.{List, [], _∷_}
@@ -16,14 +16,15 @@ use Rattle.books.specs.Answer.{blaming}
 use Rattle.books.specs.Book.{bookOf}
 use Rattle.books.specs.Contents.{Contents}
 use Rattle.books.specs.Decide.{pictures}
-use Rattle.books.specs.Lent.{contentsOf, pictureOf, Accepted, lentSheet}
+use Rattle.books.specs.Lent.{contentsOf, pictureOf, Accepted}
 use Rattle.books.specs.Numbering.{numbersOf}
 use Rattle.books.specs.Picture.{Picture}
+use Rattle.books.specs.Press.{IsPress}
 use Rattle.books.specs.Sheet.{sheetOf}
 use Rattle.books.specs.declared.family.Family.{Family}
 use Rattle.books.specs.declared.sheet.Sheet.{Sheet}
 use Rattle.books.proofs.Deciding.{pictures-lessen}
-use Rattle.books.proofs.LentEnds.{book-refused-first, sheet-refused-second}
+use Rattle.books.proofs.LentEnds.{book-refused-next, sheet-refused-last}
 use Rattle.books.proofs.NumberedCells.{numbers-for}
 use Rattle.books.proofs.ReadingBooks.{book-places}
 use Rattle.books.proofs.ReadingSheets.{sheet-lies}
@@ -104,11 +105,11 @@ module _ (press : ℕ) (book sheet : List ℕ) (bytes-book : Bytes book) (bytes-
       (answered press book sheet ns fine (ends b p ns) ∙ ap (λ (x : Fault). blaming 0 x) apart ∙ sym (answered press book sheet (take cells ns) fine (ends b p (take cells ns)))))
       (lt-or-le (length ns) cells)
 
--- The code looks at no more than that of a lent row, and answers by it.
+-- The code looks at no more than that of a lent row, and answers by it, where there is such a press.
 module _ (press : ℕ) (book sheet : List ℕ) (bytes-book : Bytes book) (bytes-sheet : Bytes sheet) where
-  tells : (ns : List Node) → heldAnswer (heldTo press book sheet) (take (lookedAt (length ns) (heldTo press book sheet)) ns) ≡ treeAnswer press book sheet ns
+  tells : IsPress press → (ns : List Node) → heldAnswer (heldTo press book sheet) (take (lookedAt (length ns) (heldTo press book sheet)) ns) ≡ treeAnswer press book sheet ns
   unfolding treeAnswer heldTo
-  tells ns = by-book (ℕ-discrete (bookOf book .fault .number) 0)
+  tells is ns = by-book (ℕ-discrete (bookOf book .fault .number) 0)
     where
       some : List Node
       some = take (lookedAt (length ns) (heldTo press book sheet)) ns
@@ -119,13 +120,13 @@ module _ (press : ℕ) (book sheet : List ℕ) (bytes-book : Bytes book) (bytes-
           sym (far press book sheet bytes-book bytes-sheet fine ns ∙ told press book sheet bytes-book bytes-sheet fine some)
       by-sheet z (no n) =
           sheet-second (heldTo press book sheet) some z n
-          ∙ sym (sheet-refused-second book (λ a. a) press sheet (λ b p. blaming 0 (checked b p ns)) z n)
+          ∙ sym (sheet-refused-last press (λ a. a) book sheet (λ b p. blaming 0 (checked b p ns)) is z n)
 
       by-book : Dec (bookOf book .fault .number ≡ 0) → heldAnswer (heldTo press book sheet) some ≡ treeAnswer press book sheet ns
       by-book (yes z) = by-sheet z (ℕ-discrete (sheetOf press sheet .fault .number) 0)
       by-book (no n) =
           book-first (heldTo press book sheet) some n
-          ∙ sym (book-refused-first book (λ a. a) 1 (λ b. lentSheet press 2 sheet (λ a. a) (λ p. blaming 0 (checked b p ns))) n)
+          ∙ sym (book-refused-next press (λ a. a) book sheet (λ b p. blaming 0 (checked b p ns)) is n)
 
   pub holds : {o : Held} → o ≡ heldTo press book sheet → Holds press book sheet o
   holds e = rw e (record { small = held-size press book sheet; fine = held-fine press book sheet; tells = tells })

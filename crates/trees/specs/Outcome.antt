@@ -1,4 +1,5 @@
--- What the call answers about a row of nodes, for a sheet of a press: the book's fault, then the sheet's, then 16, which blames no input.
+-- What the call answers about a row of nodes, for a sheet of a press: 21 where there is no such press, before all else; the book's fault, then the sheet's,
+-- then 16, which blames no input.
 use Prim.Native.Nat.{ℕ}
 use mathlib.Core.List.{List}
 use Rattle.books.specs.Answer.{blaming}

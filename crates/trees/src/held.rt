@@ -22,15 +22,15 @@ pub(crate) struct Held {
     pub(crate) cells: [u8; ROOM],
 }
 
-// Reads both.
-pub(crate) fn hold(book: &[u8], sheet: &[u8]) -> Held
-    ensures { λ r. ⌜ Holds 0 (now (book .entry)) (now (sheet .entry)) r ⌝ }
+// Reads both, the sheet as one of a press.
+pub(crate) fn hold(press: usize, book: &[u8], sheet: &[u8]) -> Held
+    ensures { λ r. ⌜ Holds press (now (book .entry)) (now (sheet .entry)) r ⌝ }
 {
     let b = read_book(book);
     let f = b.family;
     let c = f.colours;
     let mut cells = [0u8; ROOM];
-    let s = number_sheet(0, book, c.count, &c.starts, &c.lens, sheet, &mut cells);
+    let s = number_sheet(press, book, c.count, &c.starts, &c.lens, sheet, &mut cells);
     let in_book = b.fault;
     let in_sheet = s.fault;
     let rules = f.rules;

@@ -13,12 +13,13 @@ uint64_t compare_read_book(const struct bytes *book)
 
 static uint64_t ask_read_sheet(const struct engine *engine, const struct loan *loan)
 {
-    return engine->read_sheet(loan->in[0], loan->in_len[0]);
+    return engine->read_sheet(loan->press, loan->in[0], loan->in_len[0]);
 }
 
-uint64_t compare_read_sheet(const struct bytes *sheet)
+uint64_t compare_read_sheet(size_t press, const struct bytes *sheet)
 {
-    return answered_by_both((struct call){.name = "dv_read_sheet", .ask = ask_read_sheet, .input = {all_of(sheet)}});
+    return answered_by_both(
+        (struct call){.name = "dv_read_sheet", .ask = ask_read_sheet, .press = press, .input = {all_of(sheet)}});
 }
 
 static uint64_t ask_colour(const struct engine *engine, const struct loan *loan)
@@ -45,10 +46,11 @@ uint64_t compare_rule(const struct bytes *book, size_t number)
 
 static uint64_t ask_sheet_size(const struct engine *engine, const struct loan *loan)
 {
-    return engine->sheet_size(loan->in[0], loan->in_len[0]);
+    return engine->sheet_size(loan->press, loan->in[0], loan->in_len[0]);
 }
 
-uint64_t compare_sheet_size(const struct bytes *sheet)
+uint64_t compare_sheet_size(size_t press, const struct bytes *sheet)
 {
-    return shown_by_both((struct call){.name = "dv_sheet_size", .ask = ask_sheet_size, .input = {all_of(sheet)}});
+    return shown_by_both(
+        (struct call){.name = "dv_sheet_size", .ask = ask_sheet_size, .press = press, .input = {all_of(sheet)}});
 }

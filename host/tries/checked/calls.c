@@ -1,41 +1,44 @@
 #include "calls.h"
 
 struct slice slice[SLICES];
+size_t press;
 
 static uint64_t read_book(void) { return dv_read_book(slice[0].at, slice[0].length); }
-static uint64_t read_sheet(void) { return dv_read_sheet(slice[0].at, slice[0].length); }
+static uint64_t read_sheet(void) { return dv_read_sheet(press, slice[0].at, slice[0].length); }
 static uint64_t colour(void) { return dv_colour(slice[0].at, slice[0].length, 1); }
 static uint64_t rule(void) { return dv_rule(slice[0].at, slice[0].length, 1); }
-static uint64_t sheet_size(void) { return dv_sheet_size(slice[0].at, slice[0].length); }
+static uint64_t sheet_size(void) { return dv_sheet_size(press, slice[0].at, slice[0].length); }
 static uint64_t derive(void)
 {
-    return dv_derive(slice[0].at, slice[0].length, slice[1].at, slice[1].length, (uint32_t *)(void *)slice[2].at,
-                     slice[2].length, (uint16_t *)(void *)slice[3].at, slice[3].length);
+    return dv_derive(press, slice[0].at, slice[0].length, slice[1].at, slice[1].length,
+                     (uint32_t *)(void *)slice[2].at, slice[2].length, (uint16_t *)(void *)slice[3].at,
+                     slice[3].length);
 }
 static uint64_t check_tree(void)
 {
-    return dv_check_tree(slice[0].at, slice[0].length, slice[1].at, slice[1].length,
+    return dv_check_tree(press, slice[0].at, slice[0].length, slice[1].at, slice[1].length,
                          (struct dv_node *)(void *)slice[2].at, slice[2].length / 2);
 }
-static uint64_t plain(void) { return dv_plain(slice[0].at, slice[0].length, slice[1].at, slice[1].length); }
+static uint64_t plain(void) { return dv_plain(press, slice[0].at, slice[0].length, slice[1].at, slice[1].length); }
 static uint64_t size_card(void)
 {
-    return dv_size_card(slice[0].at, slice[0].length, (uint32_t *)(void *)slice[1].at, slice[1].length);
+    return dv_size_card(press, slice[0].at, slice[0].length, (uint32_t *)(void *)slice[1].at, slice[1].length);
 }
 static uint64_t why_not(void)
 {
-    return dv_why_not(slice[0].at, slice[0].length, slice[1].at, slice[1].length, (uint32_t *)(void *)slice[2].at,
-                      slice[2].length);
+    return dv_why_not(press, slice[0].at, slice[0].length, slice[1].at, slice[1].length,
+                      (uint32_t *)(void *)slice[2].at, slice[2].length);
 }
 static uint64_t recolour(void)
 {
-    return dv_recolour(slice[0].at, slice[0].length, slice[1].at, slice[1].length, (uint32_t *)(void *)slice[2].at,
-                       slice[2].length, 0, 0, 0);
+    return dv_recolour(press, slice[0].at, slice[0].length, slice[1].at, slice[1].length,
+                       (uint32_t *)(void *)slice[2].at, slice[2].length, 0, 0, 0);
 }
 static uint64_t run_report(void)
 {
-    return dv_run_report(slice[0].at, slice[0].length, slice[1].at, slice[1].length, (uint32_t *)(void *)slice[2].at,
-                         slice[2].length, (uint32_t *)(void *)slice[3].at, slice[3].length);
+    return dv_run_report(press, slice[0].at, slice[0].length, slice[1].at, slice[1].length,
+                         (uint32_t *)(void *)slice[2].at, slice[2].length, (uint32_t *)(void *)slice[3].at,
+                         slice[3].length);
 }
 #define OF_TWO(name)                                                                                                   \
     static uint64_t name(void)                                                                                         \
@@ -57,26 +60,26 @@ OF_ONE(tidy)
 enum { ENDS_EARLY = DV_ENDS_EARLY | 1 << 8 };
 
 const struct call calls[] = {
-    {"dv_read_book", read_book, {BOOK}, {0}, ENDS_EARLY},
-    {"dv_read_sheet", read_sheet, {SHEET}, {0}, ENDS_EARLY},
-    {"dv_colour", colour, {BOOK}, {0}, 0},
-    {"dv_rule", rule, {BOOK}, {0}, 0},
-    {"dv_sheet_size", sheet_size, {SHEET}, {0}, 0},
-    {"dv_derive", derive, {BOOK, SHEET}, {sizeof(uint32_t), sizeof(uint16_t)}, ENDS_EARLY},
-    {"dv_check_tree", check_tree, {BOOK, SHEET, NODES}, {0}, ENDS_EARLY},
-    {"dv_plain", plain, {BOOK, SHEET}, {0}, ENDS_EARLY},
-    {"dv_size_card", size_card, {BOOK}, {sizeof(uint32_t)}, ENDS_EARLY},
-    {"dv_why_not", why_not, {BOOK, SHEET}, {sizeof(uint32_t)}, ENDS_EARLY},
-    {"dv_recolour", recolour, {BOOK}, {1, sizeof(uint32_t)}, ENDS_EARLY},
-    {"dv_run_report", run_report, {BOOK, RUN}, {sizeof(uint32_t), sizeof(uint32_t)}, DV_OUT_SHORT},
-    {"dv_either_of", either_of, {BOOK, BOOK}, {1}, ENDS_EARLY},
-    {"dv_beside", beside, {BOOK, BOOK}, {1}, ENDS_EARLY},
-    {"dv_above", above, {BOOK, BOOK}, {1}, ENDS_EARLY},
-    {"dv_run", run, {BOOK}, {1}, ENDS_EARLY},
-    {"dv_stack", stack, {BOOK}, {1}, ENDS_EARLY},
-    {"dv_mirrored", mirrored, {BOOK}, {1}, ENDS_EARLY},
-    {"dv_flipped", flipped, {BOOK}, {1}, ENDS_EARLY},
-    {"dv_transposed", transposed, {BOOK}, {1}, ENDS_EARLY},
-    {"dv_tidy", tidy, {BOOK}, {1}, ENDS_EARLY},
+    {"dv_read_book", read_book, NO_PRESS, {BOOK}, {0}, ENDS_EARLY},
+    {"dv_read_sheet", read_sheet, PRESS, {SHEET}, {0}, ENDS_EARLY},
+    {"dv_colour", colour, NO_PRESS, {BOOK}, {0}, 0},
+    {"dv_rule", rule, NO_PRESS, {BOOK}, {0}, 0},
+    {"dv_sheet_size", sheet_size, PRESS, {SHEET}, {0}, 0},
+    {"dv_derive", derive, PRESS, {BOOK, SHEET}, {sizeof(uint32_t), sizeof(uint16_t)}, ENDS_EARLY},
+    {"dv_check_tree", check_tree, PRESS, {BOOK, SHEET, NODES}, {0}, ENDS_EARLY},
+    {"dv_plain", plain, PRESS, {BOOK, SHEET}, {0}, ENDS_EARLY},
+    {"dv_size_card", size_card, PRESS, {BOOK}, {sizeof(uint32_t)}, ENDS_EARLY},
+    {"dv_why_not", why_not, PRESS, {BOOK, SHEET}, {sizeof(uint32_t)}, ENDS_EARLY},
+    {"dv_recolour", recolour, PRESS, {BOOK}, {1, sizeof(uint32_t)}, ENDS_EARLY},
+    {"dv_run_report", run_report, PRESS, {BOOK, RUN}, {sizeof(uint32_t), sizeof(uint32_t)}, DV_OUT_SHORT},
+    {"dv_either_of", either_of, NO_PRESS, {BOOK, BOOK}, {1}, ENDS_EARLY},
+    {"dv_beside", beside, NO_PRESS, {BOOK, BOOK}, {1}, ENDS_EARLY},
+    {"dv_above", above, NO_PRESS, {BOOK, BOOK}, {1}, ENDS_EARLY},
+    {"dv_run", run, NO_PRESS, {BOOK}, {1}, ENDS_EARLY},
+    {"dv_stack", stack, NO_PRESS, {BOOK}, {1}, ENDS_EARLY},
+    {"dv_mirrored", mirrored, NO_PRESS, {BOOK}, {1}, ENDS_EARLY},
+    {"dv_flipped", flipped, NO_PRESS, {BOOK}, {1}, ENDS_EARLY},
+    {"dv_transposed", transposed, NO_PRESS, {BOOK}, {1}, ENDS_EARLY},
+    {"dv_tidy", tidy, NO_PRESS, {BOOK}, {1}, ENDS_EARLY},
 };
 const size_t calls_count = sizeof calls / sizeof *calls;

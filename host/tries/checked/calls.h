@@ -16,10 +16,16 @@ struct slice {
 };
 extern struct slice slice[SLICES];
 
-// What a call reads, the bytes of an entry of each slice that it may write, and what it answers where all are empty.
+// The press that a call is told, where it takes one.
+extern size_t press;
+enum takes { NO_PRESS, PRESS };
+
+// Whether a call takes a press, what it reads, the bytes of an entry of each slice that it may write, and what it
+// answers where all are empty.
 struct call {
     const char *name;
     uint64_t (*make)(void);
+    enum takes takes;
     enum input read[READ];
     size_t written[WRITTEN];
     uint64_t of_nothing;

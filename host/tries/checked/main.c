@@ -1,5 +1,6 @@
 // What the header asks of a caller. Under DV_CHECKED each misuse of each call, made in a child process, aborts it, and
-// right use passes; an empty slice may be null; and a call whose output is one of its inputs does what the header says.
+// right use passes; an empty slice may be null; a press that there is not is answered before all else, and no slice is
+// touched; and a call whose output is one of its inputs does what the header says.
 #define _DEFAULT_SOURCE // fork
 #include <fcntl.h>
 #include <signal.h>
@@ -13,7 +14,7 @@
 #include "calls.h"
 
 // The bytes of a slice that is written, enough for each call to do its work.
-enum { ROOM = DV_MOST_WORK * 4 };
+enum { ROOM = DV_WIDE_MOST_WORK * 4 };
 
 #define SLATES 2, 7, 'S', 'l', 'a', 't', 'e', ' ', 'C', 7, 'S', 'l', 'a', 't', 'e', ' ', 'U'
 static const uint8_t house[] = {SLATES, 3, 0, 4, 0, 1, 0, 0, 0, 2, 1, 2, 1, 0, 0, 2, 0, 1};
@@ -54,10 +55,11 @@ static void wrong(const struct call *call, const char *what, int i)
     exit(1);
 }
 
+static uint32_t room[SLICES * ROOM / 4];
+
 // Right slices for a call, one after the other with no byte between.
 static void lend(const struct call *call)
 {
-    static uint32_t room[SLICES * ROOM];
     int read = read_by(call);
     uint8_t *at = (uint8_t *)room + ROOM;
     // What is read goes from here on down, so that what is written after it is aligned.
@@ -166,6 +168,37 @@ static void try_overlap(const struct call *call)
             }
 }
 
+static void expect_no_press(const struct call *call, const char *what, int i)
+{
+    static uint32_t before[SLICES * ROOM / 4];
+    memcpy(before, room, sizeof room);
+    // A look-up has no answer number: it shows 0, as it does where there is nothing to read.
+    if (call->make() != (call->of_nothing == 0 ? 0 : DV_NO_SUCH_PRESS))
+        wrong(call, what, i);
+    if (memcmp(before, room, sizeof room) != 0)
+        wrong(call, "a press that there is not has something written", i);
+}
+
+// No press has these numbers, of which the low bits of some are those of a press. Whatever else is wrong, that is told.
+static void try_no_press(const struct call *call)
+{
+    static const size_t none[] = {DV_WIDE_PRESS + 1, 1 << 8, 1 << 16, SIZE_MAX / 2 + 1, SIZE_MAX};
+    memset(room, 0xa5, sizeof room);
+    for (size_t n = 0; n < sizeof none / sizeof *none; n++) {
+        press = none[n];
+        lend(call);
+        expect_no_press(call, "a press that there is not is taken", 0);
+        for (int i = 0; i < slices_of(call); i++) {
+            lend(call);
+            slice[i].length = 0;
+            expect_no_press(call, "a press that there is not is told after what is wrong in a slice", i);
+        }
+        for (int i = 0; i < slices_of(call); i++)
+            slice[i] = (struct slice){NULL, 0, 1};
+        expect_no_press(call, "a press that there is not is told after what is wrong in all slices", 0);
+    }
+}
+
 // The sentence of the header on overlap, by the call itself.
 #undef dv_beside
 static void show_overlap(void)
@@ -185,15 +218,20 @@ static void show_overlap(void)
 int main(void)
 {
     for (size_t i = 0; i < calls_count; i++) {
-        lend(&calls[i]);
-        if (aborts(&calls[i]))
-            wrong(&calls[i], "right use does not pass", 0);
-        try_null(&calls[i]);
-        try_alignment(&calls[i]);
-        try_length(&calls[i]);
-        try_overlap(&calls[i]);
+        for (press = DV_PRESS; press <= (calls[i].takes == PRESS ? DV_WIDE_PRESS : DV_PRESS); press++) {
+            lend(&calls[i]);
+            if (aborts(&calls[i]))
+                wrong(&calls[i], "right use does not pass", 0);
+            try_null(&calls[i]);
+            try_alignment(&calls[i]);
+            try_length(&calls[i]);
+            try_overlap(&calls[i]);
+        }
+        if (calls[i].takes == PRESS)
+            try_no_press(&calls[i]);
     }
     show_overlap();
-    printf("checked: %u misuses noticed, right use passes, an empty slice may be null\n", misuses);
+    printf("checked: %u misuses noticed, right use passes, an empty slice may be null, no press has another number\n",
+           misuses);
     return 0;
 }

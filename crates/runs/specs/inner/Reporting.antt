@@ -7,6 +7,8 @@ use lib.ListN.{length, drop}
 use Rattle.names.specs.Pick.{pick}
 use Rattle.names.specs.declared.number.Fault.{Fault}
 use Rattle.books.specs.Answer.{blaming}
+use Rattle.books.specs.Lent.{onPress}
+use Rattle.books.specs.Press.{IsPress}
 use Rattle.books.specs.declared.answer.Answer.{Answer}
 use Rattle.pieces.specs.Asking.{SplitFrom}
 use Rattle.pieces.specs.declared.asking.Split.{Split}
@@ -15,18 +17,20 @@ use Rattle.runs.specs.Figures.{workRoom, figuresOf, noFigures, figuresLo
 use Rattle.runs.specs.Outcome.{Told, refusedRun}
 use Rattle.runs.specs.inner.Adding.{mostAdded, Spare}
 
--- what is refused of a book that was read with a fault or with none, of a run and of so many entries, where there must be room for so many
+-- what is refused of a press, of a book that was read with a fault or with none, of a run and of so many entries
 abbrev pub refusing : ℕ → Fault → List ℕ → ℕ → Answer
-refusing room f run entries = pick (eqb (f .number) 0) (refusedRun room run entries) (blaming 1 f)
+refusing press f run entries = onPress press (λ a. a) (pick (eqb (f .number) 0) (refusedRun (workRoom press) run entries) (blaming 1 f))
 
--- a book that was split, a work slice with room for the greatest sheet, and figures with room for a sheet more
+-- a press that there is, a book that was split, a work slice with room for the greatest sheet, and figures with room for a sheet more
 pub record AddingDue (press : ℕ) (book : List ℕ) (split : Split) (masks work figures : List ℕ) : Type 0 where
+  pub on-press : IsPress press
   pub from-book : SplitFrom book split masks
   pub work-long : workRoom press ≤ length work
   pub spare : Spare mostAdded figures
 
 -- the same with a run whose framing has no fault, and figures of no sheets
 pub record RunDue (press : ℕ) (book : List ℕ) (split : Split) (masks run work figures : List ℕ) : Type 0 where
+  pub on-press : IsPress press
   pub from-book : SplitFrom book split masks
   pub run-fine : framing run .number ≡ 0
   pub work-long : workRoom press ≤ length work

@@ -9,6 +9,7 @@ use Rattle.books.specs.Answer.{answer, plain, blaming}
 use Rattle.books.specs.Book.{bookOf}
 use Rattle.books.specs.Keeps.{mostRules}
 use Rattle.books.specs.Numbering.{numbersFor}
+use Rattle.books.specs.Press.{IsPress}
 use Rattle.books.specs.Sheet.{sheetOf}
 use Rattle.books.specs.Size.{room, Within}
 use Rattle.books.specs.declared.answer.Answer.{Answer}
@@ -60,8 +61,8 @@ heldAnswer o ns =
 abbrev pub lookedAt : ℕ → Held → ℕ
 lookedAt lent o = min lent (2 * (o .size .rows * o .size .cols))
 
--- what was read of a book and a sheet answers for any row, by the nodes of it that are looked at
+-- what was read of a book and a sheet answers for any row, by the nodes of it that are looked at, where there is such a press
 pub record Holds (press : ℕ) (book sheet : List ℕ) (o : Held) : Type 0 where
   pub small : (o .size .rows ≤ most) × (o .size .cols ≤ most)
   pub fine : o .sheet .number ≡ 0 → HeldFine o
-  pub tells : (ns : List Node) → heldAnswer o (take (lookedAt (length ns) o) ns) ≡ treeAnswer press book sheet ns
+  pub tells : IsPress press → (ns : List Node) → heldAnswer o (take (lookedAt (length ns) o) ns) ≡ treeAnswer press book sheet ns

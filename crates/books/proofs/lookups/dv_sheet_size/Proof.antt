@@ -9,14 +9,14 @@ use borrow.Author.Needs.{needs}
 use Rattle.books.proofs.lookups.dv_sheet_size.Statement.{statement}
 use Rattle.books.proofs.lookups.dv_sheet_size.Tie as tie
 
-few : (c : tie.After-sheet-size) → (c .sheet-size .result .rows ≤ greatestOf 0) × (c .sheet-size .result .cols ≤ greatestOf 0)
-few c = rw (c .sheet-size .ensures) (size-few 0 (now (c .before .before .args .sheet)))
+few : (c : tie.After-sheet-size) → let most = greatestOf (c .before .before .args .press) in (c .sheet-size .result .rows ≤ most) × (c .sheet-size .result .cols ≤ most)
+few c = let a = c .before .before .args in rw (c .sheet-size .ensures) (size-few (a .press) (now (a .sheet)))
 
 mul-result : tie.Need-mul-result
-mul-result c = omega (arith, few c, greatest-few 0)
+mul-result c = omega (arith, few c, greatest-few (c .before .before .args .press))
 
 add-result : tie.Need-add-result
-add-result c = omega (arith, few c, greatest-few 0)
+add-result c = omega (arith, few c, greatest-few (c .before .before .args .press))
 
 returns : tie.Need-returns
 returns c = rw (c .sheet-size .ensures)

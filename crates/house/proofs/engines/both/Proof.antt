@@ -8,11 +8,11 @@ use Rattle.house.proofs.engines.both.Statement.{statement}
 use Rattle.house.proofs.engines.both.Tie as tie
 
 abbrev Inv-loop : tie.InvT-loop
-Inv-loop book start work₀ cells sheet₀ accepted₀ same₀ sheets bits₀ work sheet accepted same bits =
+Inv-loop press book start work₀ cells sheet₀ accepted₀ same₀ sheets bits₀ work sheet accepted same bits =
     (accepted ≤ bits) × (same ≤ bits) × (bits ≤ sheets) × (sheets ≤ 65536) × (length sheet ≡ 64) × (length work ≡ length work₀)
 
 abbrev μ-loop : tie.MeasureT-loop
-μ-loop book start work₀ cells sheet₀ accepted₀ same₀ sheets bits₀ work sheet accepted same bits = sheets - bits
+μ-loop press book start work₀ cells sheet₀ accepted₀ same₀ sheets bits₀ work sheet accepted same bits = sheets - bits
 
 loop-holds : tie.Need-loop-holds Inv-loop μ-loop
 loop-holds c = (omega arith, omega arith, omega arith, omega arith, omega arith, omega arith)

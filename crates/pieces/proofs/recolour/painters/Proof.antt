@@ -26,10 +26,10 @@ few : (n : tie.After-number-sheet) → getD (cells n) (began n .args .at) 0 ≤ 
 few n =
     let s = began n in
     subst (λ (l : List ℕ). getD l (s .args .at) 0 ≤ mostColours) (sym (n .number-sheet .ensures .cells))
-    (numbers-few 0 (now (s .args .book)) (s .args .split .colours) (now (s .args .sheet)) (replicate room 0) (s .args .at) (s .pre .cell))
+    (numbers-few (s .args .press) (now (s .args .book)) (s .args .split .colours) (now (s .args .sheet)) (replicate room 0) (s .args .at) (s .pre .cell))
 
 array-read-result : tie.Need-array-read-result
-array-read-result c = let s = began c in omega (arith, s .pre .cell, sheet-lies 0 (now (s .args .sheet)) (s .pre .accepted) .area-few)
+array-read-result c = let s = began c in omega (arith, s .pre .cell, sheet-lies (s .args .press) (now (s .args .sheet)) (s .pre .accepted) .area-few)
 
 cast-result : tie.Need-cast-result
 cast-result c = omega (arith, few c)
@@ -49,7 +49,7 @@ returns c =
     let n = c .before in
     let a = began n .args in
     ap (λ (l : List ℕ). getD (now (a .masks)) (paintersFrom + getD l (a .at) 0) 0)
-    (numbers-fresh 0 (now (a .book)) (a .split .colours) (now (a .sheet)) (n .number-sheet .ensures))
+    (numbers-fresh (a .press) (now (a .book)) (a .split .colours) (now (a .sheet)) (n .number-sheet .ensures))
 
 pub painters-spec : {M : Type 1} → statement M
 painters-spec =

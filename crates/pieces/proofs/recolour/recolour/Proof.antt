@@ -1,13 +1,15 @@
--- A book or a sheet with a fault is answered with it, what the sheet or the slice lacks with that, and else what the masks make anew is the outcome.
+-- 21 is answered where there is no such press, a book or a sheet with a fault is answered with it, what the sheet or the slice lacks with that, and else what the masks make anew is the outcome.
 use mathlib.Core.Path.{_≡_, refl, sym, ap, _∙_}
 use native.Mathlib.Nat.{le-trans, le-of-eq}
+use native.Mathlib.Omega.{arith}
 use denote.Ref.{now}
 use Rattle.names.specs.Bytes.{Bytes}
 use Rattle.names.specs.declared.number.Fault.{Fault}
 use Rattle.books.specs.Answer.{plain, blaming}
 use Rattle.books.specs.Book.{bookOf}
+use Rattle.books.specs.Press.{IsPress}
 use Rattle.pieces.proofs.AskingSheets.{kept-fault}
-use Rattle.pieces.proofs.Recolouring.{book-first, read-blamed, read-lacks, read-within}
+use Rattle.pieces.proofs.Recolouring.{press-first, book-second, read-blamed, read-lacks, read-within}
 use Rattle.pieces.proofs.Recasting.{Known, cell-due, table-due, row-on, column-on, painters-due, recast-as}
 use borrow.Author.Needs.{needs}
 use Rattle.pieces.proofs.recolour.recolour.Statement.{statement}
@@ -15,7 +17,7 @@ use Rattle.pieces.proofs.recolour.recolour.Tie as tie
 
 -- Back from a call to the one before it: the book split, the sheet read, both held to what is asked, the cell put, its painters found, the entries made anew.
 abbrev began : tie.After-split-book → tie.Start
-began k = k .before .before .before .before .before
+began k = k .before .before .before .before .before .before
 
 abbrev book-kept : tie.After-sheet-figures → tie.After-split-book
 book-kept f = f .before .before .before .before .before
@@ -33,51 +35,63 @@ abbrev painted : tie.After-refill → tie.After-painters
 painted w = w .before .before .before
 
 book-bytes : (k : tie.After-split-book) → Bytes (now (began k .args .book))
-book-bytes k i = k .before .before .before .before .shared-slice-known .given i .fits
+book-bytes k i = k .before .before .before .before .before .shared-slice-known .given i .fits
 
 sheet-bytes : (k : tie.After-split-book) → Bytes (now (began k .args .sheet))
-sheet-bytes k i = k .before .before .before .slice-known .given i .fits
+sheet-bytes k i = k .before .before .before .before .slice-known .given i .fits
 
--- What was read, with no fault.
+-- There is such a press, ...
+on-press : (k : tie.After-split-book) → IsPress (began k .args .press)
+on-press k = omega (arith, k .before .before .if1 .left)
+
+-- ... and what was read has no fault.
 book-fine : (f : tie.After-sheet-figures) → bookOf (now (began (book-kept f) .args .book)) .fault .number ≡ 0
 book-fine f =
     let k = book-kept f in
-    ap (λ (x : Fault). x .number) (sym (kept-fault (now (began k .args .book)) _ (k .split-book .ensures))) ∙ f .before .before .if1 .left
+    ap (λ (x : Fault). x .number) (sym (kept-fault (now (began k .args .book)) _ (k .split-book .ensures))) ∙ f .before .before .if2 .left
 
 returns : tie.Need-returns
 returns c =
-    let k = c .before .before .before .before in
-    let a = began k .args in
-    let same = kept-fault (now (a .book)) _ (k .split-book .ensures) in
-    rw (book-first 0 (now (a .book)) (now (a .sheet)) (now (a .work)) (a .row) (a .column) (a .colour) (λ z. c .before .if1 .taken (ap (λ (x : Fault). x .number) same ∙ z)))
-    (record { answers = c .blame .ensures ∙ ap (blaming 1) same; leaves-sheet = refl; leaves-work = refl })
+    let a = c .before .before .before .before .before .args in
+    rw (press-first (a .press) (now (a .book)) (now (a .sheet)) (now (a .work)) (a .row) (a .column) (a .colour) (λ h. omega (arith, c .before .if1 .taken)))
+    (record { answers = c .unblamed .ensures; leaves-sheet = refl; leaves-work = refl })
 
 returns-2 : tie.Need-returns-2
 returns-2 c =
+    let k = c .before .before .before .before in
+    let a = began k .args in
+    let same = kept-fault (now (a .book)) _ (k .split-book .ensures) in
+    rw (book-second (a .press) (now (a .book)) (now (a .sheet)) (now (a .work)) (a .row) (a .column) (a .colour) (on-press k) (λ z. c .before .if2 .taken (ap (λ (x : Fault). x .number) same ∙ z)))
+    (record { answers = c .blame .ensures ∙ ap (blaming 1) same; leaves-sheet = refl; leaves-work = refl })
+
+returns-3 : tie.Need-returns-3
+returns-3 c =
     let f = c .before .before .before in
     let a = began (book-kept f) .args in
-    rw (read-blamed 0 (now (a .book)) (now (a .sheet)) (now (a .work)) (a .row) (a .column) (a .colour) (f .sheet-figures .ensures) (book-fine f) (c .before .if2 .taken))
+    rw (read-blamed (a .press) (now (a .book)) (now (a .sheet)) (now (a .work)) (a .row) (a .column) (a .colour) (f .sheet-figures .ensures) (book-fine f)
+    (on-press (book-kept f)) (c .before .if3 .taken))
     (record { answers = c .blame2 .ensures; leaves-sheet = refl; leaves-work = refl })
 
 lack-requires : tie.Need-lack-requires
 lack-requires c κs =
     let f = c .before .before in
-    read-within 0 (now (began (book-kept f) .args .sheet)) (f .sheet-figures .ensures) (c .if2 .left)
+    let a = began (book-kept f) .args in
+    read-within (a .press) (now (a .sheet)) (f .sheet-figures .ensures) (c .if3 .left)
 
-returns-3 : tie.Need-returns-3
-returns-3 c =
+returns-4 : tie.Need-returns-4
+returns-4 c =
     let l = c .before .before in
     let f = sheet-read l in
     let a = began (book-kept f) .args in
-    rw (read-lacks 0 (now (a .book)) (now (a .sheet)) (now (a .work)) (a .row) (a .column) (a .colour) (f .sheet-figures .ensures) (book-fine f) (l .before .if2 .left)
-    (λ z. c .before .if3 .taken (l .lack .ensures ∙ z)))
-    (record { answers = c .unblamed .ensures ∙ ap plain (l .lack .ensures); leaves-sheet = refl; leaves-work = refl })
+    rw (read-lacks (a .press) (now (a .book)) (now (a .sheet)) (now (a .work)) (a .row) (a .column) (a .colour) (f .sheet-figures .ensures) (book-fine f) (l .before .if3 .left)
+    (λ z. c .before .if4 .taken (l .lack .ensures ∙ z)))
+    (record { answers = c .unblamed2 .ensures ∙ ap plain (l .lack .ensures); leaves-sheet = refl; leaves-work = refl })
 
 -- Where nothing lacks, what is known for the calls that are left.
 known : (l : tie.After-lack) → l .lack .result ≡ 0 → let f = sheet-read l in
     let k = book-kept f in
     let a = began k .args in
-    Known 0 (now (a .book)) (now (a .sheet)) (now (a .work)) (a .row) (a .column) (a .colour) (k .split-book .result) (k .split-book .last .1 .0) (f .sheet-figures .result)
+    Known (a .press) (now (a .book)) (now (a .sheet)) (now (a .work)) (a .row) (a .column) (a .colour) (k .split-book .result) (k .split-book .last .1 .0) (f .sheet-figures .result)
 known l none =
     let f = sheet-read l in
     let k = book-kept f in
@@ -85,58 +99,60 @@ known l none =
       bytes-book = book-bytes k;
       bytes-sheet = sheet-bytes k;
       kept = k .split-book .ensures;
-      book-ok = f .before .before .if1 .left;
+      book-ok = f .before .before .if2 .left;
       is = f .sheet-figures .ensures;
-      sheet-ok = l .before .if2 .left;
+      sheet-ok = l .before .if3 .left;
       none = sym (l .lack .ensures) ∙ none;
     }
 
 put-cell-requires : tie.Need-put-cell-requires
-put-cell-requires c κs = cell-due (known (c .before .before) (c .before .if3 .left))
+put-cell-requires c κs = cell-due (known (c .before .before) (c .before .if4 .left))
 
 painters-requires : tie.Need-painters-requires
 painters-requires c κs =
     let u = c .before .before .before .before in
-    painters-due (known (tested u) (u .before .before .if3 .left)) (u .put-cell .ensures .1) (u .put-cell .ensures .0)
+    painters-due (known (tested u) (u .before .before .if4 .left)) (u .put-cell .ensures .1) (u .put-cell .ensures .0)
 
 refill-requires : tie.Need-refill-requires
 refill-requires c κs =
     let u = cell-put (c .before .before) in
-    let all = known (tested u) (u .before .before .if3 .left) in
+    let all = known (tested u) (u .before .before .if4 .left) in
     (table-due all, row-on all, column-on all)
 
 whole-sheet-requires : tie.Need-whole-sheet-requires
 whole-sheet-requires c κs =
     let w = c .before .before .before in
     let u = cell-put (painted w) in
-    let due = table-due (known (tested u) (u .before .before .if3 .left)) in
+    let due = table-due (known (tested u) (u .before .before .if4 .left)) in
     record { sizes = due .tabled .sizes; entries = le-trans (due .tabled .entries) (le-of-eq (sym (w .refill .kept .0))) }
 
-returns-4 : tie.Need-returns-4
-returns-4 c =
+returns-5 : tie.Need-returns-5
+returns-5 c =
     let v = c .before in
     let w = v .before .before .before .before in
     let x = painted w in
     let u = cell-put x in
-    recast-as (known (tested u) (u .before .before .if3 .left)) (u .put-cell .ensures .1) (u .put-cell .ensures .0) (x .painters .ensures) (w .refill .ensures)
-    (c .unblamed2 .ensures ∙ ap plain (v .whole-sheet .ensures))
+    recast-as (known (tested u) (u .before .before .if4 .left)) (u .put-cell .ensures .1) (u .put-cell .ensures .0) (x .painters .ensures) (w .refill .ensures)
+    (c .unblamed3 .ensures ∙ ap plain (v .whole-sheet .ensures))
 
 pub recolour-spec : {M : Type 1} → statement M
 recolour-spec =
     tie.close
     (tie.spec
-    (λ c. search needs)
-    (λ c κs. search needs)
     (λ c κs. search needs)
     returns
-    (λ c κs. search needs)
-    (λ c κs. search needs)
     (λ c. search needs)
+    (λ c κs. search needs)
+    (λ c κs. search needs)
     returns-2
-    lack-requires
+    (λ c κs. search needs)
     (λ c κs. search needs)
     (λ c. search needs)
     returns-3
+    lack-requires
+    (λ c κs. search needs)
+    (λ c. search needs)
+    returns-4
     put-cell-requires
     (λ c. search needs)
     painters-requires
@@ -146,4 +162,4 @@ recolour-spec =
     (λ c κs. search needs)
     (λ c. search needs)
     (λ c. search needs)
-    returns-4)
+    returns-5)

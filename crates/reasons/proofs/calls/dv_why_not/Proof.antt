@@ -8,7 +8,7 @@ use Rattle.reasons.proofs.calls.dv_why_not.Statement.{statement}
 use Rattle.reasons.proofs.calls.dv_why_not.Tie as tie
 
 count-requires : tie.Need-count-requires
-count-requires c κs = rw (c .before .before .why-not .ensures .reasons) (why-not-packs 0 _ _ _ .fits)
+count-requires c κs = rw (c .before .before .why-not .ensures .reasons) (why-not-packs _ _ _ _ .fits)
 
 returns : tie.Need-returns
 returns c =

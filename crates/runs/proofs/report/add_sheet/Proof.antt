@@ -25,14 +25,14 @@ add-asked-requires : tie.Need-add-asked-requires
 add-asked-requires c κs =
     let k = c .before .before .before .before .before in
     let s = began k in
-    addable _ _ _ _ (s .pre .from-book .accepted) (s .pre .work-long) (book-bytes k) _ _ _ _ (asks k) _ (s .pre .spare)
+    addable _ (s .pre .on-press) _ _ _ (s .pre .from-book .accepted) (s .pre .work-long) (book-bytes k) _ _ _ _ (asks k) _ (s .pre .spare)
 
 returns : tie.Need-returns
 returns c =
     let a = c .before .before in
     let k = a .before .before .before .before .before .before in
     let s = began k in
-    rw (a .add-asked .ensures) (asked-adds _ _ _ _ (s .pre .from-book .accepted) (s .pre .work-long) (book-bytes k) _ _ _ _ (asks k) _)
+    rw (a .add-asked .ensures) (asked-adds _ (s .pre .on-press) _ _ _ (s .pre .from-book .accepted) (s .pre .work-long) (book-bytes k) _ _ _ _ (asks k) _)
 
 pub add-sheet-spec : {M : Type 1} → statement M
 add-sheet-spec =

@@ -39,7 +39,7 @@ add-sheet-requires c κs =
     let k = c .before .before .before .before in
     let p = began k .pre in
     let inv = turn k .loop .inv in
-    record { from-book = p .from-book; work-long = omega (arith, inv .work-long, p .work-long); spare = has-spare _ _ _ _ _ (p .run-fine) _ _ _ inv }
+    record { on-press = p .on-press; from-book = p .from-book; work-long = omega (arith, inv .work-long, p .work-long); spare = has-spare _ _ _ _ _ (p .run-fine) _ _ _ inv }
 
 loop-less : tie.Need-loop-less Inv-loop μ-loop
 loop-less c =

@@ -40,7 +40,7 @@ ends : (c : tie.In-loop Inv-loop μ-loop) → let s = c .before .before .before 
 ends c =
     let s = c .before .before .before .before in
     let m = s .args .most in
-    (omega (arith, row-fits (c .before .loop .i) m m (c .loop-test .taken), s .pre .entries-all), mul-le-mul (s .pre .few) (s .pre .few))
+    (omega (arith, row-fits (c .before .loop .i) m m (omega (arith, c .loop-test .taken)), s .pre .entries-all), mul-le-mul (s .pre .few) (s .pre .few))
 
 row-requires : tie.Need-row-requires Inv-loop μ-loop
 row-requires c κs = let s = c .before .before .before .before in (ends c .0, s .pre .few, s .pre .start-fits)

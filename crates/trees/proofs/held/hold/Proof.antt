@@ -12,8 +12,8 @@ use Rattle.trees.proofs.held.hold.Tie as tie
 abbrev book-read : tie.After-number-sheet → tie.After-read-book
 book-read n = n .before .before .before .before .before .before .before
 
-cast-t16 : tie.Need-cast-t16
-cast-t16 c =
+cast-t17 : tie.Need-cast-t17
+cast-t17 c =
     let b = book-read (c .before .before .before .before .before) in
     omega (arith, rw (← b .read-book .ensures) at (book-start (now (b .before .before .before .args .book))))
 
@@ -22,8 +22,8 @@ returns c =
     let n = c .before .before .before .before .before in
     let b = book-read n in
     let a = b .before .before .before .args in
-    holds 0 (now (a .book)) (now (a .sheet)) (λ i. b .before .before .shared-slice-known .given i .fits) (λ i. b .before .shared-slice-known2 .given i .fits)
-    (held-made 0 (now (a .book)) (now (a .sheet)) (b .read-book .ensures) (n .number-sheet .ensures))
+    holds (a .press) (now (a .book)) (now (a .sheet)) (λ i. b .before .before .shared-slice-known .given i .fits) (λ i. b .before .shared-slice-known2 .given i .fits)
+    (held-made (a .press) (now (a .book)) (now (a .sheet)) (b .read-book .ensures) (n .number-sheet .ensures))
 
 pub hold-spec : {M : Type 1} → statement M
-hold-spec = tie.close (tie.spec (λ c κs. search needs) (λ c κs. search needs) cast-t16 returns)
+hold-spec = tie.close (tie.spec (λ c κs. search needs) (λ c κs. search needs) cast-t17 returns)
