@@ -2,9 +2,10 @@
 //
 // A book is one family of layouts and a sheet is a grid of colours with its job ticket, both spelt byte by byte as
 // docs/RULES.md says. The library tells whether the family derives the sheet, and why not where it does not, gives the
-// table of pieces and one derivation, judges derivations that others chose, decides small sheets by a second engine for
-// the bench, tells which sizes the family has, reports on a whole run of sheets, looks up names, rules, sizes and
-// tickets, and makes new books of lent ones. Each call is proved to keep what its comment says, on every input.
+// table of pieces, how many trials it takes, and one derivation, judges derivations that others chose, decides small
+// sheets by a second engine for the bench, tells which sizes the family has, reports on a whole run of sheets, looks up
+// names, rules, sizes and tickets, and makes new books of lent ones. Each call is proved to keep what its comment says,
+// on every input.
 //
 // A call that reads a sheet or makes a size card is told first which press it is for, since the presses differ in how
 // many rows and columns they print. A book is of no press.
@@ -43,7 +44,7 @@ extern "C" {
 // The version of rules and calls that this header describes, and the call that tells the archive's. A host compares the
 // two before any other call, so that a header and an archive of two versions are noticed. No call before version 13
 // takes a press: of a host that was compiled for one of those, the first slice would be taken for it.
-#define DV_VERSION 13
+#define DV_VERSION 14
 uint64_t dv_version(void);
 
 // The presses, for the first parameter of a call that has one. Any other number is answered 21, before all else.
@@ -136,6 +137,15 @@ static inline size_t dv_tree_entries(size_t rows, size_t columns)
 // The nodes of a tree of such a sheet; none where there is no cell.
 static inline size_t dv_tree_nodes(size_t rows, size_t columns) { return dv_tree_entries(rows, columns) / 2; }
 
+// The trials that the table of such a sheet takes under a book with so many across and so many down rules. A trial is
+// one piece, one cut and one rule of that direction, and each is made exactly once: so a host can tell the work of
+// dv_derive before the job. None where there is no cell, and none for colour rules.
+static inline size_t dv_trials(size_t across, size_t down, size_t rows, size_t columns)
+{
+    return across * (rows * (rows + 1) / 2) * ((columns - 1) * columns * (columns + 1) / 6) +
+           down * (columns * (columns + 1) / 2) * ((rows - 1) * rows * (rows + 1) / 6);
+}
+
 // The kinds of rules: a cell of one colour; a left and a right part; an upper and a lower part.
 enum dv_kind { DV_KIND_COLOUR = 0, DV_KIND_ACROSS = 1, DV_KIND_DOWN = 2 };
 
@@ -226,8 +236,8 @@ static inline const char *dv_text(unsigned number)
 }
 
 // An answer is number + 2^8 * blamed + 2^12 * place + 2^32 * count; here it is taken apart. The count is the number of
-// bytes that a combination or dv_tidy wrote, or of sizes on a card, or a sheet's ticket, or a reason, 0 on refusal and
-// for every other call.
+// bytes that a combination or dv_tidy wrote, or of sizes on a card, or a sheet's ticket, or a reason, on 0 alone; or of
+// trials of dv_derive, on 0 and 11; with every other answer, and for every other call, it is 0.
 static inline unsigned dv_number(uint64_t answer) { return (unsigned)(answer & 0xff); }
 static inline unsigned dv_blamed(uint64_t answer) { return (unsigned)(answer >> 8 & 0xf); }
 static inline size_t dv_place(uint64_t answer) { return (size_t)(answer >> 12 & 0xfffff); }
@@ -276,7 +286,8 @@ static inline size_t dv_size_rows(uint64_t size) { return (size_t)(size & 0xffff
 static inline size_t dv_size_columns(uint64_t size) { return (size_t)(size >> 32); }
 
 // Decides whether the family derives the sheet of m rows and n columns. Answers, in this order: 21; 1 to 8 or 18
-// blaming 1, the book; 1 to 8 blaming 2, the sheet; 9; 10; 11; 0.
+// blaming 1, the book; 1 to 8 blaming 2, the sheet; 9; 10; 11; 0. With 0 and 11 the count is the number of trials that
+// the table took, dv_trials of the book's across and down rules, m and n.
 //
 // On 0 and 11 the first dv_work_entries(m, n) entries of work hold the table of pieces: by height, then width, then
 // top row, then left column, each rising; bit A is set exactly when motif A derives that piece, other bits are clear.
@@ -306,7 +317,8 @@ uint64_t dv_check_tree(size_t press, const uint8_t *book, size_t book_len, const
 // no slice to work in, it tries every rule that has the motif for its head and every cut, and asks the same of the two
 // parts. It shares no code with dv_derive beyond the reading. Answers, in this order: 21; 1 to 8 or 18 blaming 1, the
 // book; 1 to 8 blaming 2, the sheet; 20 where the sheet has more than DV_MOST_PLAIN_CELLS cells; 11; 0. Where it does
-// not answer 20, its whole answer is that of dv_derive with slices long enough. No slice is written.
+// not answer 20, its whole answer but the count, which is 0, is that of dv_derive with slices long enough. No slice is
+// written.
 //
 // Every call ends, but nothing is kept of what was asked before, and the time grows with the ways in which the sheet
 // comes apart: with many rules under one head 16 cells can take longer than anyone waits. docs/SPEED.md has how it

@@ -22,13 +22,12 @@ static void why_not(const struct engine *timed, const struct task *task)
 // One piece, one cut and one rule of that direction.
 static double trials(const struct family *family, const struct grid *grid)
 {
-    double m = grid->rows, n = grid->columns, across = 0, down = 0;
+    size_t across = 0, down = 0;
     for (unsigned i = 0; i < family->rules; i++) {
         across += family->rule[i].kind == DV_KIND_ACROSS;
         down += family->rule[i].kind == DV_KIND_DOWN;
     }
-    return across * (m * (m + 1) / 2) * ((n - 1) * n * (n + 1) / 6) +
-           down * (n * (n + 1) / 2) * ((m - 1) * m * (m + 1) / 6);
+    return (double)dv_trials(across, down, grid->rows, grid->columns);
 }
 
 static void measure_derivation(const char *name, size_t press, const struct family *family, const struct grid *grid,

@@ -34,6 +34,7 @@ uint64_t compare_read_sheet(size_t press, const struct bytes *sheet);
 uint64_t compare_colour(const struct bytes *book, size_t number);
 uint64_t compare_rule(const struct bytes *book, size_t number);
 uint64_t compare_sheet_size(size_t press, const struct bytes *sheet);
+// The answer without its count, which has the trials: these are the book's.
 uint64_t compare_derive(size_t press, const struct bytes *book, const struct bytes *sheet, size_t work_len,
                         size_t tree_len);
 uint64_t compare_check_tree(size_t press, const struct bytes *book, const struct bytes *sheet,

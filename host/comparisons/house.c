@@ -62,21 +62,29 @@ static bool makes(enum combination combination, const struct bytes *made)
     return answer == (uint64_t)made->length << 32 && memcmp(out, made->at, made->length) == 0;
 }
 
+// An answer that carries so many trials.
+static uint64_t tried(unsigned number, uint64_t trials) { return number | trials << 32; }
+
+// Sheet A takes 12 trials of the across rule and 6 of the down rule, and a sheet of two cells one of its direction's.
 static void expect_sheets(void)
 {
     static uint32_t work[DV_WIDE_MOST_WORK];
     static uint16_t tree[DV_WIDE_MOST_TREE];
     expect(house.length == 34 && judged->read_book(house.at, house.length) == 0, "the house book");
-    expect(derive(&house, &sheet_a, work, tree) == 0 && memcmp(tree, tree_a, sizeof tree_a) == 0, "P1");
+    expect(derive(&house, &sheet_a, work, tree) == tried(0, 18) && memcmp(tree, tree_a, sizeof tree_a) == 0, "P1");
     expect(memcmp(work, table_a, sizeof table_a) == 0, "P2");
     memset(tree, 0xff, sizeof tree);
-    expect(derive(&house, &sheet_a_turned, work, tree) == 0 && memcmp(tree, tree_a, sizeof tree_a) == 0, "P3");
-    expect(derive(&house, &sheet_a_slate, work, tree) == 11, "P4");
+    expect(derive(&house, &sheet_a_turned, work, tree) == tried(0, 18) && memcmp(tree, tree_a, sizeof tree_a) == 0,
+           "P3");
+    expect(derive(&house, &sheet_a_slate, work, tree) == tried(11, 18), "P4");
     expect(derive(&house, &one_cell, work, tree) == 11, "P5");
-    expect(derive(&house, &upright, work, tree) == 0 && memcmp(tree, tree_upright, sizeof tree_upright) == 0, "P6");
-    expect(derive(&house_transposed, &lying, work, tree) == 0 && derive(&house_transposed, &sheet_a, work, tree) == 11,
+    expect(derive(&house, &upright, work, tree) == tried(0, 1) &&
+               memcmp(tree, tree_upright, sizeof tree_upright) == 0,
+           "P6");
+    expect(derive(&house_transposed, &lying, work, tree) == tried(0, 1) &&
+               derive(&house_transposed, &sheet_a, work, tree) == tried(11, 18),
            "P9, the sheets");
-    expect(derive(&house_beside, &upright, work, tree) == 11, "P10, the sheet");
+    expect(derive(&house_beside, &upright, work, tree) == tried(11, 2), "P10, the sheet");
 }
 
 static void expect_books(void)
@@ -125,15 +133,15 @@ static void expect_sides(void)
     struct grid grid;
     stacked.length = judged->of_one[STACK - RUN](house.at, house.length, stacked.at, DV_LONGEST_BOOK) >> 32;
     striped(&grid, 2, columns);
-    expect(derive_grid(&house, &grid) == 0, "the most columns");
+    expect(derive_grid(&house, &grid) == tried(0, dv_trials(1, 1, 2, columns)), "the most columns");
     striped(&grid, 2, columns + 1);
     expect(derive_grid(&house, &grid) == (3 | 2 << 8 | 19 << 12), "one column more");
     striped(&grid, rows + 1, 1);
     expect(derive_grid(&stacked, &grid) == (3 | 2 << 8 | 18 << 12), "one row more");
     striped(&grid, rows, columns);
-    expect(derive_grid(&stacked, &grid) == 0, "the largest sheet");
+    expect(dv_number(derive_grid(&stacked, &grid)) == 0, "the largest sheet");
     grid.cell[rows / 2 * columns + columns / 2] ^= 1;
-    expect(derive_grid(&stacked, &grid) == 11, "the largest sheet with a wrong cell");
+    expect(dv_number(derive_grid(&stacked, &grid)) == 11, "the largest sheet with a wrong cell");
 }
 
 // Whether the size card of a book is this one, with so many sizes.

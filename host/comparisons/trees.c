@@ -97,7 +97,7 @@ static void compare_trees(const struct family *family, const struct grid *grid, 
     static uint16_t numbers[DV_WIDE_MOST_TREE];
     struct dv_node tree[DV_WIDE_MOST_NODES];
     size_t count = dv_tree_nodes(grid->rows, grid->columns);
-    if (derive(work, numbers) != 0)
+    if (dv_number(derive(work, numbers)) != DV_ACCEPTED)
         wrong("a sheet that was grown is not derived");
     nodes_of(numbers, count, tree);
     compare_tree(family, tree, count);
@@ -116,7 +116,7 @@ static void compare_wild(const struct family *family, const struct grid *grid)
     static uint16_t numbers[DV_WIDE_MOST_TREE];
     struct grid spoilt = *grid;
     size_t count = dv_tree_nodes(grid->rows, grid->columns);
-    if (derive(work, numbers) == 0)
+    if (dv_number(derive(work, numbers)) == DV_ACCEPTED)
         nodes_of(numbers, count, nodes);
     spoil_cell(&spoilt);
     spell_sheet(&spoilt, &sheet);

@@ -73,10 +73,10 @@ uint64_t independent_derive(size_t press, const uint8_t *book, size_t book_len, 
     if (tree_len < 2 * (2 * m * n - 1))
         return independent_answer(10, 0, 0);
     independent_split(&rules, &job.order.book);
-    independent_fill(&job.table, &rules, &job.order, work);
+    uint64_t trials = independent_fill(&job.table, &rules, &job.order, work);
     if (!has(&job.table, job.order.book.start, m, n, 0, 0))
-        return independent_answer(11, 0, 0);
+        return independent_answer(11, 0, 0) | trials << 32;
     job.tree = tree;
     write_node(&job, job.order.book.start, m, n, 0, 0);
-    return 0;
+    return trials << 32;
 }

@@ -28,15 +28,15 @@ void independent_split(struct rules *rules, const struct book *book)
     split(book, KIND_DOWN, &rules->down);
 }
 
-// The heads of the joins that fire at some cut of a piece.
+// The heads of the joins that fire at some cut of a piece. Each rule that is tried at a cut is counted.
 static inline uint32_t made(const struct table *table, const struct rules *rules, unsigned height, unsigned width,
-                            unsigned top, unsigned left)
+                            unsigned top, unsigned left, uint64_t *trials)
 {
     uint32_t heads = 0;
-    for (unsigned k = 1; k < width; k++)
+    for (unsigned k = 1; k < width; k++, *trials += rules->across.count)
         heads |= joined(&rules->across, entry(table, height, k, top, left),
                         entry(table, height, width - k, top, left + k));
-    for (unsigned k = 1; k < height; k++)
+    for (unsigned k = 1; k < height; k++, *trials += rules->down.count)
         heads |= joined(&rules->down, entry(table, k, width, top, left),
                         entry(table, height - k, width, top + k, left));
     return heads;
@@ -50,7 +50,7 @@ static void lay(struct table *table, const struct order *order, uint32_t *work)
     number_slots(table);
 }
 
-void independent_fill(struct table *table, const struct rules *rules, const struct order *order, uint32_t *work)
+uint64_t independent_fill(struct table *table, const struct rules *rules, const struct order *order, uint32_t *work)
 {
     unsigned rows = order->sheet.rows, columns = order->sheet.columns;
     lay(table, order, work);
@@ -58,12 +58,14 @@ void independent_fill(struct table *table, const struct rules *rules, const stru
         work[i] = rules->heads[order->colour[order->sheet.cell[i]]];
     // Pieces go by slot, so the parts of a piece are there before it.
     uint32_t *next = work;
+    uint64_t trials = 0;
     for (unsigned height = 1; height <= rows; height++)
         for (unsigned width = 1; width <= columns; width++)
             for (unsigned top = 0; top + height <= rows; top++)
                 for (unsigned left = 0; left + width <= columns; left++, next++)
                     if (height > 1 || width > 1)
-                        *next = made(table, rules, height, width, top, left);
+                        *next = made(table, rules, height, width, top, left, &trials);
+    return trials;
 }
 
 // The first and the last place from which a stretch of so many cells in a row of n has the cell.
@@ -83,6 +85,7 @@ void independent_refill(struct table *table, const struct rules *rules, const st
     unsigned rows = order->sheet.rows, columns = order->sheet.columns;
     lay(table, order, work);
     work[row * columns + column] = rules->heads[order->colour[colour]];
+    uint64_t trials = 0;
     for (unsigned height = 1; height <= rows; height++)
         for (unsigned width = 1; width <= columns; width++) {
             if (height == 1 && width == 1)
@@ -91,6 +94,6 @@ void independent_refill(struct table *table, const struct rules *rules, const st
             for (unsigned top = first_place(row, height); top <= bottom; top++)
                 for (unsigned left = first_place(column, width); left <= right; left++)
                     work[table->slot[height][width] + top * (columns - width + 1) + left] =
-                        made(table, rules, height, width, top, left);
+                        made(table, rules, height, width, top, left, &trials);
         }
 }

@@ -25,8 +25,9 @@ size_t independent_entries(const struct sheet *sheet);
 
 void independent_split(struct rules *rules, const struct book *book);
 
-// Fills the work slice with the table of the sheet under the book with these rules.
-void independent_fill(struct table *table, const struct rules *rules, const struct order *order, uint32_t *work);
+// Fills the work slice with the table of the sheet under the book with these rules. Gives how many trials it took, each
+// one piece, one cut and one rule of that direction.
+uint64_t independent_fill(struct table *table, const struct rules *rules, const struct order *order, uint32_t *work);
 
 // Writes the entries of the pieces that have the cell, smaller pieces first, the cell's by a colour of the sheet and the
 // others' from the entries of their parts.

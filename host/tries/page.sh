@@ -15,7 +15,7 @@ int main(void)
 END
 "$cc" "${c99[@]}" "${link[@]}" "$place/page.c" "$made/libdruvelstek.a" -o "$place/page"
 said=$("${emulator[@]}" "$place/page")
-for words in accepted '2 by 3, rule 1' 'a cell of Red' 'can be ordered: 1' "tree: accepted" 'not a derivation of the sheet, node 10' 'in Blue: not in the family' 'in Red again: accepted' 'the engines agree' '2 of 2 sheets accepted, 7 cells' 'a book of 34 bytes' 'tidied: 19 bytes' 'at most 12 columns: a count, a length, rows or columns out of range' 'at most 24 columns: accepted'; do
+for words in '18 trials to make' '18 trials made' accepted '2 by 3, rule 1' 'a cell of Red' 'can be ordered: 1' "tree: accepted" 'not a derivation of the sheet, node 10' 'in Blue: not in the family' 'in Red again: accepted' 'the engines agree' '2 of 2 sheets accepted, 7 cells' 'a book of 34 bytes' 'tidied: 19 bytes' 'at most 12 columns: a count, a length, rows or columns out of range' 'at most 24 columns: accepted'; do
     [[ $said == *"$words"* ]] || fail "the page's program says" "$said"
 done
 

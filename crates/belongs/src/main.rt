@@ -67,13 +67,14 @@ fn main() {
     let sheet_len = load(b"sheet.bin", &mut sheet);
     let mut work = [0u32; 6084];
     let mut tree = [0u16; 574];
-    let a = pieces::derive::derive(
+    let d = pieces::derive::derive(
         0,
         &book[..book_len],
         &sheet[..sheet_len],
         &mut work,
         &mut tree,
     );
+    let a = d.answer;
     print_answer(a);
     if a.number == 0 {
         print_nodes(&tree, nodes(&sheet[..sheet_len]));

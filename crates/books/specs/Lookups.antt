@@ -56,4 +56,4 @@ sizeShown press s = packedSize (sizeOf press s)
 
 -- how many of the customer's requests have landed
 abbrev pub version : ℕ
-version = 13
+version = 14

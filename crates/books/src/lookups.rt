@@ -67,5 +67,5 @@ pub extern "C" fn dv_sheet_size(press: usize, sheet: &[u8]) -> u64
 pub extern "C" fn dv_version() -> u64
     ensures { λ r. ⌜ r ≡ version ⌝ }
 {
-    13
+    14
 }

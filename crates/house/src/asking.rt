@@ -38,3 +38,17 @@ pub(crate) fn derive(
     let room = lent::room(said, 2304);
     ask(press, book, sheet, work, &mut tree[0..room], show);
 }
+
+// The answer, and how many trials the table took. The line says how much of a tree slice is lent, of which there is enough for the largest sheet.
+pub(crate) fn trials(press: usize, book: &[u8], sheet: &[u8], work: &mut [u32], said: usize) {
+    let mut tree = [65535u16; 2304];
+    let room = lent::room(said, 2304);
+    printing::answer_and_count(pieces::derive::dv_derive(
+        press,
+        book,
+        sheet,
+        work,
+        &mut tree[0..room],
+    ));
+    printing::end();
+}

@@ -17,6 +17,7 @@ use crate::why;
 fn call(letter: u8, press: usize, first: &[u8], second: &[u8], work: &mut [u32], number: usize) {
     match letter {
         b'd' | b't' => asking::derive(press, first, second, work, number, letter == b't'),
+        b'n' => asking::trials(press, first, second, work, number),
         b'c' => cards::card(press, first, work, number),
         b'w' => why::why_not(press, first, second, work),
         b'r' => reports::run(press, first, second, work, number),

@@ -10,14 +10,13 @@ use Rattle.books.specs.Size.{Within}
 use Rattle.pieces.specs.Most.{most}
 use Rattle.pieces.specs.Pieces.{Inside, total, slotOf}
 use Rattle.pieces.specs.Parts.{reach, firstPart, restPart}
-use Rattle.pieces.specs.inner.Room.{mostCells}
-use Rattle.pieces.specs.inner.Course.{step, after, cells, change, short, shorter, courseOf, Runs}
+use Rattle.pieces.specs.inner.Course.{step, after, cells, change, short, shorter, firstRise, firstFall, courseOf, Runs}
 use Rattle.pieces.specs.declared.piece.Piece.{Piece}
 use Rattle.pieces.specs.declared.course.Course.{Course}
 use Rattle.pieces.proofs.PartsOfPieces.{first-inside, rest-inside, rest-whole}
 use Rattle.pieces.proofs.PartSlots.{one-more, first-next, rest-next}
 use Rattle.pieces.proofs.Slots.{slot-lt}
-use Rattle.pieces.proofs.Stretches.{stretches-mono, stretches-few, total-few}
+use Rattle.pieces.proofs.Stretches.{stretches-mono, total-few}
 
 -- ── How a step compares with a change ──
 
@@ -60,7 +59,7 @@ pub record At (d : Dir) (m n : ℕ) (p : Piece) (k : ℕ) (c : Course) : Type 0 
   pub first : c .first ≡ slotOf m n (firstPart d (k + 1) p)
   pub rise : c .rise + short d n p ≡ (cells d m n - k) * change d m n p
   pub second : c .second ≡ slotOf m n (restPart d k p)
-  pub fall : c .fall + shorter d n p ≡ (cells d m n + 2 + k - reach d p) * change d m n p
+  pub both : c .both + shorter d n p ≡ c .rise + (cells d m n + 2 + k - reach d p) * change d m n p
   pub same : c .change ≡ change d m n p
 
 module _ (d : Dir) (m n : ℕ) (p : Piece) (i : Inside m n p) where
@@ -73,7 +72,7 @@ module _ (d : Dir) (m n : ℕ) (p : Piece) (i : Inside m n p) where
         first = refl;
         rise = rw b (omega (arith, rise-begins d i h));
         second = ap (slotOf m n) (sym (rest-whole d p));
-        fall = rw e (omega (arith, fall-begins d i));
+        both = rw e (omega (arith, fall-begins d i));
         same = refl;
       }
 
@@ -85,8 +84,8 @@ module _ (d : Dir) (m n : ℕ) (p : Piece) (i : Inside m n p) where
       record {
         first = rw two (omega (arith, first-next d k i h, a .first, a .rise));
         rise = omega (arith, more, rise-fits d (k + 1) i h, a .rise, a .same);
-        second = omega (arith, rest-next d k i h, a .second, a .fall);
-        fall = rw up (omega (arith, add-mul (cells d m n + 2 + k - reach d p) 1 (change d m n p), one-mul (change d m n p), a .fall, a .same));
+        second = omega (arith, rest-next d k i h, a .second, a .both);
+        both = rw up (omega (arith, more, rise-fits d (k + 1) i h, a .rise, a .both, a .same));
         same = a .same;
       }
 
@@ -101,10 +100,6 @@ module _ (d : Dir) (m n : ℕ) (p : Piece) (i : Inside m n p) where
 
 -- ── In numbers that the code has room for ──
 
-change-few : (d : Dir) (m n : ℕ) (p : Piece) → Within most m n → change d m n p ≤ mostCells
-change-few across m n p r = omega arith
-change-few down m n p r = stretches-few most n n (r .cols-few) (r .cols-few)
-
 pub course-runs : (d : Dir) (m n : ℕ) (p : Piece) (len : ℕ) → Within most m n → Inside m n p → total m n ≤ len → Runs len (courseOf d m n p)
 unfolding courseOf
 course-runs d m n p len r i h k l =
@@ -113,23 +108,23 @@ course-runs d m n p len r i h k l =
     let two : k + 1 + 1 ≡ k + 2 = omega arith in
     let f = slot-lt m n (firstPart d (k + 2) p) (first-inside d (k + 2) i (omega arith) (omega arith)) in
     let s = slot-lt m n (restPart d k p) (rest-inside d k i (omega arith)) in
+    let t = slot-lt m n (restPart d (k + 1) p) (rest-inside d (k + 1) i (omega arith)) in
     let few = total-few most m n (r .rows-few) (r .cols-few) in (
       record {
         climbs = omega (arith, rw two at (b .first));
         slows = omega (arith, a .rise, a .same, rise-fits d (k + 1) i (omega arith), one-more k (cells d m n) (change d m n p) (omega (arith, reach-le d i)));
-        sinks = omega (arith, rest-next d k i (omega arith), a .second, a .fall);
-        hastens = omega (arith, rest-next d k i (omega arith), a .second, a .fall, a .same, change-few d m n p r);
+        lifts = omega (arith, rw two at (b .first), a .second);
+        sinks = omega (arith, rest-next d k i (omega arith), a .second, a .both);
       },
       omega (arith, rw two at (b .first)),
-      omega (arith, a .second),
+      omega (arith, b .second),
     )
 
 -- ── Where a course begins ──
 
 pub course-made : (d : Dir) (m n : ℕ) (p : Piece) {first rise second fall less : ℕ} → first ≡ slotOf m n (firstPart d 1 p)
-    → rise ≡ cells d m n * change d m n p - short d n p → second ≡ slotOf m n p
-    → fall ≡ (cells d m n + 2 - reach d p) * change d m n p - shorter d n p → less ≡ change d m n p
-    → record { cuts = reach d p - 1; first = first; rise = rise; second = second; fall = fall; change = less } ≡ courseOf d m n p
+    → rise ≡ firstRise d m n p → second ≡ slotOf m n p → fall ≡ firstFall d m n p → less ≡ change d m n p
+    → record { cuts = reach d p - 1; first = first; rise = rise; second = second; both = rise + fall; change = less } ≡ courseOf d m n p
 unfolding courseOf
 course-made d m n p a b e g h =
-    λ i. record { cuts = reach d p - 1; first = a i; rise = b i; second = e i; fall = g i; change = h i }
+    λ i. record { cuts = reach d p - 1; first = a i; rise = b i; second = e i; both = b i + g i; change = h i }

@@ -19,6 +19,7 @@ use Rattle.pieces.specs.Derivation.{Derivation, entriesNeeded, derivatio
 use Rattle.pieces.proofs.DerivationAnswers.{derivation-packs}
 use Rattle.books.specs.Lent.{contentsOf, pictureOf, Accepted}
 use Rattle.pieces.proofs.Endings.{derivation-ends}
+use Rattle.pieces.proofs.TrialsTold.{Counts, dv-derive-counts}
 
 -- The fault stands in the book: it is blamed at its place, which is a byte of the book or its end.
 pub record InBook (book : List ℕ) (number blamed place : ℕ) : Type 0 where
@@ -128,11 +129,12 @@ module _ (press : ℕ) (book sheet work tree : List ℕ) where
 
   pub record Called (r : ℕ) (work-left tree-left : List ℕ) : Type 0 where
     pub answered : Answered press book sheet work tree (r % 2 ^ 8) (r / 2 ^ 8 % 2 ^ 4) (r / 2 ^ 12 % 2 ^ 20) work-left tree-left
-    pub counted : r / 2 ^ 32 ≡ 0
+    pub counted : Counts press book sheet (r % 2 ^ 8) (r / 2 ^ 32)
 
   pub dv-derive-called : {r : ℕ} {work-left tree-left : List ℕ} → LeavesPacked (derivation press book sheet work tree) r work-left tree-left → Called r work-left tree-left
   dv-derive-called left =
       let d = derivation press book sheet work tree in
-      let parts = apart (d .answer) 0 (derivation-packs press book sheet work tree) in
-      rw (left .answers, left .leaves-work, left .leaves-tree)
-      (record { answered = rw (parts .number-is, parts .blamed-is, parts .place-is) obeys; counted = parts .count-is })
+      let parts = apart (d .answer) (d .trials) (derivation-packs press book sheet work tree) in
+      let counted = dv-derive-counts press book sheet work tree left in
+      rw (left .leaves-work, left .leaves-tree)
+      (record { answered = rw (left .answers, parts .number-is, parts .blamed-is, parts .place-is) obeys; counted = counted })

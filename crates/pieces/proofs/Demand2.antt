@@ -29,6 +29,7 @@ use Rattle.pieces.proofs.Entries.{entry-derives, derives-entry}
 use Rattle.pieces.proofs.ExactViews.{motif-below}
 use Rattle.pieces.proofs.Judging.{filled-holds, held-entry}
 use Rattle.books.specs.Lent.{contentsOf, pictureOf, Accepted}
+use Rattle.pieces.specs.declared.derive.Derived.{Derived}
 use Rattle.pieces.proofs.Endings.{derivation-ends}
 
 -- derived: answer 0, and the derivation given stands in the tree slice
@@ -108,12 +109,12 @@ module _ (press : ℕ) (book sheet entries numbers : List ℕ) (fine : Accepted 
 
 -- ── Two outcomes that a contract allows are equal ──
 
-module _ {A : Type 0} {told : Answer → A} {d : Derivation} {r q : A} {w v t u : List ℕ} where
+module _ {A : Type 0} {told : Answer → ℕ → A} {d : Derivation} {r q : A} {w v t u : List ℕ} where
   settled : Left told d r w t → Left told d q v u → (r ≡ q) × (w ≡ v) × (t ≡ u)
   settled x y = (x .answers ∙ sym (y .answers), x .leaves-work ∙ sym (y .leaves-work), x .leaves-tree ∙ sym (y .leaves-tree))
 
 module _ (press : ℕ) (book sheet entries numbers : List ℕ) where
-  pub derive-settled : {r q : Answer} {w v t u : List ℕ} → let d = derivation press book sheet entries numbers in
+  pub derive-settled : {r q : Derived} {w v t u : List ℕ} → let d = derivation press book sheet entries numbers in
       Leaves d r w t → Leaves d q v u → (r ≡ q) × (w ≡ v) × (t ≡ u)
   derive-settled x y = settled x y
 

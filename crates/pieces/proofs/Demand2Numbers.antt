@@ -12,7 +12,7 @@ use Rattle.books.specs.Picture.{Picture}
 use Rattle.books.specs.Press.{IsPress}
 use Rattle.books.specs.Derives.{Member}
 use Rattle.books.specs.Answer.{InputsNumber, packed}
-use Rattle.books.specs.declared.answer.Answer.{Answer}
+use Rattle.pieces.specs.declared.derive.Derived.{Derived}
 use Rattle.books.proofs.Packing.{apart}
 use Rattle.books.proofs.ReadingBooks.{book-refused}
 use Rattle.books.proofs.ReadingSheets.{sheet-refused, sheet-press}
@@ -111,18 +111,19 @@ module _ (press : ℕ) (book sheet entries numbers : List ℕ) where
 
   -- 21 exactly where there is no such press, 1 to 8 or 18 exactly where there is and an input is refused, 9 exactly where both are accepted and the work slice is too short, 10
   -- where only the tree slice is, 11 exactly where both are long enough and the family has not the sheet, and 0 exactly where it has it
-  pub derive-numbers : {r : Answer} {w t : List ℕ} → Leaves (derivation press book sheet entries numbers) r w t → Numbers (r .number)
+  pub derive-numbers : {r : Derived} {w t : List ℕ} → Leaves (derivation press book sheet entries numbers) r w t → Numbers (r .answer .number)
   derive-numbers left = rw (left .answers) numbered
 
   pub dv-derive-numbers : {r : ℕ} {w t : List ℕ} → LeavesPacked (derivation press book sheet entries numbers) r w t → Numbers (r % 2 ^ 8)
   dv-derive-numbers left =
-      rw (left .answers, apart (derivation press book sheet entries numbers .answer) 0 (derivation-packs press book sheet entries numbers) .number-is) numbered
+      let d = derivation press book sheet entries numbers in
+      rw (left .answers, apart (d .answer) (d .trials) (derivation-packs press book sheet entries numbers) .number-is) numbered
 
   -- the two calls do the same
-  pub alike : {a : Answer} {r : ℕ} {w v t u : List ℕ} → let d = derivation press book sheet entries numbers in
-      Leaves d a w t → LeavesPacked d r v u → (r ≡ packed a 0) × (v ≡ w) × (u ≡ t)
+  pub alike : {a : Derived} {r : ℕ} {w v t u : List ℕ} → let d = derivation press book sheet entries numbers in
+      Leaves d a w t → LeavesPacked d r v u → (r ≡ packed (a .answer) (a .trials)) × (v ≡ w) × (u ≡ t)
   alike x y = (
-    y .answers ∙ ap (λ (a : Answer). packed a 0) (sym (x .answers)),
+    y .answers ∙ ap (λ (a : Derived). packed (a .answer) (a .trials)) (sym (x .answers)),
     y .leaves-work ∙ sym (x .leaves-work),
     y .leaves-tree ∙ sym (x .leaves-tree),
   )

@@ -1,5 +1,5 @@
--- The order in which a derivation's tests are made; and every answer packs, since places are bounded.
-use Prim.Native.Nat.{ℕ, _<_, _^_}
+-- The order in which a derivation's tests are made; and every answer packs, since places and trials are bounded.
+use Prim.Native.Nat.{ℕ, _≤_, _<_, _^_}
 use mathlib.Core.Path.{_≡_}
 use mathlib.Core.List.{List}
 use native.Mathlib.Omega.{arith}
@@ -9,13 +9,17 @@ use Rattle.books.specs.Sheet.{sheetOf}
 use Rattle.books.specs.Answer.{plain, blaming, Packs}
 use Rattle.books.specs.Contents.{Contents}
 use Rattle.books.specs.Picture.{Picture}
-use Rattle.books.specs.Press.{IsPress}
+use Rattle.books.specs.Press.{greatestOf, IsPress}
 use Rattle.books.specs.Lent.{contentsOf, pictureOf, Accepted}
 use Rattle.books.specs.declared.answer.Answer.{Answer}
 use Rattle.books.proofs.LentEnds.{no-press-first, book-refused-next, sheet-refused-last, both-go-on}
+use Rattle.books.proofs.ReadingSheets.{sheet-lies}
 use Rattle.books.proofs.Packing.{plain-packs, book-placed, sheet-placed}
-use Rattle.pieces.specs.Derivation.{Derivation, leaving, roomed, derivation}
+use Rattle.pieces.specs.Derivation.{Derivation, leaving, trialsNeeded, roomed, derivation}
+use Rattle.pieces.specs.Trials.{mostTrials}
+use Rattle.pieces.proofs.AcceptedInputs.{rules-read}
 use Rattle.pieces.proofs.Endings.{derivation-ends}
+use Rattle.pieces.proofs.MakingTrials.{trials-most, most-fits}
 
 -- ── The order of the answers ──
 
@@ -45,21 +49,27 @@ module _ (press : ℕ) (book sheet entries numbers : List ℕ) where
 
 -- ── Every answer packs ──
 
+-- an accepted book and sheet ask for no more trials than the largest sheet of the press does
+pub needed-few : (press : ℕ) (book sheet : List ℕ) → Accepted press book sheet → trialsNeeded (contentsOf book) (pictureOf press sheet) ≤ mostTrials (greatestOf press)
+needed-few press book sheet fine =
+    let w = sheet-lies press sheet (fine .sheet-fine) .within in
+    trials-most (contentsOf book .rules) (greatestOf press) _ _ (rules-read book (fine .book-fine) .few) (w .rows-few) (w .cols-few)
+
 abbrev Packed : Derivation → Type 0
-Packed d = Packs (d .answer) 0
+Packed d = Packs (d .answer) (d .trials)
 
-plainly : (n : ℕ) → n < 2 ^ 8 → Packs (plain n) 0
-plainly n h = plain-packs n 0 h (omega arith)
+plainly : (press n count : ℕ) → n < 2 ^ 8 → count ≤ mostTrials (greatestOf press) → Packs (plain n) count
+plainly press n count h few = plain-packs n count h (omega (arith, most-fits press))
 
-pub derivation-packs : (press : ℕ) (book sheet entries numbers : List ℕ) → Packs (derivation press book sheet entries numbers .answer) 0
+pub derivation-packs : (press : ℕ) (book sheet entries numbers : List ℕ) → Packed (derivation press book sheet entries numbers)
 derivation-packs press book sheet entries numbers =
     derivation-ends press book sheet entries numbers Packed
     (record {
-      no-press = λ _. plainly 21 (omega arith);
+      no-press = λ _. plainly press 21 0 (omega arith) (omega arith);
       in-book = λ is n. rw (ne-eqb (bookOf book .fault .number) 0 n) at (book-placed book 1 (omega arith) .packs);
       in-sheet = λ is z n. rw (ne-eqb (sheetOf press sheet .fault .number) 0 n) at (sheet-placed press sheet 2 (omega arith) .packs);
-      short-work = λ f short. plainly 9 (omega arith);
-      short-tree = λ f enough short. plainly 10 (omega arith);
-      declined = λ f room none. plainly 11 (omega arith);
-      derived = λ f room x nodes given. plainly 0 (omega arith);
+      short-work = λ f short. plainly press 9 0 (omega arith) (omega arith);
+      short-tree = λ f enough short. plainly press 10 0 (omega arith) (omega arith);
+      declined = λ f room none. plainly press 11 _ (omega arith) (needed-few press book sheet f);
+      derived = λ f room x nodes given. plainly press 0 _ (omega arith) (needed-few press book sheet f);
     })

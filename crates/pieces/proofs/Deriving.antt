@@ -22,7 +22,8 @@ use Rattle.books.specs.declared.sheet.SheetFigures.{SheetFigures}
 use Rattle.books.proofs.LentRules.{rows-back}
 use Rattle.books.proofs.NumberedCells.{numbers-for, numbers-fresh}
 use Rattle.books.proofs.ReadingBooks.{book-places}
-use Rattle.pieces.specs.Derivation.{leaving, derivation}
+use Rattle.books.proofs.ReadingSheets.{sheet-lies}
+use Rattle.pieces.specs.Derivation.{leaving, trialsNeeded, derivation}
 use Rattle.pieces.specs.Filling.{filledBy}
 use Rattle.pieces.specs.Masks.{allMasks, Masked, masked, splitOf}
 use Rattle.pieces.specs.Rights.{Serves}
@@ -31,10 +32,12 @@ use Rattle.pieces.specs.inner.Fitted.{Fitted}
 use Rattle.pieces.specs.inner.ForTable.{MasksFit}
 use Rattle.pieces.specs.inner.Seen.{wholeOf, hasBit, seen}
 use Rattle.pieces.specs.inner.Small.{SmallRules}
+use Rattle.pieces.specs.inner.Tally.{triedBy}
 use Rattle.pieces.specs.inner.Verdict.{Verdict, verdict, lacking}
 use Rattle.pieces.proofs.AcceptedInputs.{rules-read, as-read, cells-numbered}
 use Rattle.pieces.proofs.DerivationAnswers.{book-second, sheet-third, then-room}
 use Rattle.pieces.proofs.Judging.{made-fits, judged-made}
+use Rattle.pieces.proofs.MakingTrials.{tried-listed}
 use Rattle.pieces.proofs.Lacking.{nothing-lacks, roomed-short, roomed-enough}
 use Rattle.pieces.proofs.ServingMasks.{split-fit, split-serves}
 use Rattle.pieces.proofs.WholeTable.{AsRead, Numbered}
@@ -114,9 +117,17 @@ module _ (press : ℕ) (book sheet : List ℕ) {b : BookFigures} {rows : List (L
           rw (shown .figures, rows-back book read, read .figures)
           (made-fits given cells numbered masks j (masks-serve book read z split) entries (nothing-lacks _ _ _ _ (rw (shown .figures) at enough) .0))
 
-      pub derived-as : derivation press book sheet entries numbers ≡ record { answer = plain (tells .number); entries = made; numbers = tells .numbers }
+      -- the masks are those of the rules, so that there are as many trials as the list has
+      listed : triedBy j (s .size .rows) (s .size .cols) ≡ trialsNeeded (contentsOf book) (pictureOf press sheet)
+      listed =
+          let w = sheet-lies press sheet sheet-fine .within in
+          let by = ap (λ (x : Masked). x .joins) split ∙ ap (λ (l : List Rule). splitOf l (replicate allMasks 0) .joins) (rows-back book read) in
+          rw (shown .figures, by) (tried-listed (contentsOf book .rules) (replicate allMasks 0) _ _ (w .rows-some) (w .cols-some))
+
+      pub derived-as : derivation press book sheet entries numbers
+          ≡ record { answer = plain (tells .number); trials = triedBy j (s .size .rows) (s .size .cols); entries = made; numbers = tells .numbers }
       derived-as =
-          rw (shown .figures, rows-back book read, read .figures)
+          rw (listed, shown .figures, rows-back book read, read .figures)
           (then-room press book sheet entries numbers (record { book-fine = book-fine; sheet-fine = sheet-fine })
           ∙ roomed-enough (contentsOf book) (pictureOf press sheet) entries numbers (rw (shown .figures) at enough)
           ∙ judged-made given cells numbered masks j (masks-serve book read z split) entries (nothing-lacks _ _ _ _ (rw (shown .figures) at enough) .0) numbers)

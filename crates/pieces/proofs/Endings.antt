@@ -19,7 +19,7 @@ use Rattle.books.proofs.Deciding.{decided, refused}
 use Rattle.books.proofs.LentEnds.{both-end}
 use Rattle.pieces.specs.Given.{Given}
 use Rattle.pieces.specs.Tree.{tree}
-use Rattle.pieces.specs.Derivation.{Derivation, leaving, entriesNeeded, numbersNeeded, Roomy, filled, judged, roomed, derivation}
+use Rattle.pieces.specs.Derivation.{Derivation, leaving, entriesNeeded, numbersNeeded, trialsNeeded, Roomy, filled, judged, roomed, derivation}
 use Rattle.pieces.proofs.TheTree.{tree-given}
 
 module _ (press : ℕ) (book sheet entries numbers : List ℕ) where
@@ -36,9 +36,10 @@ module _ (press : ℕ) (book sheet entries numbers : List ℕ) where
         → P (leaving (answer (sheetOf press sheet .fault .number) 2 (sheetOf press sheet .fault .place)) entries numbers)
     pub short-work : Accepted press book sheet → length entries < entriesNeeded p → P (leaving (plain 9) entries numbers)
     pub short-tree : Accepted press book sheet → entriesNeeded p ≤ length entries → length numbers < numbersNeeded p → P (leaving (plain 10) entries numbers)
-    pub declined : Accepted press book sheet → Roomy p entries numbers → (Member b p → ⊥) → P (leaving (plain 11) (filled b p entries) numbers)
+    pub declined : Accepted press book sheet → Roomy p entries numbers → (Member b p → ⊥)
+        → P (record { answer = plain 11; trials = trialsNeeded b p; entries = filled b p entries; numbers = numbers })
     pub derived : Accepted press book sheet → Roomy p entries numbers → Member b p → (nodes : List ℕ) → Given b (b .start) p nodes
-        → P (record { answer = plain 0; entries = filled b p entries; numbers = nodes ++ drop (length nodes) numbers })
+        → P (record { answer = plain 0; trials = trialsNeeded b p; entries = filled b p entries; numbers = nodes ++ drop (length nodes) numbers })
 
   module _ (P : Derivation → Type 0) (cases : Cases P) where
     by-judging : Accepted press book sheet → Roomy p entries numbers → P (judged b p (filled b p entries) numbers)

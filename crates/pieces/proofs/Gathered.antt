@@ -37,6 +37,19 @@ unfolding gathered
 gathered-same zero f g h = refl
 gathered-same (suc n) f g h = ap₂ bitOr (gathered-same n f g (λ i l. h i (omega arith))) (h n (omega arith))
 
+pub or-assoc : (x y z : ℕ) → bitOr (bitOr x y) z ≡ bitOr x (bitOr y z)
+or-assoc x y z = all-bits (bitOr (bitOr x y) z) (bitOr x (bitOr y z)) (λ a. same-bit (bitOr (bitOr x y) z) (bitOr x (bitOr y z)) a (there a) (back a))
+  where
+    there : (a : ℕ) → bit (bitOr (bitOr x y) z) a ≡ 1 → bit (bitOr x (bitOr y z)) a ≡ 1
+    there a o =
+        ⊎-elim (λ p. ⊎-elim (λ q. or-left x (bitOr y z) a q) (λ q. or-right x (bitOr y z) a (or-left y z a q)) (or-split x y a p))
+        (λ p. or-right x (bitOr y z) a (or-right y z a p)) (or-split (bitOr x y) z a o)
+
+    back : (a : ℕ) → bit (bitOr x (bitOr y z)) a ≡ 1 → bit (bitOr (bitOr x y) z) a ≡ 1
+    back a o =
+        ⊎-elim (λ p. or-left (bitOr x y) z a (or-left x y a p))
+        (λ p. ⊎-elim (λ q. or-left (bitOr x y) z a (or-right x y a q)) (λ q. or-right (bitOr x y) z a q) (or-split y z a p)) (or-split x (bitOr y z) a o)
+
 -- from the last to the first it is the same
 pub gathered-back : (n : ℕ) (f g : ℕ → ℕ) → ((i : ℕ) → i < n → f i ≡ g (n - 1 - i)) → gathered n f ≡ gathered n g
 gathered-back n f g e = all-bits (gathered n f) (gathered n g) (λ a. same-bit (gathered n f) (gathered n g) a (there a) (back a))

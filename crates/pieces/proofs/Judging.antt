@@ -37,7 +37,7 @@ use Rattle.pieces.specs.Rights.{Serves}
 use Rattle.pieces.specs.declared.masks.Joins.{Joins}
 use Rattle.pieces.specs.inner.Fitted.{Fitted}
 use Rattle.pieces.specs.inner.Verdict.{Verdict, verdict}
-use Rattle.pieces.specs.Derivation.{leaving, entriesNeeded, filled, judged}
+use Rattle.pieces.specs.Derivation.{entriesNeeded, trialsNeeded, filled, judged}
 use Rattle.pieces.proofs.Entries.{derives-entry}
 use Rattle.pieces.proofs.Slots.{length-pieces, slot-lt, getD-slot}
 use Rattle.pieces.proofs.CellsFirst.{cell-before}
@@ -113,7 +113,7 @@ module _ {press : ℕ} {book : List ℕ} {f : Family} {bytes : List ℕ} {g : Sh
     -- where the start has its bit, the tree that is found is the derivation given
     judged-by-tree : (entries tree-slice : List ℕ) → hasBit (g .size) work (f .start) (whole (g .size .rows) (g .size .cols)) ≡ true
         → let t = treeOf (seen (g .size) work numbers) (take (f .count) (f .rules)) (f .start) (whole (g .size .rows) (g .size .cols)) in
-        judged b p entries tree-slice ≡ record { answer = plain 0; entries = entries; numbers = t ++ drop (length t) tree-slice }
+        judged b p entries tree-slice ≡ record { answer = plain 0; trials = trialsNeeded b p; entries = entries; numbers = t ++ drop (length t) tree-slice }
     unfolding judged
     judged-by-tree entries tree-slice e =
         let x = starts e in
@@ -129,7 +129,7 @@ module _ {press : ℕ} {book : List ℕ} {f : Family} {bytes : List ℕ} {g : Sh
       eqb-false (bit (getD work (slotOf (g .size .rows) (g .size .cols) sheet) 0) (f .start)) 1 e (ap (λ (n : ℕ). bit n (f .start)) entered ∙ set)
 
   judged-none : (entries tree-slice : List ℕ) → hasBit (g .size) work (f .start) (whole (g .size .rows) (g .size .cols)) ≡ false
-      → judged b p entries tree-slice ≡ leaving (plain 11) entries tree-slice
+      → judged b p entries tree-slice ≡ record { answer = plain 11; trials = trialsNeeded b p; entries = entries; numbers = tree-slice }
   unfolding judged
   judged-none entries tree-slice e = simp (refused b (f .start) p .1 (not-derived e))
 
@@ -139,11 +139,11 @@ module _ {press : ℕ} {book : List ℕ} {f : Family} {bytes : List ℕ} {g : Sh
 
   judged-told : (numbers : List ℕ) → Numbered book f bytes g numbers → (entries tree-slice : List ℕ)
       → judged b p entries tree-slice
-      ≡ record { answer = plain (told numbers tree-slice .number); entries = entries; numbers = told numbers tree-slice .numbers }
+      ≡ record { answer = plain (told numbers tree-slice .number); trials = trialsNeeded b p; entries = entries; numbers = told numbers tree-slice .numbers }
   unfolding verdict
   judged-told numbers numbered entries tree-slice =
       pick-ind
-      (λ (v : Verdict). judged b p entries tree-slice ≡ record { answer = plain (v .number); entries = entries; numbers = v .numbers })
+      (λ (v : Verdict). judged b p entries tree-slice ≡ record { answer = plain (v .number); trials = trialsNeeded b p; entries = entries; numbers = v .numbers })
       (hasBit (g .size) work (f .start) (whole (g .size .rows) (g .size .cols))) _ _
       (λ e. judged-by-tree numbers numbered entries tree-slice e)
       (λ e. judged-none entries tree-slice e)
@@ -176,7 +176,12 @@ module _ {press : ℕ} {book : List ℕ} {f : Family} {bytes : List ℕ} {g : Sh
   made-fits e = every-node-fits given made made-holds cells numbered e
 
   pub judged-made : (tree-slice : List ℕ) → judged contents sheet-picture (filled contents sheet-picture before) tree-slice
-      ≡ record { answer = plain (tells tree-slice .number); entries = made; numbers = tells tree-slice .numbers }
+      ≡ record {
+        answer = plain (tells tree-slice .number);
+        trials = trialsNeeded contents sheet-picture;
+        entries = made;
+        numbers = tells tree-slice .numbers;
+      }
   judged-made tree-slice =
       ap (λ (w : List ℕ). judged contents sheet-picture w tree-slice) (sym is-filled)
       ∙ judged-told given made made-holds cells numbered made tree-slice

@@ -1,6 +1,9 @@
 pub mod Sums
 pub mod Stretches
 pub mod Slots
+pub mod Doubles
+pub mod TrialsListed
+pub mod CountingTrials
 pub mod PartsOfPieces
 pub mod NextPiece
 pub mod InOrder
@@ -8,6 +11,7 @@ pub mod NextWith
 pub mod Refilled
 pub mod Passing
 pub mod CellsFirst
+pub mod MakingTrials
 pub mod PartSlots
 pub mod Courses
 pub mod Gathered
@@ -51,6 +55,7 @@ pub mod Recolouring
 pub mod MadeAnew
 pub mod Recasting
 pub mod Tickets
+pub mod TrialsTold
 pub mod Demand1
 pub mod Demand2
 pub mod Demand2Numbers

@@ -16,7 +16,7 @@ use Rattle.books.specs.Sheet.{sheetOf}
 use Rattle.books.specs.Size.{sizeBy}
 use Rattle.pieces.specs.Largest.{marked}
 use Rattle.pieces.specs.Area.{whole}
-use Rattle.pieces.specs.Derivation.{Derivation, derivation}
+use Rattle.pieces.specs.Derivation.{Derivation, derivation, telling}
 use Rattle.pieces.specs.Pieces.{slotOf}
 use Rattle.pieces.specs.View.{View}
 use Rattle.pieces.specs.inner.Fitted.{Fitted}
@@ -48,7 +48,7 @@ module _ (press : ℕ) (book sheet work tree : List ℕ) (book-bytes : Bytes boo
   pub nodes-fit : left .answer .number ≡ 0 → Fitted view (b .rules) (b .start) (whole (p .rows) (p .cols))
   unfolding hasBit marked isSet
   nodes-fit zero =
-      let (fine, room, member) = derive-numbers press book sheet work tree {r = left .answer} {w = left .entries} {t = left .numbers}
+      let (fine, room, member) = derive-numbers press book sheet work tree {r = telling (left .answer) (left .trials)} {w = left .entries} {t = left .numbers}
       (record { answers = refl; leaves-work = refl; leaves-tree = refl }) .zero .0 zero in
       let given = as-read book (fine .book-fine) press sheet (fine .sheet-fine) book-bytes sheet-bytes in
       let numbered = cells-numbered book (fine .book-fine) press sheet (fine .sheet-fine) in

@@ -14,13 +14,13 @@ use Rattle.pieces.proofs.Stretches.{stretches-sum, total-stretches}
 
 -- ── The blocks, and how many pieces each has ──
 
-abbrev lefts : ℕ → ℕ → ℕ → ℕ → List Piece
+abbrev pub lefts : ℕ → ℕ → ℕ → ℕ → List Piece
 lefts n u v t = each (n - v) (λ l. piece (suc u) (suc v) t l ∷ [])
 
-abbrev tops : ℕ → ℕ → ℕ → ℕ → List Piece
+abbrev pub tops : ℕ → ℕ → ℕ → ℕ → List Piece
 tops m n u v = each (m - u) (λ t. lefts n u v t)
 
-abbrev widths : ℕ → ℕ → ℕ → List Piece
+abbrev pub widths : ℕ → ℕ → ℕ → List Piece
 widths m n u = each n (λ v. tops m n u v)
 
 abbrev inTops : ℕ → ℕ → ℕ → ℕ → ℕ
@@ -34,7 +34,7 @@ sum-tops m n u k = sum-scale (m - u) (λ v. n - v) k ∙ ap (λ (x : ℕ). (m - 
 
 sum-widths : (m n k : ℕ) → sum k (λ u. inWidths m n u) ≡ stretches m k * stretches n n
 sum-widths m n k =
-    sum-same _ (λ u. stretches n n * (m - u)) k (λ u. mul-comm (m - u) (stretches n n))
+    sum-same _ (λ u. stretches n n * (m - u)) k (λ u h. mul-comm (m - u) (stretches n n))
     ∙ sum-scale (stretches n n) (λ u. m - u) k
     ∙ ap (λ (x : ℕ). stretches n n * x) (sym (stretches-sum m k)) ∙ mul-comm (stretches n n) (stretches m k)
 

@@ -51,7 +51,7 @@ stretches-le n (suc k) = omega (arith, stretches-le n k, suc-mul k n)
 pub stretches-few : (top n k : ℕ) → n ≤ top → k ≤ top → stretches n k ≤ top * top
 stretches-few top n k h g = le-trans (stretches-le n k) (mul-le-mul g h)
 
-half-few : (top n : ℕ) → n ≤ top → n * (n + 1) / 2 ≤ top * (top + 1) / 2
+pub half-few : (top n : ℕ) → n ≤ top → n * (n + 1) / 2 ≤ top * (top + 1) / 2
 half-few top n h =
     let more : n + 1 ≤ top + 1 = omega arith in
     let double : n * (n + 1) ≤ top * (top + 1) = mul-le-mul h more in

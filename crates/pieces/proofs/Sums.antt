@@ -1,6 +1,6 @@
 -- Sums and lists over 0 .. n - 1: where a block of such a list starts, and what stands at a place of it.
-use mathlib.Core.Path.{_≡_, refl, sym, _∙_}
-use mathlib.Core.List.{List, _++_, List·Memᴰ, List·Memᴰ·not-nil, List·Memᴰ·append-cases}
+use mathlib.Core.Path.{_≡_, refl, sym, _∙_, subst}
+use mathlib.Core.List.{List, _++_, List·Memᴰ, List·Memᴰ·not-nil, List·Memᴰ·append-cases, Memᴰ·append-left, Memᴰ·append-right}
 use mathlib.Core.Logic.{⊎-elim}
 use Prim.Native.Nat.{ℕ, zero, suc, _+_, _-_, _*_, _≤_, _<_}
 use native.Mathlib.Nat.{suc-mul, mul-add, zero-mul, mul-zero}
@@ -46,10 +46,11 @@ sum-find f (suc n) i h = go (λ l. sum-find f n i l) (decLt i (sum n f))
     go ih (yes l) = let v = ih l in let b : v .0 < n = v .2 in (v .0, v .1, omega arith, v .3, v .4)
     go ih (no l) = (n, i - sum n f, omega arith, omega arith, omega arith)
 
-pub sum-same : (f g : ℕ → ℕ) (n : ℕ) → ((i : ℕ) → f i ≡ g i) → sum n f ≡ sum n g
+-- What is the same of each number below n has the same sum.
+pub sum-same : (f g : ℕ → ℕ) (n : ℕ) → ((i : ℕ) → i < n → f i ≡ g i) → sum n f ≡ sum n g
 unfolding sum
 sum-same f g zero h = refl
-sum-same f g (suc n) h = omega (arith, sum-same f g n h, h n)
+sum-same f g (suc n) h = omega (arith, sum-same f g n (λ i l. h i (omega arith)), h n (omega arith))
 
 pub sum-const : (c n : ℕ) → sum n (λ i. c) ≡ n * c
 unfolding sum
@@ -60,6 +61,17 @@ pub sum-scale : (c : ℕ) (f : ℕ → ℕ) (n : ℕ) → sum n (λ i. c * f i) 
 unfolding sum
 sum-scale c f zero = sym (mul-zero c)
 sum-scale c f (suc n) = omega (arith, sum-scale c f n, mul-add c (sum n f) (f n))
+
+pub sum-plus : (f g : ℕ → ℕ) (n : ℕ) → sum n (λ i. f i + g i) ≡ sum n f + sum n g
+unfolding sum
+sum-plus f g zero = refl
+sum-plus f g (suc n) = omega (arith, sum-plus f g n)
+
+-- From the first on.
+pub sum-first : (f : ℕ → ℕ) (n : ℕ) → sum (suc n) f ≡ f 0 + sum n (λ i. f (suc i))
+unfolding sum
+sum-first f zero = omega arith
+sum-first f (suc n) = omega (arith, sum-first f n)
 
 -- The list of blocks f 0, f 1, .., of g 0, g 1, .. elements.
 module _ {A : Type 0} (f : ℕ → List A) (g : ℕ → ℕ) (sized : (i : ℕ) → length (f i) ≡ g i) where
@@ -87,3 +99,13 @@ member-each f zero h = absurd (List·Memᴰ·not-nil h)
 member-each f (suc n) h =
     ⊎-elim (λ x. let v = member-each f n x in let l : v .0 < n = v .1 in (v .0, omega arith, v .2)) (λ x. (n, omega arith, x))
     (List·Memᴰ·append-cases (each n f) h)
+
+-- What stands in a block is a member of the list.
+pub each-member : {A : Type 0} (f : ℕ → List A) (n i : ℕ) {a : A} → i < n → List·Memᴰ a (f i) → List·Memᴰ a (each n f)
+unfolding each
+each-member f zero i h m = absurd (omega arith)
+each-member f (suc n) i {a} h m = go (λ l. each-member f n i l m) (ℕ-discrete i n)
+  where
+    go : (i < n → List·Memᴰ a (each n f)) → Dec (i ≡ n) → List·Memᴰ a (each n f ++ f n)
+    go ih (yes e) = Memᴰ·append-right (each n f) (subst (λ (k : ℕ). List·Memᴰ a (f k)) e m)
+    go ih (no l) = Memᴰ·append-left (f n) (ih (omega arith))

@@ -1,4 +1,5 @@
--- What asking for a derivation answers, and what it leaves in the two lent slices: `entries` for the table, `numbers` for the tree.
+-- What asking for a derivation answers, how many trials its table took, and what it leaves in the two lent slices: `entries` for the table, `numbers` for the
+-- tree.
 use Prim.Native.Nat.{ℕ, _≤_}
 use mathlib.Core.Path.{_≡_}
 use mathlib.Core.List.{List, _++_}
@@ -15,15 +16,18 @@ use Rattle.pieces.specs.Pieces.{total}
 use Rattle.pieces.specs.Area.{whole, treeSize}
 use Rattle.pieces.specs.Table.{table}
 use Rattle.pieces.specs.Tree.{tree}
+use Rattle.pieces.specs.Trials.{trials}
+use Rattle.pieces.specs.declared.derive.Derived.{Derived}
 
 pub record Derivation : Type 0 where
   pub answer : Answer
+  pub trials : ℕ
   pub entries : List ℕ
   pub numbers : List ℕ
 
--- an answer that leaves both slices as they are
+-- an answer that leaves both slices as they are, so that there was no trial
 abbrev pub leaving : Answer → List ℕ → List ℕ → Derivation
-leaving a entries numbers = record { answer = a; entries = entries; numbers = numbers }
+leaving a entries numbers = record { answer = a; trials = 0; entries = entries; numbers = numbers }
 
 -- the entries and the numbers that a picture needs
 abbrev pub entriesNeeded : Picture → ℕ
@@ -31,6 +35,10 @@ entriesNeeded p = total (p .rows) (p .cols)
 
 abbrev pub numbersNeeded : Picture → ℕ
 numbersNeeded p = treeSize (whole (p .rows) (p .cols))
+
+-- the trials that the table of a picture takes: as many as the list of them has
+abbrev pub trialsNeeded : Contents → Picture → ℕ
+trialsNeeded b p = length (trials (b .rules) (p .rows) (p .cols))
 
 -- both slices are long enough
 pub record Roomy (p : Picture) (entries numbers : List ℕ) : Type 0 where
@@ -41,13 +49,13 @@ pub record Roomy (p : Picture) (entries numbers : List ℕ) : Type 0 where
 abbrev pub filled : Contents → Picture → List ℕ → List ℕ
 filled b p entries = table b p ++ drop (entriesNeeded p) entries
 
--- with the table written: 11 where the start motif does not derive the picture, and else the derivation given, with the slice beyond as it was; `tree` computes
--- it: read `Given` of Given.antt for it, since they are the same (`tree-given` in proofs/TheTree.antt)
+-- with the table written, and its trials: 11 where the start motif does not derive the picture, and else the derivation given, with the slice beyond as it was;
+-- `tree` computes it: read `Given` of Given.antt for it, since they are the same (`tree-given` in proofs/TheTree.antt)
 unfoldable pub judged : Contents → Picture → List ℕ → List ℕ → Derivation
 judged b p entries numbers =
     pick (derives? b (b .start) p)
-    (record { answer = plain 0; entries = entries; numbers = tree b p ++ drop (length (tree b p)) numbers })
-    (leaving (plain 11) entries numbers)
+    (record { answer = plain 0; trials = trialsNeeded b p; entries = entries; numbers = tree b p ++ drop (length (tree b p)) numbers })
+    (record { answer = plain 11; trials = trialsNeeded b p; entries = entries; numbers = numbers })
 
 -- 9 where the work slice is too short, 10 where the tree slice is
 unfoldable pub roomed : Contents → Picture → List ℕ → List ℕ → Derivation
@@ -61,16 +69,19 @@ unfoldable pub derivation : ℕ → List ℕ → List ℕ → List ℕ → List 
 derivation press book sheet entries numbers =
     lentBoth press book sheet (λ a. leaving a entries numbers) (λ b p. roomed b p entries numbers)
 
--- what a caller is told of the answer, and both slices as the call leaves them, are those of a derivation
-pub record Left {A : Type 0} (told : Answer → A) (d : Derivation) (r : A) (entries numbers : List ℕ) : Type 0 where
-  pub answers : r ≡ told (d .answer)
+-- what a caller is told of the answer and the trials, and both slices as the call leaves them, are those of a derivation
+pub record Left {A : Type 0} (told : Answer → ℕ → A) (d : Derivation) (r : A) (entries numbers : List ℕ) : Type 0 where
+  pub answers : r ≡ told (d .answer) (d .trials)
   pub leaves-work : entries ≡ d .entries
   pub leaves-tree : numbers ≡ d .numbers
 
--- told as it is, ...
-abbrev pub Leaves : Derivation → Answer → List ℕ → List ℕ → Type 0
-Leaves d r entries numbers = Left (λ a. a) d r entries numbers
+-- told as they are, ...
+abbrev pub telling : Answer → ℕ → Derived
+telling a n = record { answer = a; trials = n }
 
--- ... or packed into one number for the C host, with 0 for the count
+abbrev pub Leaves : Derivation → Derived → List ℕ → List ℕ → Type 0
+Leaves d r entries numbers = Left telling d r entries numbers
+
+-- ... or packed into one number for the C host, with the trials for the count
 abbrev pub LeavesPacked : Derivation → ℕ → List ℕ → List ℕ → Type 0
-LeavesPacked d r entries numbers = Left (λ a. packed a 0) d r entries numbers
+LeavesPacked d r entries numbers = Left packed d r entries numbers

@@ -7,6 +7,7 @@ pub mod View
 pub mod Given
 pub mod Choice
 pub mod Tree
+pub mod Trials
 pub mod Derivation
 pub mod Masks
 pub mod Firing

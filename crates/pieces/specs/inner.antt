@@ -5,6 +5,7 @@ pub mod PartsOf
 pub mod Fitted
 pub mod Tried
 pub mod Course
+pub mod Tally
 pub mod Along
 pub mod Small
 pub mod ForTable

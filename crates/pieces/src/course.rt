@@ -6,14 +6,14 @@ ghost use Rattle.books.specs.declared.rule.Dir.the-variants.{Across as across, 
 ghost use Rattle.pieces.specs.inner.Room.{Slotted};
 ghost use Rattle.pieces.specs.inner.Course.{step, Steps, courseOf};
 
-// The first part's slot rises, each time by less, and the second part's falls, each time by more; both steps change by one number.
-// `second` is a cut behind: before the first cut it is the slot of the whole piece.
+// The first part's slot rises, each time by less, and the second part's falls, each time by as much more, so that the two steps together are the same at
+// every cut. `second` is a cut behind: before the first cut it is the slot of the whole piece.
 pub(crate) struct Course {
     pub(crate) cuts: usize,
     pub(crate) first: usize,
     pub(crate) rise: usize,
     pub(crate) second: usize,
-    pub(crate) fall: usize,
+    pub(crate) both: usize,
     pub(crate) change: usize,
 }
 
@@ -26,8 +26,8 @@ pub(crate) fn next_cut(c: Course) -> Course
         cuts: c.cuts,
         first: c.first + c.rise,
         rise: c.rise - c.change,
-        second: c.second - c.fall,
-        fall: c.fall + c.change,
+        second: c.second + c.rise - c.both,
+        both: c.both,
         change: c.change,
     }
 }
@@ -48,12 +48,14 @@ pub(crate) fn across_course(m: usize, n: usize, p: Piece, slot: usize) -> Course
             left: p.left,
         },
     );
+    let rise = piece::times(n, places) - p.top;
+    let fall = piece::times(n + 2 - p.width, places) - (p.top + 1);
     Course {
         cuts: p.width - 1,
         first: first,
-        rise: piece::times(n, places) - p.top,
+        rise: rise,
         second: slot,
-        fall: piece::times(n + 2 - p.width, places) - (p.top + 1),
+        both: rise + fall,
         change: places,
     }
 }
@@ -74,12 +76,14 @@ pub(crate) fn down_course(m: usize, n: usize, p: Piece, slot: usize) -> Course
             left: p.left,
         },
     );
+    let rise = piece::times(m, all) - piece::stretches_of(n, p.width - 1);
+    let fall = piece::times(m + 2 - p.height, all) - piece::stretches_of(n, p.width);
     Course {
         cuts: p.height - 1,
         first: first,
-        rise: piece::times(m, all) - piece::stretches_of(n, p.width - 1),
+        rise: rise,
         second: slot,
-        fall: piece::times(m + 2 - p.height, all) - piece::stretches_of(n, p.width),
+        both: rise + fall,
         change: all,
     }
 }

@@ -11,6 +11,7 @@ ghost use Rattle.books.specs.RuleBytes.{ruleIn, rulesIn};
 ghost use Rattle.pieces.specs.Masks.{headsFrom, allMasks, masked, putAt, putBody, splitOf};
 ghost use Rattle.pieces.specs.Firing.{firing, fitting, fireOf, paintedOf};
 ghost use Rattle.pieces.specs.inner.Along.{allFired};
+ghost use Rattle.pieces.specs.inner.Tally.{joined};
 ghost use Rattle.pieces.specs.inner.Small.{Small, SmallRules};
 
 // The masks stand in one row of numbers: three rows for the joins, their first parts, second parts and heads, in each of which the across joins stand from the
@@ -29,6 +30,12 @@ pub const ALL_MASKS: usize = PAINTERS_FROM + COLOUR_MASKS;
 pub struct Joins {
     pub across: usize,
     pub down: usize,
+}
+
+// The heads of the joins that fire, and how many trials it took to find them: one a join at each cut.
+pub(crate) struct Joined {
+    pub(crate) heads: u32,
+    pub(crate) trials: usize,
 }
 
 // The mask of one motif.
@@ -103,10 +110,10 @@ fn fired(l: u32, r: u32, first: u32, second: u32, head: u32) -> u32
     head
 }
 
-// Every join of one direction at one cut: no branch on the kind of a rule, so that the loop can run on several joins at a time.
-pub(crate) fn join(masks: &[u32], count: usize, l: u32, r: u32) -> u32
+// Every join of one direction at one cut, a turn each: no branch on the kind of a rule, so that the loop can run on several joins at a time.
+pub(crate) fn join(masks: &[u32], count: usize, l: u32, r: u32) -> Joined
     requires { ⌜ headsFrom + count ≤ length (now masks) ⌝ }
-    ensures { λ x. ⌜ x ≡ allFired (now (masks .entry)) count l r ⌝ }
+    ensures { λ x. ⌜ x ≡ joined (allFired (now (masks .entry)) count l r) count ⌝ }
 {
     let mut found = 0u32;
     let mut i = 0;
@@ -120,7 +127,10 @@ pub(crate) fn join(masks: &[u32], count: usize, l: u32, r: u32) -> u32
         );
         i += 1;
     }
-    found
+    Joined {
+        heads: found,
+        trials: i,
+    }
 }
 
 // Whether masks of this number, with so many joins, can be a book's.
@@ -143,11 +153,11 @@ pub fn fire(masks: &[u32], joins: Joins, d: Dir, l: u32, r: u32) -> u32
     if fits(masks.len(), joins) {
         match d {
             Dir::Across => {
-                return join(masks, joins.across, l, r);
+                return join(masks, joins.across, l, r).heads;
             }
             Dir::Down => {
                 let from = MOST_RULES - joins.down;
-                return join(&masks[from..], joins.down, l, r);
+                return join(&masks[from..], joins.down, l, r).heads;
             }
         }
     }

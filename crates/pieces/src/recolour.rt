@@ -132,7 +132,7 @@ fn due(
     if p.height + p.width == 2 {
         return paint;
     }
-    table::entry_of(work, masks, joins, size, p, slot)
+    table::entry_of(work, masks, joins, size, p, slot, 0).heads
 }
 
 // The entries of the pieces that have a cell, made anew.

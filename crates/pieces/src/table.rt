@@ -1,43 +1,51 @@
-// The table is filled by slots rising: the parts of a piece have smaller slots than the piece.
+// The table is filled by slots rising: the parts of a piece have smaller slots than the piece. The loops count the trials that they make.
 use crate::cells;
 use crate::course;
 use crate::course::Course;
 use crate::masks;
+use crate::masks::Joined;
 use crate::masks::Joins;
 use crate::piece;
 use crate::piece::Piece;
 use books::rule::MOST_RULES;
 use books::size::Size;
 ghost use mathlib.Core.Path.{_≡_};
-ghost use Prim.Native.Nat.{_+_, _*_, _≤_};
+ghost use Prim.Native.Nat.{_+_, _*_, _^_, _≤_, _<_};
 ghost use lib.ListN.{length};
 ghost use Rattle.pieces.specs.Masks.{headsFrom};
 ghost use Rattle.pieces.specs.Firing.{joinsFired};
 ghost use Rattle.pieces.specs.Filling.{entryOf, joinedBy, filledBy};
 ghost use Rattle.pieces.specs.inner.Room.{Slotted};
 ghost use Rattle.pieces.specs.inner.Course.{Runs};
-ghost use Rattle.pieces.specs.inner.Along.{along};
+ghost use Rattle.pieces.specs.inner.Along.{alsoAlong};
+ghost use Rattle.pieces.specs.inner.Tally.{joined, triedAt, triedBy};
 ghost use Rattle.pieces.specs.inner.ForTable.{TableDue, Paintable};
 
-// Every join of one direction at every cut of a piece.
-fn join_along(work: &[u32], masks: &[u32], count: usize, course: Course) -> u32
-    requires { ⌜ Runs (length (now work)) course × (headsFrom + count ≤ length (now masks)) ⌝ }
-    ensures { λ x. ⌜ x ≡ along (now (work .entry)) (now (masks .entry)) count course ⌝ }
+// Every join of one direction at every cut of a piece, beside what was found of it before.
+fn join_along(work: &[u32], masks: &[u32], count: usize, course: Course, before: Joined) -> Joined
+    requires { ⌜ Runs (length (now work)) course × (headsFrom + count ≤ length (now masks)) × (before .trials + course .cuts * count < 2 ^ 32) ⌝ }
+    ensures { λ x. ⌜ x ≡ alsoAlong (now (work .entry)) (now (masks .entry)) count course before ⌝ }
 {
-    let mut found = 0u32;
+    let mut found = before.heads;
+    let mut trials = before.trials;
     let mut c = course;
     let mut ahead = course.cuts;
     while ahead > 0 {
         let a = c.first;
         c = course::next_cut(c);
         let b = c.second;
-        found |= masks::join(masks, count, work[a], work[b]);
+        let j = masks::join(masks, count, work[a], work[b]);
+        found |= j.heads;
+        trials += j.trials;
         ahead -= 1;
     }
-    found
+    Joined {
+        heads: found,
+        trials,
+    }
 }
 
-// The entry of a piece of more than one cell, from the entries of its parts.
+// The entry of a piece of more than one cell, from the entries of its parts; its trials are added to those before.
 pub(crate) fn entry_of(
     work: &[u32],
     masks: &[u32],
@@ -45,30 +53,34 @@ pub(crate) fn entry_of(
     size: Size,
     p: Piece,
     slot: usize,
-) -> u32
-    requires { ⌜ TableDue size (now work) (length (now masks)) joins × Slotted (size .rows) (size .cols) p slot ⌝ }
-    ensures { λ x. ⌜ x ≡ entryOf (joinsFired (now (masks .entry)) joins) (size .rows) (size .cols) (now (work .entry)) p ⌝ }
+    trials: usize,
+) -> Joined
+    requires { ⌜ TableDue size (now work) (length (now masks)) joins × Slotted (size .rows) (size .cols) p slot × (trials + triedAt joins p < 2 ^ 32) ⌝ }
+    ensures { λ x. ⌜ x ≡ joined (entryOf (joinsFired (now (masks .entry)) joins) (size .rows) (size .cols) (now (work .entry)) p)
+        (trials + triedAt joins p) ⌝ }
 {
     let from = MOST_RULES - joins.down;
-    let a = join_along(
-        work,
-        masks,
-        joins.across,
-        course::across_course(size.rows, size.cols, p, slot),
-    );
     let d = join_along(
         work,
         &masks[from..],
         joins.down,
         course::down_course(size.rows, size.cols, p, slot),
+        Joined { heads: 0, trials },
     );
-    a | d
+    join_along(
+        work,
+        masks,
+        joins.across,
+        course::across_course(size.rows, size.cols, p, slot),
+        d,
+    )
 }
 
-// Every entry of a table that begins with those of the cells.
-fn fill(work: &mut [u32], masks: &[u32], joins: Joins, size: Size)
+// Every entry of a table that begins with those of the cells. Answers the number of trials.
+fn fill(work: &mut [u32], masks: &[u32], joins: Joins, size: Size) -> usize
     requires { ⌜ TableDue size (now work) (length (now masks)) joins ⌝ }
-    ensures { λ _. ⌜ now (work .exit) ≡ joinedBy (joinsFired (now (masks .entry)) joins) (size .rows) (size .cols) (now (work .entry)) ⌝ }
+    ensures { λ r. ⌜ (now (work .exit) ≡ joinedBy (joinsFired (now (masks .entry)) joins) (size .rows) (size .cols) (now (work .entry)))
+        × (r ≡ triedBy joins (size .rows) (size .cols)) ⌝ }
 {
     let m = size.rows;
     let n = size.cols;
@@ -84,19 +96,29 @@ fn fill(work: &mut [u32], masks: &[u32], joins: Joins, size: Size)
         },
     );
     let mut k = piece::times(m, n);
+    let mut trials = 0;
     while k < end {
-        let e = entry_of(work, masks, joins, size, p, k);
-        work[k] = e;
+        let e = entry_of(work, masks, joins, size, p, k, trials);
+        trials = e.trials;
         p = piece::next(m, n, p);
+        work[k] = e.heads;
         k += 1;
     }
+    trials
 }
 
-// The table of a sheet by masks, and by the numbers that the colours of its cells have among them.
-pub(crate) fn fill_from(masks: &[u32], joins: Joins, colours: &[u8], size: Size, work: &mut [u32])
+// The table of a sheet by masks, and by the numbers that the colours of its cells have among them. Answers the number of trials.
+pub(crate) fn fill_from(
+    masks: &[u32],
+    joins: Joins,
+    colours: &[u8],
+    size: Size,
+    work: &mut [u32],
+) -> usize
     requires { ⌜ TableDue size (now work) (length (now masks)) joins × Paintable (now colours) (size .rows * size .cols) ⌝ }
-    ensures { λ _. ⌜ now (work .exit) ≡ filledBy (now (masks .entry)) joins (now (colours .entry)) (size .rows) (size .cols) (now (work .entry)) ⌝ }
+    ensures { λ r. ⌜ (now (work .exit) ≡ filledBy (now (masks .entry)) joins (now (colours .entry)) (size .rows) (size .cols) (now (work .entry)))
+        × (r ≡ triedBy joins (size .rows) (size .cols)) ⌝ }
 {
     cells::paint_cells(masks, colours, piece::times(size.rows, size.cols), work);
-    fill(work, masks, joins, size);
+    fill(work, masks, joins, size)
 }

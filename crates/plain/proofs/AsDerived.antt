@@ -3,7 +3,7 @@ use Prim.Native.Nat.{ℕ, _%_, _^_}
 use mathlib.Core.Path.{_≡_, refl, sym, ap, _∙_}
 use mathlib.Core.List.{List}
 use native.Mathlib.Omega.{arith}
-use Rattle.books.specs.Answer.{plain, packed}
+use Rattle.books.specs.Answer.{answer, plain, packed, Packs, answerIn}
 use Rattle.books.specs.Book.{bookOf}
 use Rattle.books.specs.Derives.{Member}
 use Rattle.books.specs.Lent.{contentsOf, pictureOf, Accepted}
@@ -13,11 +13,16 @@ use Rattle.books.proofs.LentEnds.{blamed-is}
 use Rattle.books.proofs.Packing.{apart}
 use Rattle.books.proofs.ReadingSheets.{sheet-press}
 use Rattle.pieces.specs.Derivation.{Derivation, Roomy, derivation, Leaves, LeavesPacked}
-use Rattle.pieces.proofs.DerivationAnswers.{press-first, book-second, sheet-third}
+use Rattle.pieces.specs.declared.derive.Derived.{Derived}
+use Rattle.pieces.proofs.DerivationAnswers.{press-first, book-second, sheet-third, derivation-packs}
 use Rattle.pieces.proofs.Endings.{derivation-ends}
 use Rattle.plain.specs.Outcome.{plainAnswer}
 use Rattle.plain.proofs.Demand1.{plain-answer-packs}
 use Rattle.plain.proofs.Endings.{plain-ends}
+
+-- what is read off a packed answer is the answer
+read-back : (a : Answer) (count : ℕ) → Packs a count → answerIn (packed a count) ≡ a
+read-back a count packs = let parts = apart a count packs in λ i. answer (parts .number-is i) (parts .blamed-is i) (parts .place-is i)
 
 module _ (press : ℕ) (book sheet entries numbers : List ℕ) (room : Roomy (pictureOf press sheet) entries numbers) where
   abbrev d : Derivation
@@ -55,11 +60,14 @@ module _ (press : ℕ) (book sheet entries numbers : List ℕ) (room : Roomy (pi
   -- ── The theorems ──
 
   -- the two engines answer alike, number, blamed input and place, ...
-  pub plain-as-derive : {a r : Answer} {w t : List ℕ} → a ≡ plainAnswer press book sheet → Leaves d r w t → (a .number ≡ 20 → ⊥) → a ≡ r
-  plain-as-derive e left taken = e ∙ as-derived (λ h. taken (ap (λ (x : Answer). x .number) e ∙ h)) ∙ sym (left .answers)
+  pub plain-as-derive : {a : Answer} {r : Derived} {w t : List ℕ} → a ≡ plainAnswer press book sheet → Leaves d r w t → (a .number ≡ 20 → ⊥) → a ≡ r .answer
+  plain-as-derive e left taken =
+      e ∙ as-derived (λ h. taken (ap (λ (x : Answer). x .number) e ∙ h)) ∙ sym (ap (λ (x : Derived). x .answer) (left .answers))
 
-  -- ... and give the C host the same number
-  pub dv-plain-as-dv-derive : {a r : ℕ} {w t : List ℕ} → a ≡ packed (plainAnswer press book sheet) 0 → LeavesPacked d r w t → (a % 2 ^ 8 ≡ 20 → ⊥) → a ≡ r
+  -- ... and the C host reads the same of both; the count of a derivation is its trials
+  pub dv-plain-as-dv-derive : {a r : ℕ} {w t : List ℕ} → a ≡ packed (plainAnswer press book sheet) 0 → LeavesPacked d r w t → (a % 2 ^ 8 ≡ 20 → ⊥) → answerIn a ≡ answerIn r
   dv-plain-as-dv-derive e left taken =
-      let number = apart (plainAnswer press book sheet) 0 (plain-answer-packs press book sheet) .number-is in
-      e ∙ ap (λ (x : Answer). packed x 0) (as-derived (λ h. taken (ap (λ (n : ℕ). n % 2 ^ 8) e ∙ number ∙ h))) ∙ sym (left .answers)
+      let plainly = read-back (plainAnswer press book sheet) 0 (plain-answer-packs press book sheet) in
+      let derived = read-back (d .answer) (d .trials) (derivation-packs press book sheet entries numbers) in
+      let number = ap (λ (x : Answer). x .number) plainly in
+      ap answerIn e ∙ plainly ∙ as-derived (λ h. taken (ap (λ (n : ℕ). n % 2 ^ 8) e ∙ number ∙ h)) ∙ sym (ap answerIn (left .answers) ∙ derived)

@@ -122,7 +122,7 @@ gets-sized press book r c x =
     let work : List ℕ = replicate (total r c) 0 in
     let tree : List ℕ = replicate (treeSize (whole r c)) 0 in
     let d = derivation press book (x .sheet) work tree in
-    let n = packed (d .answer) 0 in
+    let n = packed (d .answer) (d .trials) in
     let left : LeavesPacked d n (d .entries) (d .numbers) = record { answers = refl; leaves-work = refl; leaves-tree = refl } in
     let long : total r c ≤ length work = omega (arith, length-replicate {A = ℕ} (total r c) 0) in
     let enough : treeSize (whole r c) ≤ length tree = omega (arith, length-replicate {A = ℕ} (treeSize (whole r c)) 0) in

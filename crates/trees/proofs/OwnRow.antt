@@ -9,6 +9,7 @@ use Rattle.books.specs.Derives.{Member}
 use Rattle.books.specs.Lent.{contentsOf, pictureOf, Accepted}
 use Rattle.books.specs.declared.answer.Answer.{Answer}
 use Rattle.pieces.specs.Derivation.{derivation, numbersNeeded, Roomy, Leaves, LeavesPacked}
+use Rattle.pieces.specs.declared.derive.Derived.{Derived}
 use Rattle.pieces.proofs.Demand2.{derived-accepted}
 use Rattle.pieces.proofs.Demand2Numbers.{derive-numbers, dv-derive-numbers}
 use Rattle.pieces.proofs.TheTree.{given-length}
@@ -36,7 +37,7 @@ module _ (press : ℕ) (book sheet work tree work-left tree-left : List ℕ) whe
 
   -- ── The theorems ──
 
-  pub own-tree-accepted : {r : Answer} → Leaves (derivation press book sheet work tree) r work-left tree-left → r .number ≡ 0
+  pub own-tree-accepted : {r : Derived} → Leaves (derivation press book sheet work tree) r work-left tree-left → r .answer .number ≡ 0
       → (q : Answer) → q ≡ treeAnswer press book sheet written → q ≡ plain 0
   own-tree-accepted left zero q e =
       let (fine, room, member) = derive-numbers press book sheet work tree left .zero .0 zero in

@@ -11,7 +11,8 @@ static uint64_t ask_derive(const struct engine *engine, const struct loan *loan)
 uint64_t compare_derive(size_t press, const struct bytes *book, const struct bytes *sheet, size_t work_len,
                         size_t tree_len)
 {
-    return answered_by_both((struct call){.name = "dv_derive",
+    return UINT32_MAX &
+           answered_by_both((struct call){.name = "dv_derive",
                                           .ask = ask_derive,
                                           .press = press,
                                           .input = {all_of(book), all_of(sheet)},

@@ -56,11 +56,17 @@ int main(void)
         expect(dv_work_entries(0, side) == 0 && dv_work_entries(side, 0) == 0 && dv_tree_entries(0, side) == 0 &&
                    dv_tree_entries(side, 0) == 0,
                "a sheet with no cell has entries");
+    for (size_t side = 0; side <= DV_WIDE_MOST_ROWS; side++)
+        expect(dv_trials(1, 1, 0, side) == 0 && dv_trials(1, 1, side, 0) == 0, "a sheet with no cell takes trials");
+    expect(dv_trials(1, 1, 1, 1) == 0 && dv_trials(1, 0, 2, 3) == 12 && dv_trials(0, 1, 2, 3) == 6, "trials of sheet A");
+    expect(dv_trials(DV_MOST_RULES, 0, DV_MOST_ROWS, DV_MOST_COLUMNS) == 4461600 &&
+               dv_trials(DV_MOST_RULES, 0, DV_WIDE_MOST_ROWS, DV_WIDE_MOST_COLUMNS) == 138000000,
+           "the most trials");
     for (unsigned one = DV_ACCEPTED; one <= DV_NO_SUCH_PRESS; one++)
         for (unsigned other = DV_ACCEPTED; other < one; other++)
             expect(strcmp(dv_text(one), dv_text(other)) != 0 || strcmp(dv_text(one), dv_text(255)) == 0,
                    "two answers have one text");
     expect(strcmp(dv_text(14), dv_text(255)) == 0, "14 has the text of an answer");
-    printf("helpers: the greatest sizes of each press, no cell, the layout of a node, a text for each answer\n");
+    printf("helpers: the greatest sizes of each press, no cell, trials, the layout of a node, a text for each answer\n");
     return 0;
 }

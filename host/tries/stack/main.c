@@ -153,7 +153,7 @@ static void measure_deepest(bool long_first)
     spell_all(&family, &family, &grid);
     measure();
     derive();
-    if (answer != 0 || tree[1] != (long_first ? grid.columns - 1 : 1)) {
+    if (dv_number(answer) != DV_ACCEPTED || tree[1] != (long_first ? grid.columns - 1 : 1)) {
         fprintf(stderr, "stack: the deepest derivation is not the one meant\n");
         exit(1);
     }

@@ -20,7 +20,7 @@ slice-aggregate-derive-2 c =
 
 slice-aggregate-nodes : tie.Need-slice-aggregate-nodes
 slice-aggregate-nodes c =
-    let asked = c .before .before .before .before .before .before .before .before .before .before in
+    let asked = c .before .before .before .before .before .before .before .before .before .before .before in
     let l = asked .before .before .before .load2 in
     sym (length-take-le (l .result) (l .last .1 .0) (omega (arith, l .ensures, l .kept .1 .0)))
 

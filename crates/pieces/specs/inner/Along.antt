@@ -1,13 +1,16 @@
 -- What the joins of one direction give at the cuts of a course over a table, read one after the other.
-use Prim.Native.Nat.{ℕ, _-_}
+use Prim.Native.Nat.{ℕ, _+_, _-_, _*_}
 use mathlib.Core.List.{List}
+use lib.Bits.{bitOr}
 use lib.ListN.{getD, drop}
 use Rattle.books.specs.declared.rule.Dir.{Dir}
 use Rattle.books.specs.declared.rule.Dir.the-variants.{Across as across, Down as down}
 use Rattle.books.specs.Keeps.{mostRules}
 use Rattle.pieces.specs.Firing.{gathered, firedAt}
 use Rattle.pieces.specs.inner.Course.{step, after}
+use Rattle.pieces.specs.inner.Tally.{joined}
 use Rattle.pieces.specs.declared.course.Course.{Course}
+use Rattle.pieces.specs.declared.masks.Joined.{Joined}
 use Rattle.pieces.specs.declared.masks.Joins.{Joins}
 
 -- the first so many joins of the rows at one cut
@@ -25,3 +28,7 @@ atCut t masks count c k = allFired masks count (getD t (after k c .first) 0) (ge
 
 unfoldable pub along : List ℕ → List ℕ → ℕ → Course → ℕ
 along t masks count c = gathered (c .cuts) (atCut t masks count c)
+
+-- the same beside what was found before, with a trial for each join at each cut
+abbrev pub alsoAlong : List ℕ → List ℕ → ℕ → Course → Joined → Joined
+alsoAlong t masks count c before = joined (bitOr (before .heads) (along t masks count c)) (before .trials + c .cuts * count)

@@ -14,8 +14,8 @@ step c =
       cuts = c .cuts;
       first = c .first + c .rise;
       rise = c .rise - c .change;
-      second = c .second - c .fall;
-      fall = c .fall + c .change;
+      second = c .second + c .rise - c .both;
+      both = c .both;
       change = c .change;
     }
 
@@ -27,8 +27,8 @@ after (suc k) c = step (after k c)
 pub record Steps (c : Course) : Type 0 where
   pub climbs : c .first + c .rise < 2 ^ 32
   pub slows : c .change ≤ c .rise
-  pub sinks : c .fall ≤ c .second
-  pub hastens : c .fall + c .change < 2 ^ 32
+  pub lifts : c .second + c .rise < 2 ^ 32
+  pub sinks : c .both ≤ c .second + c .rise
 
 -- a course that stays in a table of so many entries
 abbrev pub Runs : ℕ → Course → Type 0
@@ -54,14 +54,21 @@ abbrev pub shorter : Dir → ℕ → Piece → ℕ
 shorter across n p = p .top + 1
 shorter down n p = stretches n (p .width)
 
--- the course of the cuts of a piece, at its first cut
+-- the steps of the first cut, ...
+abbrev pub firstRise : Dir → ℕ → ℕ → Piece → ℕ
+firstRise d m n p = cells d m n * change d m n p - short d n p
+
+abbrev pub firstFall : Dir → ℕ → ℕ → Piece → ℕ
+firstFall d m n p = (cells d m n + 2 - reach d p) * change d m n p - shorter d n p
+
+-- ... and the course of the cuts of a piece, as it begins
 unfoldable pub courseOf : Dir → ℕ → ℕ → Piece → Course
 courseOf d m n p =
     record {
       cuts = reach d p - 1;
       first = slotOf m n (firstPart d 1 p);
-      rise = cells d m n * change d m n p - short d n p;
+      rise = firstRise d m n p;
       second = slotOf m n p;
-      fall = (cells d m n + 2 - reach d p) * change d m n p - shorter d n p;
+      both = firstRise d m n p + firstFall d m n p;
       change = change d m n p;
     }

@@ -69,7 +69,7 @@ returns-3 c =
       le-ltb (length (now (a .work))) (total (a .s .size .rows) (a .s .size .cols)) (enough t),
       sym (t .fits2 .ensures) ∙ w .before .before .before .if3 .taken,
     )
-    (ap (judgedBy (a .s .size .rows) (a .s .size .cols) (a .start)) (w .fill-from .ensures))
+    (ap (judgedBy (a .s .size .rows) (a .s .size .cols) (a .start)) (w .fill-from .ensures .0))
 
 returns-4 : tie.Need-returns-4
 unfolding toldBy

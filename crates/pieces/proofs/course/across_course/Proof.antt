@@ -13,25 +13,25 @@ abbrev stepped : tie.After-times2 → tie.After-times
 stepped t = t .before .before .before
 
 abbrev slotted : tie.After-times → tie.After-slot
-slotted t = t .before .before
+slotted t = t .before
 
 abbrev began : tie.After-slot → tie.Start
 began t = t .before .before
 
-sub-t10 : tie.Need-sub-t10
-sub-t10 c =
+sub-rise : tie.Need-sub-rise
+sub-rise c =
     let t = c .before in
     let s = began (slotted t) in
     omega (arith, t .times .ensures .0, rise-begins across (s .pre .inside) (s .pre .inside .wide))
 
-sub-t15 : tie.Need-sub-t15
-sub-t15 c =
+sub-fall : tie.Need-sub-fall
+sub-fall c =
     let t = c .before in
     omega (arith, t .times2 .ensures .0, fall-begins across (began (slotted (stepped t)) .pre .inside))
 
 returns : tie.Need-returns
 returns c =
-    let u = c .before in
+    let u = c .before .before in
     let t = stepped u in
     let first = slotted t in
     let s = began first in
@@ -46,12 +46,13 @@ across-course-spec =
     (λ c. search needs)
     (λ c. search needs)
     (λ c κs. search needs)
+    (λ c κs. search needs)
+    sub-rise
+    (λ c. search needs)
     (λ c. search needs)
     (λ c κs. search needs)
-    sub-t10
+    (λ c. search needs)
+    sub-fall
     (λ c. search needs)
     (λ c. search needs)
-    (λ c κs. search needs)
-    (λ c. search needs)
-    sub-t15
     returns)

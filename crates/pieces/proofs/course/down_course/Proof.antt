@@ -13,17 +13,17 @@ abbrev stepped : tie.After-stretches-of3 → tie.After-stretches-of2
 stepped c = c .before .before .before
 
 abbrev measured : tie.After-stretches-of2 → tie.After-stretches-of
-measured c = c .before .before .before .before .before
+measured c = c .before .before .before .before
 
-sub-t12 : tie.Need-sub-t12
-sub-t12 c =
+sub-rise : tie.Need-sub-rise
+sub-rise c =
     let all = measured c in
     let s = all .before in
     let rows = ap (λ (x : ℕ). s .args .m * x) (all .stretches-of .ensures .0) in
     omega (arith, c .before .before .times .ensures .0, rows, c .stretches-of2 .ensures .0, rise-begins down (s .pre .inside) (s .pre .inside .tall))
 
-sub-t17 : tie.Need-sub-t17
-sub-t17 c =
+sub-fall : tie.Need-sub-fall
+sub-fall c =
     let all = measured (stepped c) in
     let s = all .before in
     let rows = ap (λ (x : ℕ). (s .args .m + 2 - s .args .p .height) * x) (all .stretches-of .ensures .0) in
@@ -31,14 +31,15 @@ sub-t17 c =
 
 returns : tie.Need-returns
 returns c =
-    let u = stepped c in
+    let v = c .before in
+    let u = stepped v in
     let s = measured u .before in
     let all = measured u .stretches-of .ensures .0 in
-    let first = u .before .before .before .before .slot .ensures .0 in
+    let first = u .before .before .before .slot .ensures .0 in
     let rise = u .before .before .times .ensures .0 ∙ ap (λ (x : ℕ). s .args .m * x) all in
-    let fall = c .before .times2 .ensures .0 ∙ ap (λ (x : ℕ). (s .args .m + 2 - s .args .p .height) * x) all in
+    let fall = v .before .times2 .ensures .0 ∙ ap (λ (x : ℕ). (s .args .m + 2 - s .args .p .height) * x) all in
     course-made down _ _ _ first (ap₂ (λ (x y : ℕ). x - y) rise (u .stretches-of2 .ensures .0)) (s .pre .slot-is)
-    (ap₂ (λ (x y : ℕ). x - y) fall (c .stretches-of3 .ensures .0)) all
+    (ap₂ (λ (x y : ℕ). x - y) fall (v .stretches-of3 .ensures .0)) all
 
 pub down-course-spec : {M : Type 1} → statement M
 down-course-spec =
@@ -46,14 +47,15 @@ down-course-spec =
     (tie.spec
     (λ c κs. search needs)
     (λ c κs. search needs)
-    (λ c. search needs)
     (λ c κs. search needs)
     (λ c. search needs)
     (λ c κs. search needs)
-    sub-t12
+    sub-rise
     (λ c. search needs)
     (λ c. search needs)
     (λ c κs. search needs)
     (λ c κs. search needs)
-    sub-t17
+    sub-fall
+    (λ c. search needs)
+    (λ c. search needs)
     returns)

@@ -1,5 +1,5 @@
 -- 21 is answered where there is no such press, a book or a sheet with a fault is answered with it, slices that are too short with that, and else what the table tells is the answer.
-use mathlib.Core.Path.{_≡_, refl, sym, ap, _∙_}
+use mathlib.Core.Path.{_≡_, refl, sym, ap, ap₂, _∙_}
 use Prim.Native.Nat.{ℕ, _≤_}
 use native.Mathlib.Nat.{le-trans, le-of-eq}
 use native.Mathlib.Omega.{arith}
@@ -11,8 +11,11 @@ use Rattle.names.specs.Bytes.{Bytes}
 use Rattle.books.specs.Answer.{plain}
 use Rattle.books.specs.Press.{IsPress}
 use Rattle.books.specs.Size.{room}
+use Rattle.books.specs.declared.answer.Answer.{Answer}
 use Rattle.books.proofs.LentRules.{rows-held}
 use Rattle.books.proofs.NumberedCells.{fresh-room}
+use Rattle.pieces.specs.Derivation.{telling}
+use Rattle.pieces.specs.declared.derive.Derived.{Derived}
 use Rattle.pieces.specs.inner.ForTable.{Shows}
 use Rattle.pieces.specs.inner.Verdict.{lacking}
 use Rattle.pieces.proofs.AskingSheets.{read-shows}
@@ -75,36 +78,44 @@ nothing : (p : tie.After-split) → let l = tested p in
     lacking (z .rows) (z .cols) (length (now (a .work))) (length (now (a .tree))) ≡ 0
 nothing p = sym (tested p .lack .ensures) ∙ p .before .before .before .if4 .left
 
+-- where no table was written
+untried : {r : Derived} {a b : Answer} → r ≡ telling a 0 → a ≡ b → r ≡ telling b 0
+untried e f = e ∙ ap (λ (a : Answer). telling a 0) f
+
 returns : tie.Need-returns
 returns c =
-    let a = c .before .before .before .before .before .before .args in
-    rw (press-first (a .press) (now (a .book)) (now (a .sheet)) (now (a .work)) (now (a .tree)) (λ h. omega (arith, c .before .if1 .taken)))
-    (record { answers = c .unblamed .ensures; leaves-work = refl; leaves-tree = refl })
+    let f = c .before in
+    let a = f .before .before .before .before .before .before .args in
+    rw (press-first (a .press) (now (a .book)) (now (a .sheet)) (now (a .work)) (now (a .tree)) (λ h. omega (arith, f .before .if1 .taken)))
+    (record { answers = untried (c .untried .ensures) (f .unblamed .ensures); leaves-work = refl; leaves-tree = refl })
 
 returns-2 : tie.Need-returns-2
 returns-2 c =
-    let r = c .before .before .before in
+    let f = c .before in
+    let r = f .before .before .before in
     let a = began r .args in
-    rw (book-blamed (now (a .book)) (r .read-rules .ensures) (a .press) (now (a .sheet)) (now (a .work)) (now (a .tree)) (on-press r) (c .before .if2 .taken))
-    (record { answers = c .blame .ensures; leaves-work = refl; leaves-tree = refl })
+    rw (book-blamed (now (a .book)) (r .read-rules .ensures) (a .press) (now (a .sheet)) (now (a .work)) (now (a .tree)) (on-press r) (f .before .if2 .taken))
+    (record { answers = untried (c .untried2 .ensures) (f .blame .ensures); leaves-work = refl; leaves-tree = refl })
 
 returns-3 : tie.Need-returns-3
 returns-3 c =
-    let n = c .before .before .before in
+    let f = c .before in
+    let n = f .before .before .before in
     let r = book-read n in
     let a = began r .args in
-    rw (sheet-blamed (a .press) (now (a .book)) (now (a .sheet)) (r .read-rules .ensures) (n .number-sheet .ensures) (book-fine n) (now (a .work)) (now (a .tree)) (on-press r) (c .before .if3 .taken))
-    (record { answers = c .blame2 .ensures; leaves-work = refl; leaves-tree = refl })
+    rw (sheet-blamed (a .press) (now (a .book)) (now (a .sheet)) (r .read-rules .ensures) (n .number-sheet .ensures) (book-fine n) (now (a .work)) (now (a .tree)) (on-press r) (f .before .if3 .taken))
+    (record { answers = untried (c .untried3 .ensures) (f .blame2 .ensures); leaves-work = refl; leaves-tree = refl })
 
 returns-4 : tie.Need-returns-4
 returns-4 c =
-    let l = c .before .before in
+    let f = c .before in
+    let l = f .before .before in
     let n = sheet-read l in
     let r = book-read n in
     let a = began r .args in
     let lacks = room-lacks (a .press) (now (a .book)) (now (a .sheet)) (r .read-rules .ensures) (n .number-sheet .ensures) (book-fine n) (now (a .work)) (now (a .tree)) in
-    rw (lacks (l .before .if3 .left) (λ z. c .before .if4 .taken (l .lack .ensures ∙ z)))
-    (record { answers = c .unblamed2 .ensures ∙ ap plain (l .lack .ensures); leaves-work = refl; leaves-tree = refl })
+    rw (lacks (l .before .if3 .left) (λ z. f .before .if4 .taken (l .lack .ensures ∙ z)))
+    (record { answers = untried (c .untried4 .ensures) (f .unblamed2 .ensures ∙ ap plain (l .lack .ensures)); leaves-work = refl; leaves-tree = refl })
 
 split-requires : tie.Need-split-requires
 split-requires c κs =
@@ -141,7 +152,7 @@ judge-requires c κs =
       ready = record { tabled = record { sizes = shows .sizes; entries = long }; cells = shows .painted .all };
       few = rows-small (now (a .book)) (r .read-rules .ensures) (book-fine n) .few;
       room = enough .1;
-      fitted = rw (t .fill-from .ensures) fit;
+      fitted = rw (t .fill-from .ensures .0) fit;
     }
 
 returns-5 : tie.Need-returns-5
@@ -154,22 +165,27 @@ returns-5 c =
     let a = began r .args in
     let is = derived-as (a .press) (now (a .book)) (now (a .sheet)) (r .read-rules .ensures) (n .number-sheet .ensures) (book-fine n) (now (a .work)) (now (a .tree)) (sheet-fine p)
     (book-bytes r) (sheet-bytes r) (nothing p) (p .split .ensures) in
-    let told = rw (t .fill-from .ensures) at (j .judge .ensures) in
-    rw is (record { answers = c .unblamed3 .ensures ∙ ap plain (told .answers); leaves-work = t .fill-from .ensures; leaves-tree = told .leaves })
+    let (table, tried) = t .fill-from .ensures in
+    let told = rw table at (j .judge .ensures) in
+    rw is (record { answers = ap₂ telling (c .unblamed3 .ensures ∙ ap plain (told .answers)) tried; leaves-work = table; leaves-tree = told .leaves })
 
 pub derive-spec : {M : Type 1} → statement M
 derive-spec =
     tie.close
     (tie.spec
     (λ c κs. search needs)
+    (λ c κs. search needs)
     returns
+    (λ c κs. search needs)
     (λ c κs. search needs)
     (λ c κs. search needs)
     returns-2
     (λ c κs. search needs)
     (λ c κs. search needs)
+    (λ c κs. search needs)
     returns-3
     (λ c κs. sheet-shows (c .before .before) (c .if3 .left) .sizes)
+    (λ c κs. search needs)
     (λ c κs. search needs)
     returns-4
     (λ c. held (book-read (sheet-read (c .before))))

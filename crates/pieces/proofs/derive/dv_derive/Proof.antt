@@ -1,4 +1,7 @@
--- The derivation's answer, packed.
+-- The derivation's answer and its trials, packed.
+use mathlib.Core.Path.{ap, _∙_}
+use Rattle.books.specs.Answer.{packed}
+use Rattle.pieces.specs.declared.derive.Derived.{Derived}
 use borrow.Author.Needs.{needs}
 use Rattle.pieces.proofs.derive.dv_derive.Statement.{statement}
 use Rattle.pieces.proofs.derive.dv_derive.Tie as tie
@@ -7,7 +10,7 @@ returns : tie.Need-returns
 returns c =
     let k = c .before .before .before .before .before in
     let left = k .derive .ensures in
-    record { answers = rw (← left .answers) (c .pack .ensures); leaves-work = left .leaves-work; leaves-tree = left .leaves-tree }
+    record { answers = c .pack .ensures ∙ ap (λ (d : Derived). packed (d .answer) (d .trials)) (left .answers); leaves-work = left .leaves-work; leaves-tree = left .leaves-tree }
 
 pub dv-derive-spec : {M : Type 1} → statement M
 dv-derive-spec =

@@ -11,6 +11,7 @@ use Rattle.books.specs.Keeps.{mostRules}
 use Rattle.pieces.specs.Firing.{fireOf}
 use Rattle.pieces.specs.inner.Along.{allFired}
 use Rattle.pieces.specs.inner.ForTable.{MasksFit}
+use Rattle.pieces.specs.declared.masks.Joined.{Joined}
 use Rattle.pieces.proofs.AllCuts.{window-fires, window-long}
 use Rattle.pieces.proofs.ServingMasks.{fitting-fit}
 use borrow.Author.Needs.{needs}
@@ -33,7 +34,7 @@ returns c =
     let t = c .before .before .before in
     let a = began t .args in
     rw (c .before .enum-told .given .1, sym (t .before .fits2 .ensures) ∙ t .if1 .taken)
-    (c .join .ensures ∙ window-fires (now (a .masks)) (a .joins) across (a .l) (a .r) (placed t .down-few))
+    (ap (λ (x : Joined). x .heads) (c .join .ensures) ∙ window-fires (now (a .masks)) (a .joins) across (a .l) (a .r) (placed t .down-few))
 
 sub-from : tie.Need-sub-from
 sub-from c = placed (c .before .before .before) .down-few
@@ -56,7 +57,7 @@ returns-2 c =
     let t = c .before .before .before .before .before in
     let a = began t .args in
     rw (c .before .before .before .enum-told2 .given .1, sym (t .before .fits2 .ensures) ∙ t .if1 .taken)
-    (c .join2 .ensures ∙ ap (λ (w : List ℕ). allFired w (a .joins .down) (a .l) (a .r)) (part-rest (now (a .masks)) (mostRules - a .joins .down))
+    (ap (λ (x : Joined). x .heads) (c .join2 .ensures) ∙ ap (λ (w : List ℕ). allFired w (a .joins .down) (a .l) (a .r)) (part-rest (now (a .masks)) (mostRules - a .joins .down))
     ∙ window-fires (now (a .masks)) (a .joins) down (a .l) (a .r) (placed t .down-few))
 
 returns-3 : tie.Need-returns-3

@@ -1,10 +1,11 @@
--- After i turns the joins before the i-th are gathered.
-use mathlib.Core.Path.{_≡_, sym, ap₂, _∙_}
-use Prim.Native.Nat.{_-_, _≤_}
+-- After i turns the joins before the i-th are gathered, by i trials.
+use mathlib.Core.Path.{_≡_, sym, ap, ap₂, _∙_}
+use Prim.Native.Nat.{ℕ, _-_, _≤_}
 use native.Mathlib.Omega.{arith}
 use lib.Bits.{bitOr}
 use Rattle.pieces.specs.Firing.{gathered}
 use Rattle.pieces.specs.inner.Along.{allFired}
+use Rattle.pieces.specs.inner.Tally.{joined}
 use Rattle.pieces.proofs.Gathered.{gathered-next}
 use borrow.Author.Needs.{needs}
 use Rattle.pieces.proofs.masks.join.Statement.{statement}
@@ -28,8 +29,9 @@ loop-again c =
 
 returns : tie.Need-returns Inv-loop μ-loop
 returns c =
-    let e : c .before .loop .i ≡ c .before .before .before .args .count = omega arith in
-    rw (← e) (c .before .loop .inv .1)
+    let a = c .before .before .before .args in
+    let e : c .before .loop .i ≡ a .count = omega arith in
+    ap₂ joined (c .before .loop .inv .1 ∙ ap (λ (k : ℕ). allFired (a .masks .now) k (a .l) (a .r)) e) e
 
 pub join-spec : {M : Type 1} → statement M
 join-spec =

@@ -1,7 +1,11 @@
 -- One row and one column make a cell.
 use Prim.Native.Nat.{_+_}
+use mathlib.Core.Path.{ap}
+use native.Mathlib.Omega.{arith}
 use borrow.Author.Tests.{eq-eqb, ne-eqb}
 use Rattle.pieces.specs.inner.Refill.{dueBy}
+use Rattle.pieces.specs.declared.masks.Joined.{Joined}
+use Rattle.pieces.proofs.AllCuts.{few-tried}
 use borrow.Author.Needs.{needs}
 use Rattle.pieces.proofs.recolour.due.Statement.{statement}
 use Rattle.pieces.proofs.recolour.due.Tie as tie
@@ -14,7 +18,13 @@ returns-2 : tie.Need-returns-2
 unfolding dueBy
 returns-2 c =
     let p = c .before .before .before .before .before .args .p in
-    rw (ne-eqb (p .height + p .width) 2 (c .before .if1 .left)) (c .entry-of .ensures)
+    rw (ne-eqb (p .height + p .width) 2 (c .before .if1 .left)) (ap (λ (x : Joined). x .heads) (c .entry-of .ensures))
+
+entry-of-requires : tie.Need-entry-of-requires
+entry-of-requires c κs =
+    let s = c .before .before .before .before in
+    let (due, here) = s .pre in
+    (due, here, omega (arith, few-tried _ (s .args .joins) _ _ (s .args .p) (due .fit) (due .tabled .sizes) (here .inside)))
 
 pub due-spec : {M : Type 1} → statement M
-due-spec = tie.close (tie.spec (λ c. search needs) returns (λ c κs. search needs) returns-2)
+due-spec = tie.close (tie.spec (λ c. search needs) returns entry-of-requires returns-2)

@@ -1,67 +1,82 @@
 -- Along the two courses are all cuts of the piece.
-use mathlib.Core.Path.{ap, ap₂, _∙_}
-use mathlib.Core.List.{List}
-use Prim.Native.Nat.{ℕ, _-_}
-use lib.Bits.{bitOr}
+use mathlib.Core.Path.{_≡_, ap, _∙_}
+use Prim.Native.Nat.{_-_}
+use native.Mathlib.Omega.{arith}
 use Rattle.names.proofs.Count.{part-rest}
 use Rattle.books.specs.declared.rule.Dir.the-variants.{Across as across, Down as down}
 use Rattle.books.specs.Keeps.{mostRules}
-use Rattle.pieces.specs.inner.Along.{along}
-use Rattle.pieces.specs.declared.course.Course.{Course}
-use Rattle.pieces.proofs.AllCuts.{window-long, along-cuts}
+use Rattle.pieces.specs.inner.Along.{window, alsoAlong}
+use Rattle.pieces.specs.inner.Course.{courseOf}
+use Rattle.pieces.specs.inner.Tally.{joined}
+use Rattle.pieces.specs.declared.masks.Joined.{Joined}
+use Rattle.pieces.proofs.AllCuts.{window-long, cuts-tried, both-along}
 use Rattle.pieces.proofs.Courses.{course-runs}
 use borrow.Author.Needs.{needs}
 use Rattle.pieces.proofs.table.entry_of.Statement.{statement}
 use Rattle.pieces.proofs.table.entry_of.Tie as tie
 
 -- From a course back to the one before it, and to where the function began.
-abbrev first : tie.After-down-course → tie.After-across-course
-first t = t .before .before .before
+abbrev first : tie.After-across-course → tie.After-join-along
+first t = t .before
 
-abbrev began : tie.After-across-course → tie.Start
-began t = t .before .before .before .before
+abbrev began : tie.After-down-course → tie.Start
+began t = t .before .before .before .before .before
+
+-- what is found down
+down-joined : (t : tie.After-join-along) → let a = began (t .before) .args in
+    t .join-along .result
+    ≡ alsoAlong (a .work .now) (window (a .masks .now) (a .joins) down) (a .joins .down) (courseOf down (a .size .rows) (a .size .cols) (a .p)) (joined 0 (a .trials))
+down-joined t =
+    let a = began (t .before) .args in
+    t .join-along .ensures
+    ∙ (λ i. alsoAlong (a .work .now) (part-rest (a .masks .now) (mostRules - a .joins .down) i) (a .joins .down) (t .before .down-course .ensures i) (joined 0 (a .trials)))
 
 join-along-requires : tie.Need-join-along-requires
 join-along-requires c κs =
     let s = began c in
-    let (due, here) = s .pre in
-    (rw (c .across-course .ensures) (course-runs across _ _ _ _ (due .tabled .sizes) (here .inside) (due .tabled .entries)), window-long (s .args .masks .now) (s .args .joins) across (due .fit))
+    let (due, here, room) = s .pre in
+    rw (c .down-course .ensures) (
+      course-runs down _ _ _ _ (due .tabled .sizes) (here .inside) (due .tabled .entries),
+      rw (part-rest (s .args .masks .now) (mostRules - s .args .joins .down)) (window-long (s .args .masks .now) (s .args .joins) down (due .fit)),
+      omega (arith, room, cuts-tried (s .args .joins) (s .args .size .rows) (s .args .size .cols) (s .args .p)),
+    )
 
 join-along-requires-2 : tie.Need-join-along-requires-2
 join-along-requires-2 c κs =
-    let s = began (first c) in
-    let (due, here) = s .pre in (
-      rw (c .down-course .ensures) (course-runs down _ _ _ _ (due .tabled .sizes) (here .inside) (due .tabled .entries)),
-      rw (part-rest (s .args .masks .now) (mostRules - s .args .joins .down)) (window-long (s .args .masks .now) (s .args .joins) down (due .fit)),
+    let t = first c in
+    let s = began (t .before) in
+    let (due, here, room) = s .pre in
+    let made = ap (λ (x : Joined). x .trials) (down-joined t) in
+    rw (c .across-course .ensures) (
+      course-runs across _ _ _ _ (due .tabled .sizes) (here .inside) (due .tabled .entries),
+      window-long (s .args .masks .now) (s .args .joins) across (due .fit),
+      omega (arith, made, room, cuts-tried (s .args .joins) (s .args .size .rows) (s .args .size .cols) (s .args .p)),
     )
 
 returns : tie.Need-returns
 returns c =
     let d = c .before in
-    let a = first d in
-    let s = began a in
-    let (due, here) = s .pre in
+    let t = first d in
+    let s = began (t .before) in
+    let (due, here, _) = s .pre in
     let masks = s .args .masks .now in
     let joins = s .args .joins in
     let w = s .args .work .now in
-    ap₂ bitOr
-    (c .before .before .before .join-along .ensures ∙ ap (λ (x : Course). along w masks (joins .across) x) (a .across-course .ensures)
-    ∙ along-cuts masks joins _ _ w across (s .args .p) (due .fit .down-few) (here .inside))
-    (c .join-along2 .ensures
-    ∙ ap₂ (λ (part : List ℕ) (x : Course). along w part (joins .down) x) (part-rest masks (mostRules - joins .down)) (d .down-course .ensures)
-    ∙ along-cuts masks joins _ _ w down (s .args .p) (due .fit .down-few) (here .inside))
+    c .join-along2 .ensures
+    ∙ (λ i. alsoAlong w masks (joins .across) (d .across-course .ensures i) (down-joined t i))
+    ∙ both-along masks joins _ _ w (s .args .p) (s .args .trials) (due .fit .down-few) (here .inside)
 
 pub entry-of-spec : {M : Type 1} → statement M
 entry-of-spec =
     tie.close
     (tie.spec
     (λ c. search needs)
+    (λ c. search needs)
+    (λ c. search needs)
+    (λ c. search needs)
+    (λ c. search needs)
     (λ c κs. search needs)
     join-along-requires
-    (λ c. search needs)
-    (λ c. search needs)
-    (λ c. search needs)
-    (λ c. search needs)
     (λ c κs. search needs)
     join-along-requires-2
     returns)

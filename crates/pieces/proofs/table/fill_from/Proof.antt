@@ -30,9 +30,8 @@ returns c =
     let p = f .before .before .before .before in
     let t = p .before .before in
     let a = t .before .before .before .before .args in
-    f .fill .ensures
-    ∙ ap (joinedBy (joinsFired (now (a .masks)) (a .joins)) (a .size .rows) (a .size .cols))
-    (p .paint-cells .ensures ∙ ap (λ (k : ℕ). paintedBy (now (a .masks)) (now (a .colours)) k (now (a .work))) (t .times .ensures .0))
+    let painted = p .paint-cells .ensures ∙ ap (λ (k : ℕ). paintedBy (now (a .masks)) (now (a .colours)) k (now (a .work))) (t .times .ensures .0) in
+    (f .fill .ensures .0 ∙ ap (joinedBy (joinsFired (now (a .masks)) (a .joins)) (a .size .rows) (a .size .cols)) painted, f .fill .ensures .1)
 
 pub fill-from-spec : {M : Type 1} → statement M
 fill-from-spec =
