@@ -36,6 +36,12 @@ static size_t load(const char *path, uint8_t *bytes, size_t most)
     return length;
 }
 
+// Prints the name of a colour that is shown of a book or a sheet.
+static void print_name(const uint8_t *bytes, uint64_t shown)
+{
+    fwrite(bytes + dv_shown_place(shown), 1, dv_shown_length(shown), stdout);
+}
+
 // Says what is answered of something, or which of a call's inputs is at fault, and where.
 static void say(const char *what, uint64_t answer, const char *first, const char *second_input)
 {
@@ -75,8 +81,9 @@ static const uint16_t *print_panel(const uint16_t *node, size_t rows, size_t col
     size_t k = node[1];
     printf("rule %u: %zu by %zu at row %zu, column %zu", node[0], rows, columns, top + 1, left + 1);
     if (dv_rule_kind(rule) == DV_KIND_COLOUR) {
-        uint64_t shown = dv_colour(book, book_len, dv_rule_first(rule));
-        printf(", %.*s\n", (int)dv_shown_length(shown), (const char *)book + dv_shown_place(shown));
+        printf(", ");
+        print_name(book, dv_colour(book, book_len, dv_rule_first(rule)));
+        printf("\n");
         return node + 2;
     }
     if (dv_rule_kind(rule) == DV_KIND_ACROSS) {
@@ -85,6 +92,16 @@ static const uint16_t *print_panel(const uint16_t *node, size_t rows, size_t col
     }
     printf(", %zu and %zu rows one above the other\n", k, rows - k);
     return print_panel(print_panel(node + 2, k, columns, top, left), rows - k, columns, top + k, left);
+}
+
+// The first cell of an ink that no rule names.
+static void print_ink(uint64_t reason)
+{
+    size_t row = dv_reason_row(reason), column = dv_reason_column(reason);
+    uint64_t cell = dv_cell(press, sheet, sheet_len, row, column);
+    printf("no rule names the ink of row %zu, column %zu: ", row + 1, column + 1);
+    print_name(sheet, dv_sheet_colour(press, sheet, sheet_len, dv_cell_colour(cell)));
+    printf("\n");
 }
 
 // The largest piece of the family in the sheet.
@@ -101,8 +118,7 @@ static void print_reason(size_t rows, size_t columns)
     uint64_t answer = dv_why_not(press, book, book_len, sheet, sheet_len, work, DV_WIDE_MOST_WORK);
     switch (dv_reason_kind(answer)) {
     case DV_REASON_COLOUR:
-        printf("the cell in row %zu, column %zu has a colour that no rule names\n", dv_reason_row(answer) + 1,
-               dv_reason_column(answer) + 1);
+        print_ink(answer);
         break;
     case DV_REASON_SIZE:
         printf("the family has no sheet of %zu by %zu\n", rows, columns);

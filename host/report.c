@@ -1,5 +1,6 @@
-// A run of sheets in figures, as planning reads them: how many belong to the family, why the others do not, how many
-// cells of each ink are printed, and from which ticket to which.
+// A run of sheets in figures, as planning reads them: how many belong to the family, which of them do not and what each
+// got, how many cells of each ink are printed, and from which ticket to which. Sheets and bytes are counted from 1, as
+// people do.
 //
 //     report [--wide] BOOK RUN
 //
@@ -17,6 +18,7 @@ static size_t press = DV_PRESS;
 static uint8_t book[DV_LONGEST_BOOK + 1], run[DV_LONGEST_RUN + 1];
 static size_t book_len, run_len;
 static uint32_t work[DV_WIDE_MOST_WORK], figures[DV_REPORT_ENTRIES];
+static uint16_t tree[DV_WIDE_MOST_TREE];
 
 // Loads at most so many bytes of a file, and gives their number. One byte more than the longest that can be accepted is
 // enough to have a longer file refused.
@@ -32,7 +34,7 @@ static size_t load(const char *path, uint8_t *bytes, size_t most)
     return length;
 }
 
-// Says which input is at fault and where, bytes counted from 1. Of the lengths in a run none is out of range, so that
+// Says which input is at fault and where. Of the lengths in a run none is out of range, so that
 // there the number says that the whole run is too long.
 static void print_refusal(uint64_t answer)
 {
@@ -68,12 +70,37 @@ static void print_answers(void)
     print_answered(figures[DV_FIGURE_NOT_DERIVED], DV_NOT_DERIVED);
 }
 
+// A sheet of the run by itself: its number, its ticket where it can be read, and what it gets where that is not to be
+// accepted.
+static void print_sheet(size_t number)
+{
+    uint64_t shown = dv_run_sheet(run, run_len, number);
+    const uint8_t *sheet = run + dv_shown_place(shown);
+    size_t length = dv_shown_length(shown);
+    uint64_t answer =
+        dv_derive(press, book, book_len, sheet, length, work, DV_WIDE_MOST_WORK, tree, DV_WIDE_MOST_TREE);
+    const char *text = dv_text(dv_number(answer));
+    if (dv_number(answer) == DV_NOT_DERIVED)
+        printf("sheet %zu, job ticket %u: %s\n", number + 1, (unsigned)dv_ticket(dv_read_sheet(press, sheet, length)),
+               text);
+    else if (dv_number(answer) != DV_ACCEPTED)
+        printf("sheet %zu: %s, at its byte %zu\n", number + 1, text, dv_place(answer) + 1);
+}
+
+static void print_sheets(void)
+{
+    for (size_t number = 0; number < figures[DV_FIGURE_SHEETS]; number++)
+        print_sheet(number);
+}
+
 // Every ink of the book by name, printed or not.
 static void print_cells(void)
 {
-    uint64_t shown;
-    for (size_t colour = 0; (shown = dv_colour(book, book_len, colour)) != 0; colour++) {
-        printf("%.*s: ", (int)dv_shown_length(shown), (const char *)book + dv_shown_place(shown));
+    size_t colours = dv_counts_colours(dv_counts(book, book_len));
+    for (size_t colour = 0; colour < colours; colour++) {
+        uint64_t shown = dv_colour(book, book_len, colour);
+        fwrite(book + dv_shown_place(shown), 1, dv_shown_length(shown), stdout);
+        printf(": ");
         print_count(figures[DV_FIGURE_CELLS + colour], "cell");
         printf("\n");
     }
@@ -111,6 +138,7 @@ int main(int argc, char **argv)
         return REFUSED;
     }
     print_answers();
+    print_sheets();
     print_cells();
     print_tickets();
     return REPORTED;

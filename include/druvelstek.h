@@ -4,8 +4,8 @@
 // docs/RULES.md says. The library tells whether the family derives the sheet, and why not where it does not, gives the
 // table of pieces, how many trials it takes, and one derivation, judges derivations that others chose, decides small
 // sheets by a second engine for the bench, tells which sizes the family has, reports on a whole run of sheets, looks up
-// names, rules, sizes and tickets, and makes new books of lent ones. Each call is proved to keep what its comment says,
-// on every input.
+// what stands in a book, a sheet or a run, and makes new books of lent ones. Each call is proved to keep what its
+// comment says, on every input.
 //
 // A call that reads a sheet or makes a size card is told first which press it is for, since the presses differ in how
 // many rows and columns they print. A book is of no press.
@@ -44,7 +44,7 @@ extern "C" {
 // The version of rules and calls that this header describes, and the call that tells the archive's. A host compares the
 // two before any other call, so that a header and an archive of two versions are noticed. No call before version 13
 // takes a press: of a host that was compiled for one of those, the first slice would be taken for it.
-#define DV_VERSION 14
+#define DV_VERSION 15
 uint64_t dv_version(void);
 
 // The presses, for the first parameter of a call that has one. Any other number is answered 21, before all else.
@@ -254,16 +254,26 @@ uint64_t dv_read_sheet(size_t press, const uint8_t *sheet, size_t sheet_len);
 // The ticket in an answer of dv_read_sheet.
 static inline uint32_t dv_ticket(uint64_t answer) { return (uint32_t)(answer >> 32); }
 
-// The look-ups: a colour's name and a rule of a book, and a sheet's size; dv_read_sheet tells its ticket. A host reads
-// no bytes for these. No call shows a sheet's colours and cells, a book's start motif and its counts (those of colours
-// and rules are found by asking for one number after another), or the lengths in a run. Look-ups have no answer number:
-// 0 says that there is nothing to show. Each reads its input anew.
+// The look-ups show all that stands in a book, a sheet or a run; a sheet's ticket is told by dv_read_sheet. So a host
+// never parses: of the bytes that it lends it reads none but those of names, where a look-up says that they stand.
+// Look-ups have no answer number: 0 says that there is nothing to show. Each reads the whole of its input anew.
+
+// Shows how much a book has, and its start motif: colours + 2^8 * motifs + 2^16 * start + 2^24 * rules + 2^32, taken
+// apart below. Colours, motifs and rules are numbered from 0 to one below their count. A refused book shows 0.
+uint64_t dv_counts(const uint8_t *book, size_t book_len);
+
+static inline int dv_counts_found(uint64_t counts) { return counts != 0; }
+static inline unsigned dv_counts_colours(uint64_t counts) { return (unsigned)(counts & 0xff); }
+static inline unsigned dv_counts_motifs(uint64_t counts) { return (unsigned)(counts >> 8 & 0xff); }
+static inline unsigned dv_counts_start(uint64_t counts) { return (unsigned)(counts >> 16 & 0xff); }
+static inline unsigned dv_counts_rules(uint64_t counts) { return (unsigned)(counts >> 24 & 0xff); }
 
 // Shows the name of a colour, numbered from 0, as the part of the lent book that holds it: place + 2^32 * length, which
 // dv_shown_place and dv_shown_length take apart. A refused book, or a number not below the count of colours, shows an
 // empty part, 0. No name is empty.
 uint64_t dv_colour(const uint8_t *book, size_t book_len, size_t number);
 
+static inline int dv_shown_found(uint64_t shown) { return shown != 0; }
 static inline size_t dv_shown_place(uint64_t shown) { return (size_t)(shown & 0xffffffff); }
 static inline size_t dv_shown_length(uint64_t shown) { return (size_t)(shown >> 32); }
 
@@ -284,6 +294,26 @@ uint64_t dv_sheet_size(size_t press, const uint8_t *sheet, size_t sheet_len);
 
 static inline size_t dv_size_rows(uint64_t size) { return (size_t)(size & 0xffffffff); }
 static inline size_t dv_size_columns(uint64_t size) { return (size_t)(size >> 32); }
+
+// Shows a cell of a sheet of a press, row and column from 0: the number of its colour in the sheet's own list + 2^32,
+// taken apart below. A refused sheet shows 0, and so does one with no such row or column, and every sheet where there
+// is no such press.
+uint64_t dv_cell(size_t press, const uint8_t *sheet, size_t sheet_len, size_t row, size_t column);
+
+static inline int dv_cell_found(uint64_t cell) { return cell != 0; }
+static inline unsigned dv_cell_colour(uint64_t cell) { return (unsigned)(cell & 0xff); }
+
+// Shows the name of a colour of a sheet's list as dv_colour does that of a book's: the part of the lent sheet that
+// holds it. A refused sheet shows 0, and so does a number not below the count of its colours, and every sheet where
+// there is no such press. The lists of a book and a sheet are numbered each by itself: an ink of both is one by its
+// name alone.
+uint64_t dv_sheet_colour(size_t press, const uint8_t *sheet, size_t sheet_len, size_t number);
+
+// Shows a sheet of a run, numbered from 0, as the part of the lent run that holds it, whatever it holds: place + 2^32 *
+// length, which dv_shown_place and dv_shown_length take apart. A sheet may be empty, but its length stands before it,
+// so that its place is never 0. A run that dv_run_report refuses for its length or for those of its sheets shows 0, and
+// so does a number not below the count of its sheets. A run is of no press.
+uint64_t dv_run_sheet(const uint8_t *run, size_t run_len, size_t number);
 
 // Decides whether the family derives the sheet of m rows and n columns. Answers, in this order: 21; 1 to 8 or 18
 // blaming 1, the book; 1 to 8 blaming 2, the sheet; 9; 10; 11; 0. With 0 and 11 the count is the number of trials that
@@ -468,6 +498,12 @@ static inline uint64_t dv_checked_read_sheet(size_t press, const uint8_t *sheet,
     return dv_read_sheet(press, sheet, sheet_len);
 }
 
+static inline uint64_t dv_checked_counts(const uint8_t *book, size_t book_len)
+{
+    assert(dv_is_lent(book, book_len, 1));
+    return dv_counts(book, book_len);
+}
+
 static inline uint64_t dv_checked_colour(const uint8_t *book, size_t book_len, size_t number)
 {
     assert(dv_is_lent(book, book_len, 1));
@@ -484,6 +520,24 @@ static inline uint64_t dv_checked_sheet_size(size_t press, const uint8_t *sheet,
 {
     assert(dv_is_lent(sheet, sheet_len, 1));
     return dv_sheet_size(press, sheet, sheet_len);
+}
+
+static inline uint64_t dv_checked_cell(size_t press, const uint8_t *sheet, size_t sheet_len, size_t row, size_t column)
+{
+    assert(dv_is_lent(sheet, sheet_len, 1));
+    return dv_cell(press, sheet, sheet_len, row, column);
+}
+
+static inline uint64_t dv_checked_sheet_colour(size_t press, const uint8_t *sheet, size_t sheet_len, size_t number)
+{
+    assert(dv_is_lent(sheet, sheet_len, 1));
+    return dv_sheet_colour(press, sheet, sheet_len, number);
+}
+
+static inline uint64_t dv_checked_run_sheet(const uint8_t *run, size_t run_len, size_t number)
+{
+    assert(dv_is_lent(run, run_len, 1));
+    return dv_run_sheet(run, run_len, number);
 }
 
 static inline uint64_t dv_checked_derive(size_t press, const uint8_t *book, size_t book_len, const uint8_t *sheet,
@@ -589,9 +643,13 @@ DV_CHECKED_OF_ONE(tidy)
 
 #define dv_read_book dv_checked_read_book
 #define dv_read_sheet dv_checked_read_sheet
+#define dv_counts dv_checked_counts
 #define dv_colour dv_checked_colour
 #define dv_rule dv_checked_rule
 #define dv_sheet_size dv_checked_sheet_size
+#define dv_cell dv_checked_cell
+#define dv_sheet_colour dv_checked_sheet_colour
+#define dv_run_sheet dv_checked_run_sheet
 #define dv_derive dv_checked_derive
 #define dv_check_tree dv_checked_check_tree
 #define dv_plain dv_checked_plain

@@ -31,9 +31,13 @@ void wrong(const char *what);
 // Each gives the answer that both engines gave. The same bytes as first and second are lent as one slice.
 uint64_t compare_read_book(const struct bytes *book);
 uint64_t compare_read_sheet(size_t press, const struct bytes *sheet);
+uint64_t compare_counts(const struct bytes *book);
 uint64_t compare_colour(const struct bytes *book, size_t number);
 uint64_t compare_rule(const struct bytes *book, size_t number);
 uint64_t compare_sheet_size(size_t press, const struct bytes *sheet);
+uint64_t compare_cell(size_t press, const struct bytes *sheet, size_t row, size_t column);
+uint64_t compare_sheet_colour(size_t press, const struct bytes *sheet, size_t number);
+uint64_t compare_run_sheet(const struct run *run, size_t number);
 // The answer without its count, which has the trials: these are the book's.
 uint64_t compare_derive(size_t press, const struct bytes *book, const struct bytes *sheet, size_t work_len,
                         size_t tree_len);

@@ -17,6 +17,7 @@ static void compare_as_book(const struct bytes *book, const struct bytes *sheet,
 {
     size_t press = some_press();
     compare_read_book(book);
+    compare_counts(book);
     compare_colour(book, chance_below(4));
     compare_rule(book, chance_below(8));
     compare_derive(press, book, sheet, one_in(4) ? 0 : roomy_work(press), one_in(4) ? 0 : roomy_tree(press));
@@ -37,6 +38,8 @@ static void compare_as_sheet(size_t press, const struct bytes *book, const struc
 {
     compare_read_sheet(press, sheet);
     compare_sheet_size(press, sheet);
+    compare_cell(press, sheet, chance_below(4), chance_below(4));
+    compare_sheet_colour(press, sheet, chance_below(4));
     compare_derive(press, book, sheet, one_in(4) ? 0 : roomy_work(press), one_in(4) ? 0 : roomy_tree(press));
     compare_why_not(press, book, sheet, one_in(4) ? 0 : roomy_work(press));
     compare_some_tree(press, book, sheet);

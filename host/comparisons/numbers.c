@@ -104,6 +104,7 @@ static void compare_in_book(struct field field, const struct spelling *spelling)
     struct bytes spelt = book;
     put(&spelt, field, spelling);
     compare_cuts(spelt, field, spelling, compare_read_book);
+    compare_counts(&spelt);
     compare_colour(&spelt, 1);
     compare_rule(&spelt, 1);
     compare_derive(press, &spelt, &sheet, roomy_work(press), roomy_tree(press));
@@ -122,6 +123,8 @@ static void compare_in_sheet(struct field field, const struct spelling *spelling
         compare_read_sheet(press, &spelt) != (uint64_t)spelling->number << 32)
         wrong("the ticket is not the one spelt");
     compare_sheet_size(press, &spelt);
+    compare_cell(press, &spelt, 1, 1);
+    compare_sheet_colour(press, &spelt, 1);
     compare_derive(press, &book, &spelt, roomy_work(press), roomy_tree(press));
     compare_why_not(press, &book, &spelt, roomy_work(press));
 }

@@ -84,6 +84,8 @@ static void compare_ending(const uint8_t *bytes, size_t length, unsigned number,
     uint64_t due = refusal(number, at_the_end ? run.length : plan.run.length);
     if (report(&run, dv_most_work(plan.press), DV_REPORT_ENTRIES) != due || report(&run, 0, DV_REPORT_ENTRIES) != due)
         wrong("the last length of a run is not answered as its spelling says");
+    if (compare_run_sheet(&run, 0) != 0)
+        wrong("a sheet is shown of a run whose last length is refused");
     if (report(&run, 0, DV_REPORT_ENTRIES - 1) != DV_OUT_SHORT)
         wrong("a figures slice that is too short is not refused first");
 }

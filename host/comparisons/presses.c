@@ -44,8 +44,9 @@ static void compare_no_such_press(size_t press)
     size_t entries = some_length(ROOMY_WORK), tree = some_length(roomy_tree(DV_WIDE_PRESS));
     size_t card = some_length(DV_WIDE_CARD_ENTRIES + 1), figures = some_length(DV_REPORT_ENTRIES + 1);
     expect_refused(compare_read_sheet(press, &sheet), 0, 0);
-    if (compare_sheet_size(press, &sheet) != 0)
-        wrong("a size is shown for a press that there is not");
+    if (compare_sheet_size(press, &sheet) != 0 || compare_cell(press, &sheet, 0, 0) != 0 ||
+        compare_sheet_colour(press, &sheet, 0) != 0)
+        wrong("something is shown for a press that there is not");
     expect_refused(compare_derive(press, &book, &sheet, entries, tree), entries * sizeof(uint32_t),
                    tree * sizeof(uint16_t));
     expect_refused(compare_check_tree(press, &book, &sheet, nodes, chance_below(5)), 0, 0);

@@ -14,12 +14,17 @@ static void compare_longest(size_t press)
     add(noughts, DV_LONGEST_RUN - 3 - plan.run.length);
     if (plan.run.length != DV_LONGEST_RUN)
         wrong("the longest run is not the one meant");
+    if (dv_shown_length(compare_run_sheet(&plan.run, plan.figures[DV_FIGURE_SHEETS] - 1)) < 20000 ||
+        compare_run_sheet(&plan.run, plan.figures[DV_FIGURE_SHEETS]) != 0)
+        wrong("the last sheet of the longest run is not shown, or one after it is");
     compare_rooms_of_run();
     for (unsigned more = 1; more < 40; more += more) {
         plan.run.length = DV_LONGEST_RUN + more;
         if (report(&plan.run, dv_most_work(press), DV_REPORT_ENTRIES) != refusal(DV_OUT_OF_RANGE, 0) ||
             report(&plan.run, 0, DV_REPORT_ENTRIES) != refusal(DV_OUT_OF_RANGE, 0))
             wrong("a run that is too long is not refused");
+        if (compare_run_sheet(&plan.run, 0) != 0)
+            wrong("a sheet is shown of a run that is too long");
     }
     memset(plan.run.at, 128, sizeof plan.run.at);
     if (report(&plan.run, dv_most_work(press), DV_REPORT_ENTRIES) != refusal(DV_OUT_OF_RANGE, 0))
@@ -36,6 +41,9 @@ static void compare_most_sheets(size_t press)
     plan.run.length = DV_LONGEST_RUN;
     plan.figures[DV_FIGURE_SHEETS] = plan.figures[DV_FIGURE_ANSWERED + DV_ENDS_EARLY] = DV_LONGEST_RUN;
     compare_rooms_of_run();
+    if (compare_run_sheet(&plan.run, DV_LONGEST_RUN - 1) != DV_LONGEST_RUN ||
+        compare_run_sheet(&plan.run, DV_LONGEST_RUN) != 0)
+        wrong("the last of the most sheets is not shown, or one after it is");
     begin(press, &book);
     for (unsigned i = 0; i < DV_LONGEST_RUN / (1 + sizeof sheet); i++)
         add(sheet, sizeof sheet);
@@ -59,10 +67,13 @@ static void compare_small_run(size_t press)
         for (unsigned byte = 0; byte < 256; byte++) {
             run.at[at] = (uint8_t)byte;
             report(&run, dv_most_work(press), DV_REPORT_ENTRIES);
+            for (size_t number = 0; number < 4; number++)
+                compare_run_sheet(&run, number);
         }
         run = plan.run;
         run.length = at;
         report(&run, dv_most_work(press), DV_REPORT_ENTRIES);
+        compare_run_sheet(&run, 0);
     }
 }
 

@@ -70,6 +70,7 @@ static void compare_damaged_run(void)
         memmove(run.at + at, run.at + at + 1, run.length - at);
     }
     report(&run, dv_most_work(plan.press) - one_in(8), DV_REPORT_ENTRIES);
+    compare_run_sheet(&run, chance_below(12));
 }
 
 // The book's refusals come before those of the run.

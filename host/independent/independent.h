@@ -8,9 +8,13 @@
 
 uint64_t independent_read_book(const uint8_t *book, size_t book_len);
 uint64_t independent_read_sheet(size_t press, const uint8_t *sheet, size_t sheet_len);
+uint64_t independent_counts(const uint8_t *book, size_t book_len);
 uint64_t independent_colour(const uint8_t *book, size_t book_len, size_t number);
 uint64_t independent_rule(const uint8_t *book, size_t book_len, size_t number);
 uint64_t independent_sheet_size(size_t press, const uint8_t *sheet, size_t sheet_len);
+uint64_t independent_cell(size_t press, const uint8_t *sheet, size_t sheet_len, size_t row, size_t column);
+uint64_t independent_sheet_colour(size_t press, const uint8_t *sheet, size_t sheet_len, size_t number);
+uint64_t independent_run_sheet(const uint8_t *run, size_t run_len, size_t number);
 
 uint64_t independent_derive(size_t press, const uint8_t *book, size_t book_len, const uint8_t *sheet, size_t sheet_len,
                             uint32_t *work, size_t work_len, uint16_t *tree, size_t tree_len);

@@ -1,4 +1,4 @@
-// The report of a run of sheets against one book.
+// The report of a run of sheets against one book, and a sheet of a run looked up.
 #include <string.h>
 
 #include "independent.h"
@@ -28,6 +28,19 @@ static uint64_t judge_lengths(const uint8_t *run, size_t run_len)
             return refusal;
         if (length > run_len - at)
             return independent_answer(1, 2, run_len);
+    }
+    return 0;
+}
+
+uint64_t independent_run_sheet(const uint8_t *run, size_t run_len, size_t number)
+{
+    unsigned length;
+    if (judge_lengths(run, run_len) != 0)
+        return 0;
+    for (size_t at = 0; at < run_len; at += length, number--) {
+        independent_number_at(&length, run, run_len, &at, 2);
+        if (number == 0)
+            return at | (uint64_t)length << 32;
     }
     return 0;
 }

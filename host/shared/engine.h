@@ -14,9 +14,13 @@ struct engine {
     const char *name;
     uint64_t (*read_book)(const uint8_t *book, size_t book_len);
     uint64_t (*read_sheet)(size_t press, const uint8_t *sheet, size_t sheet_len);
+    uint64_t (*counts)(const uint8_t *book, size_t book_len);
     uint64_t (*colour)(const uint8_t *book, size_t book_len, size_t number);
     uint64_t (*rule)(const uint8_t *book, size_t book_len, size_t number);
     uint64_t (*sheet_size)(size_t press, const uint8_t *sheet, size_t sheet_len);
+    uint64_t (*cell)(size_t press, const uint8_t *sheet, size_t sheet_len, size_t row, size_t column);
+    uint64_t (*sheet_colour)(size_t press, const uint8_t *sheet, size_t sheet_len, size_t number);
+    uint64_t (*run_sheet)(const uint8_t *run, size_t run_len, size_t number);
     uint64_t (*derive)(size_t press, const uint8_t *book, size_t book_len, const uint8_t *sheet, size_t sheet_len,
                        uint32_t *work, size_t work_len, uint16_t *tree, size_t tree_len);
     uint64_t (*check_tree)(size_t press, const uint8_t *book, size_t book_len, const uint8_t *sheet, size_t sheet_len,

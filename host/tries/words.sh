@@ -40,7 +40,7 @@ says 0 '*side by side: too many colours, motifs or rules?the book tidied: 34 byt
 says 2 '*the second book: its start motif cannot be rewritten to colours?the two families side by side: too many *' \
     example "$book" "$sheet" "$place/endless.bin"
 says 1 '*job ticket 301*not in the family*rows 1 to 2 of columns 2 to 3, *' example "$book" "$samples/declined.bin"
-of_sheet 1 '*row 2, column 3 has a colour that no rule names' "\3$slates\3Red\0\2\3\0\0\0\1\1\2"
+of_sheet 1 '*no rule names the ink of row 2, column 3: Red' "\3$slates\3Red\0\2\3\0\0\0\1\1\2"
 of_sheet 1 '*the family has no sheet of 1 by 1' "\2$slates\0\1\1\0"
 of_sheet 1 '*sheets of 2 by 3, and no piece of this one belongs*' "\2$slates\0\2\3\1\1\1\0\0\0"
 of_sheet 0 '*job ticket 16384?the sheet: accepted*' "\2$slates\200\200\1\2\1\0\1"
@@ -63,6 +63,9 @@ says 0 "5 sheets
 2 sheets: accepted
 1 sheet: ends too early
 2 sheets: not in the family
+sheet 3, job ticket 301: not in the family
+sheet 4: ends too early, at its byte 1
+sheet 5, job ticket 303: not in the family
 Slate C: 4 cells
 Slate U: 4 cells
 job tickets 300 to 302" report "$book" "$run"
@@ -72,7 +75,7 @@ of_run 2 'the run: ends too early, at byte 3' '\0\3'
 says 2 'the run: longer than 65536 bytes, *' report "$book" "$place/long.bin"
 says 2 'the book: ends too early, at byte 21' report "$place/cut-book.bin" "$run"
 says 2 '' report "$book" "$place/missing.bin"
-of_run 0 '1 sheet?1 sheet: a count, a length, rows or columns out of range*no sheet is accepted*' "\56$wide"
+of_run 0 '1 sheet?1 sheet: *?sheet 1: a count, a length, rows or columns out of range, at its byte 20*no sheet is accepted*' "\56$wide"
 says 0 '1 sheet?1 sheet: accepted?Slate C: 13 cells?Slate U: 13 cells?job tickets 0 to 0' \
     report --wide "$book" "$place/run.bin"
 says 2 '' report --wide "$book"

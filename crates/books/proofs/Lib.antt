@@ -53,8 +53,11 @@ pub mod Demand1
 pub mod Showing
 pub mod Settled
 pub mod SheetInParts
+pub mod CellsOver
 pub mod NumberedCells
 pub mod LookingUp
+pub mod BookCounts
+pub mod SheetLookups
 pub mod FarBooks
 pub mod FarSheets
 pub mod FarBytes

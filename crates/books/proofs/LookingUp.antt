@@ -1,5 +1,5 @@
--- What the look-ups answer, from the bytes of the lent book or sheet. Every part of a rule that was read fits a byte, so that division takes the number apart
--- again; and the number is 0 exactly where nothing is found, since a rule has 1 above its parts and a sheet has a row.
+-- What the look-ups of a rule and of a size answer, from the bytes of the lent book or sheet. Every part of a rule that was read fits a byte, so that division
+-- takes the number apart again; and the number is 0 exactly where nothing is found, since a rule has 1 above its parts and a sheet has a row.
 use Prim.Native.Nat.{ℕ, _/_, _%_, _^_, _≤_, _<_}
 use mathlib.Core.Path.{_≡_, refl, ap, ap₂, _∙_}
 use mathlib.Core.List.{List}
@@ -103,7 +103,7 @@ module _ (s : List ℕ) where
       (λ p. rw (book-refused s (λ z. omega arith) .empty) (omega arith))
       (eq-zero-or-pos (bookOf s .fault .number))
 
-  rules-count : length rules ≡ bookOf s .family .count
+  pub rules-count : length rules ≡ bookOf s .family .count
   rules-count = length-take-le (bookOf s .family .count) (bookOf s .family .rules) (omega (arith, count-few, book-size s))
 
   module _ (k : ℕ) where

@@ -1,10 +1,12 @@
 -- What the calls on one book or one sheet of a press answer.
 use Prim.Native.Nat.{ℕ, _+_, _*_, _^_}
-use mathlib.Core.List.{List}
+use mathlib.Core.List.{List, []}
 use lib.Dec.{ltb}
 use lib.ListN.{length, getD}
 use Rattle.names.specs.Pick.{pick}
 use Rattle.names.specs.Name.{Name}
+use Rattle.names.specs.Colours.{namesIn}
+use Rattle.names.specs.declared.colours.Colours.{Colours}
 use Rattle.books.specs.Contents.{name}
 use Rattle.books.specs.Lent.{contentsOf, onPress}
 use Rattle.books.specs.Book.{bookOf}
@@ -23,14 +25,26 @@ sheetAnswer press s = onPress press (λ a. a) (blaming 1 (sheetOf press s .fault
 abbrev pub ticketOf : ℕ → List ℕ → ℕ
 ticketOf press s = sheetOf press s .sheet .ticket
 
--- the name of a colour of the book, and nothing where there is no such colour: a refused book has none
+-- ── A colour's name, by its number in a colour list that was read ──
+
+-- the name, and nothing where there is no such colour
+abbrev pub nameWith : List ℕ → Colours → ℕ → Name
+nameWith s c k = getD (namesIn s c) k []
+
+-- where that name starts in the input, 0 where there is none
+abbrev pub startWith : Colours → ℕ → ℕ
+startWith c k = pick (ltb k (c .count)) (getD (c .starts) k 0) 0
+
+-- where it starts, and how long it is above 2 ^ 32
+abbrev pub placeWith : List ℕ → Colours → ℕ → ℕ
+placeWith s c k = startWith c k + 2 ^ 32 * length (nameWith s c k)
+
+-- the same of a book: a refused one has no colours
 abbrev pub shown : List ℕ → ℕ → Name
 shown s k = name (contentsOf s) k
 
--- where that name starts in the book, 0 where there is none
 abbrev pub shownStart : List ℕ → ℕ → ℕ
-shownStart s k = pick (ltb k (bookOf s .family .colours .count)) (getD (bookOf s .family .colours .starts) k 0) 0
+shownStart s k = startWith (bookOf s .family .colours) k
 
--- where it starts, and how long it is above 2 ^ 32
 abbrev pub shownPlace : List ℕ → ℕ → ℕ
-shownPlace s k = shownStart s k + 2 ^ 32 * length (shown s k)
+shownPlace s k = placeWith s (bookOf s .family .colours) k

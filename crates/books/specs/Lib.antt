@@ -1,4 +1,5 @@
 pub mod Contents
+pub mod House
 pub mod Picture
 pub mod Joined
 pub mod Derives
@@ -27,6 +28,7 @@ pub mod Answer
 pub mod Lent
 pub mod Calls
 pub mod Lookups
+pub mod SheetLookups
 pub mod Numbering
 pub mod Draft
 pub mod Outcome

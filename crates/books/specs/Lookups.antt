@@ -1,9 +1,10 @@
 -- What a host looks up in a book or a sheet, and the one number that it gets.
 use Prim.Native.Nat.{ℕ, _+_, _*_, _^_}
 use mathlib.Core.List.{List}
-use lib.Dec.{ltb}
+use lib.Dec.{eqb, ltb}
 use lib.ListN.{length, getD}
 use Rattle.names.specs.Pick.{pick}
+use Rattle.books.specs.Book.{bookOf}
 use Rattle.books.specs.Contents.{Contents}
 use Rattle.books.specs.Grid.{Grid}
 use Rattle.books.specs.Lent.{contentsOf}
@@ -44,6 +45,10 @@ abbrev pub packedFound : RuleFound → ℕ
 packedFound (There r) = packedRule r
 packedFound Missing = 0
 
+-- the counts of colours, motifs and rules with the start, a byte each, and 1 above them, so that no book is 0
+abbrev pub packedCounts : Contents → ℕ
+packedCounts b = length (b .colours) + 2 ^ 8 * b .motifs + 2 ^ 16 * b .start + 2 ^ 24 * length (b .rules) + 2 ^ 32
+
 -- rows, and columns above 2 ^ 32
 abbrev pub packedSize : Size → ℕ
 packedSize z = z .rows + 2 ^ 32 * z .cols
@@ -51,9 +56,12 @@ packedSize z = z .rows + 2 ^ 32 * z .cols
 abbrev pub ruleShown : List ℕ → ℕ → ℕ
 ruleShown s k = packedFound (ruleOf s k)
 
+abbrev pub countsShown : List ℕ → ℕ
+countsShown s = pick (eqb (bookOf s .fault .number) 0) (packedCounts (contentsOf s)) 0
+
 abbrev pub sizeShown : ℕ → List ℕ → ℕ
 sizeShown press s = packedSize (sizeOf press s)
 
--- how many of the customer's requests have landed
+-- one for each of the customer's requests, and one for the look-ups that came after them
 abbrev pub version : ℕ
-version = 14
+version = 15

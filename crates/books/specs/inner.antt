@@ -1,3 +1,4 @@
 pub mod Wrote
 pub mod Key
 pub mod Parts
+pub mod Places

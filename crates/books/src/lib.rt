@@ -15,5 +15,6 @@ pub mod press;
 pub mod rule;
 mod rules;
 pub mod sheet;
+pub mod sheet_lookups;
 pub mod size;
 pub mod writing;

@@ -1,11 +1,11 @@
-// What a host looks up in a book or a sheet, without reading the bytes itself: a rule, and how many rows and columns there are.
+// What a host looks up in a book or a sheet, without reading the bytes itself: the counts, a rule, and how many rows and columns there are.
 use crate::book::read_book;
 use crate::equal::rule_number;
 use crate::rule::Rule;
 use crate::sheet::sheet_figures;
 use crate::size::Size;
 ghost use mathlib.Core.Path.{_≡_};
-ghost use Rattle.books.specs.Lookups.{ruleOf, sizeOf, packedRule, ruleShown, sizeShown, version};
+ghost use Rattle.books.specs.Lookups.{countsShown, ruleOf, sizeOf, packedRule, ruleShown, sizeShown, version};
 
 // A rule of a book, or that there is none with the number asked for.
 pub enum RuleFound {
@@ -41,6 +41,24 @@ pub fn pack_rule(rule: Rule) -> u64
     rule_number(rule) as u64 + 4294967296
 }
 
+// How many colours, motifs and rules a book has, and its start, for the C host: in one number with 1 above them, or 0.
+#[no_mangle]
+pub extern "C" fn dv_counts(book: &[u8]) -> u64
+    ensures { λ r. ⌜ r ≡ countsShown (now (book .entry)) ⌝ }
+{
+    let r = read_book(book);
+    if r.fault.number != 0 {
+        return 0;
+    }
+    let f = r.family;
+    let c = f.colours;
+    c.count as u64
+        + 256 * (f.motifs as u64)
+        + 65536 * (f.start as u64)
+        + 16777216 * (f.count as u64)
+        + 4294967296
+}
+
 // The rule with a number, for the C host: its parts in one number, or 0.
 #[no_mangle]
 pub extern "C" fn dv_rule(book: &[u8], number: usize) -> u64
@@ -62,10 +80,10 @@ pub extern "C" fn dv_sheet_size(press: usize, sheet: &[u8]) -> u64
     size.rows as u64 + 4294967296 * (size.cols as u64)
 }
 
-// How many of the customer's requests have landed, as `DV_VERSION` of the header says: a host sees by it that header and archive belong together.
+// The version of rules and calls, as `DV_VERSION` of the header says: a host sees by it that header and archive belong together.
 #[no_mangle]
 pub extern "C" fn dv_version() -> u64
     ensures { λ r. ⌜ r ≡ version ⌝ }
 {
-    14
+    15
 }

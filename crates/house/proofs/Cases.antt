@@ -33,7 +33,8 @@ use Rattle.families.specs.Combine.{copies, joined, repeated, either-of, beside,
 use Rattle.families.specs.Limits.{countsWithin?, withinLimits?}
 use Rattle.books.specs.Outcome.{written, lentBy}
 use Rattle.families.specs.Outcome.{made}
-use Rattle.house.specs.Bytes.{houseBook, houseContents, sheetA, sheetAReordered, sheetASlate, oneCell, oneColumn, oneRow, transposedBook, besideBook, runBook, eitherOfBook}
+use Rattle.books.specs.House.{houseBook, houseContents}
+use Rattle.house.specs.Bytes.{sheetA, sheetAReordered, sheetASlate, oneCell, oneColumn, oneRow, transposedBook, besideBook, runBook, eitherOfBook}
 use Rattle.house.specs.Asked.{asked, changed, withItself, wrote}
 
 -- the derivation of sheet A, rule and cut of each node

@@ -1,46 +1,11 @@
--- The house book, its sheets and its combinations, byte by byte as docs/RULES.md shows or describes them.
+-- The sheets and the combinations of the house book, byte by byte as docs/RULES.md shows or describes them.
 use Prim.Native.Nat.{ℕ}
 use mathlib.Core.List.{List, [], _∷_, _++_}
-use Rattle.names.specs.Name.{Name}
-use Rattle.books.specs.Contents.{Contents}
-use Rattle.books.specs.declared.rule.Body.the-variants.{Colour, Across, Down}
+use Rattle.books.specs.House.{slate, slateC, slateU, twoColours, houseRules}
 
--- "Slate", "Slate C" and "Slate U"
-abbrev pub slate : Name
-slate = 83 ∷ 108 ∷ 97 ∷ 116 ∷ 101 ∷ []
-
-abbrev pub slateC : Name
-slateC = slate ++ (32 ∷ 67 ∷ [])
-
-abbrev pub slateU : Name
-slateU = slate ++ (32 ∷ 85 ∷ [])
-
--- the colour list of the house book, which most of its sheets have too
-abbrev pub twoColours : List ℕ
-twoColours = 2 ∷ 7 ∷ slateC ++ (7 ∷ slateU)
-
--- the four rules of the house book, and the same with the motifs raised by three
-abbrev pub houseRules : List ℕ
-houseRules = 0 ∷ 1 ∷ 0 ∷ 0 ∷ 0 ∷ 2 ∷ 1 ∷ 2 ∷ 1 ∷ 0 ∷ 0 ∷ 2 ∷ 0 ∷ 1 ∷ []
-
+-- the rules of the house book with the motifs raised by three
 abbrev pub raisedRules : List ℕ
 raisedRules = 3 ∷ 1 ∷ 3 ∷ 3 ∷ 3 ∷ 2 ∷ 4 ∷ 5 ∷ 4 ∷ 0 ∷ 0 ∷ 5 ∷ 0 ∷ 1 ∷ []
-
--- 34 bytes: the colours; three motifs, the start motif 0 and four rules; the rules
-abbrev pub houseBook : List ℕ
-houseBook = twoColours ++ (3 ∷ 0 ∷ 4 ∷ houseRules)
-
--- what the house book says
-abbrev pub houseContents : Contents
-houseContents =
-    record {
-      colours = slateC ∷ slateU ∷ [];
-      motifs = 3;
-      start = 0;
-      rules =
-          record { head = 0; body = Across 0 0 } ∷ record { head = 0; body = Down 1 2 }
-          ∷ record { head = 1; body = Colour 0 } ∷ record { head = 2; body = Colour 1 } ∷ [];
-    }
 
 -- two rows of three columns, Slate C over Slate U; like all of these sheets it has the ticket 0
 abbrev pub sheetA : List ℕ

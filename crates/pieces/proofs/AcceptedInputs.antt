@@ -17,7 +17,8 @@ use Rattle.books.specs.declared.family.Family.{Family}
 use Rattle.books.specs.declared.sheet.Sheet.{Sheet}
 use Rattle.books.specs.declared.rule.Body.{Body}
 use Rattle.books.specs.declared.rule.Body.the-variants.{Colour, Across, Down}
-use Rattle.books.proofs.NumberedCells.{over-long, over-at, number-at, numbers-all}
+use Rattle.books.proofs.CellsOver.{over-long, over-at}
+use Rattle.books.proofs.NumberedCells.{number-at, numbers-all}
 use Rattle.books.proofs.ReadingBooks.{book-lies, book-accepted}
 use Rattle.books.proofs.ReadingSheets.{sheet-lies}
 use Rattle.books.proofs.SpellingSheets.{sheet-accepted}

@@ -17,7 +17,8 @@ use Rattle.books.specs.Lent.{contentsOf, pictureOf, Accepted}
 use Rattle.books.specs.Press.{IsPress}
 use Rattle.books.specs.Sheet.{sheetOf, over}
 use Rattle.books.specs.declared.answer.Answer.{Answer}
-use Rattle.books.proofs.NumberedCells.{numbers-all, sheet-cells}
+use Rattle.books.proofs.CellsOver.{sheet-cells}
+use Rattle.books.proofs.NumberedCells.{numbers-all}
 use Rattle.books.proofs.Packing.{ticket-packs}
 use Rattle.pieces.specs.Asking.{Asking, asking, Asks}
 use Rattle.pieces.specs.Derivation.{entriesNeeded}

@@ -27,7 +27,8 @@ use Rattle.books.specs.declared.family.Family.{Family}
 use Rattle.books.specs.declared.sheet.Sheet.{Sheet}
 use Rattle.books.proofs.CellsCalled.{cells-listed}
 use Rattle.books.proofs.Deciding.{called}
-use Rattle.books.proofs.NumberedCells.{over-is, over-long, over-at, number-at}
+use Rattle.books.proofs.CellsOver.{over-is, over-long, over-at}
+use Rattle.books.proofs.NumberedCells.{number-at}
 use Rattle.books.proofs.ReadingBooks.{book-accepted}
 use Rattle.books.proofs.ReadingSheets.{SheetLies, sheet-lies}
 use Rattle.books.specs.Lent.{pictureOf, Accepted, contentsOf}

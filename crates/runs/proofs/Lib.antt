@@ -10,7 +10,10 @@ pub mod RunTheorems
 pub mod RunExamples
 pub mod SheetsSoFar
 pub mod SpelledRuns
+pub mod SheetsStand
+pub mod LookingUp
 pub mod RunExactly
 pub mod ReportingRuns
 pub mod Demand1
+pub mod CalledFromC
 pub mod Settled

@@ -14,7 +14,7 @@ use Rattle.books.specs.ContentsIn.{gridIn}
 use Rattle.books.specs.Decide.{called?}
 use Rattle.books.specs.Sheet.{sheetOf}
 use Rattle.books.specs.Size.{room}
-use Rattle.books.proofs.NumberedCells.{sheet-cells}
+use Rattle.books.proofs.CellsOver.{sheet-cells}
 use Rattle.runs.specs.Run.{mostBytes, frameAt, sheetIn, left, faults, sheets, framing, sheetsOf}
 use Rattle.runs.specs.Figures.{workRoom, namesShown, showing, answering, accepted, got, cellsOf, tickets, answersGiven, figuresOf, noFigures, figuresLong, inARow}
 use Rattle.runs.specs.Lists.{howMany}

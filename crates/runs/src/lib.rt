@@ -3,4 +3,5 @@ pub mod calls;
 mod counting;
 pub mod figures;
 mod framing;
+pub mod lookups;
 mod report;

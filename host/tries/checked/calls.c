@@ -5,9 +5,13 @@ size_t press;
 
 static uint64_t read_book(void) { return dv_read_book(slice[0].at, slice[0].length); }
 static uint64_t read_sheet(void) { return dv_read_sheet(press, slice[0].at, slice[0].length); }
+static uint64_t counts(void) { return dv_counts(slice[0].at, slice[0].length); }
 static uint64_t colour(void) { return dv_colour(slice[0].at, slice[0].length, 1); }
 static uint64_t rule(void) { return dv_rule(slice[0].at, slice[0].length, 1); }
 static uint64_t sheet_size(void) { return dv_sheet_size(press, slice[0].at, slice[0].length); }
+static uint64_t cell(void) { return dv_cell(press, slice[0].at, slice[0].length, 1, 2); }
+static uint64_t sheet_colour(void) { return dv_sheet_colour(press, slice[0].at, slice[0].length, 1); }
+static uint64_t run_sheet(void) { return dv_run_sheet(slice[0].at, slice[0].length, 0); }
 static uint64_t derive(void)
 {
     return dv_derive(press, slice[0].at, slice[0].length, slice[1].at, slice[1].length,
@@ -62,9 +66,13 @@ enum { ENDS_EARLY = DV_ENDS_EARLY | 1 << 8 };
 const struct call calls[] = {
     {"dv_read_book", read_book, NO_PRESS, {BOOK}, {0}, ENDS_EARLY},
     {"dv_read_sheet", read_sheet, PRESS, {SHEET}, {0}, ENDS_EARLY},
+    {"dv_counts", counts, NO_PRESS, {BOOK}, {0}, 0},
     {"dv_colour", colour, NO_PRESS, {BOOK}, {0}, 0},
     {"dv_rule", rule, NO_PRESS, {BOOK}, {0}, 0},
     {"dv_sheet_size", sheet_size, PRESS, {SHEET}, {0}, 0},
+    {"dv_cell", cell, PRESS, {SHEET}, {0}, 0},
+    {"dv_sheet_colour", sheet_colour, PRESS, {SHEET}, {0}, 0},
+    {"dv_run_sheet", run_sheet, NO_PRESS, {RUN}, {0}, 0},
     {"dv_derive", derive, PRESS, {BOOK, SHEET}, {sizeof(uint32_t), sizeof(uint16_t)}, ENDS_EARLY},
     {"dv_check_tree", check_tree, PRESS, {BOOK, SHEET, NODES}, {0}, ENDS_EARLY},
     {"dv_plain", plain, PRESS, {BOOK, SHEET}, {0}, ENDS_EARLY},

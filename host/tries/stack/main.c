@@ -29,9 +29,13 @@ static uint64_t answer;
 static void nothing(void) { answer = 0; }
 static void read_book(void) { answer = dv_read_book(book.at, book.length); }
 static void read_sheet(void) { answer = dv_read_sheet(press, sheet.at, sheet.length); }
+static void counts(void) { answer = dv_counts(book.at, book.length); }
 static void colour(void) { answer = dv_colour(book.at, book.length, 0); }
 static void rule(void) { answer = dv_rule(book.at, book.length, 0); }
 static void sheet_size(void) { answer = dv_sheet_size(press, sheet.at, sheet.length); }
+static void cell(void) { answer = dv_cell(press, sheet.at, sheet.length, 0, 0); }
+static void sheet_colour(void) { answer = dv_sheet_colour(press, sheet.at, sheet.length, 0); }
+static void run_sheet(void) { answer = dv_run_sheet(run.at, run.length, 0); }
 static void derive(void)
 {
     answer = dv_derive(press, book.at, book.length, sheet.at, sheet.length, work, dv_most_work(press), tree,
@@ -90,9 +94,13 @@ struct kind {
 static struct kind kinds[] = {
     {"dv_read_book", read_book, {0}},
     {"dv_read_sheet", read_sheet, {0}},
+    {"dv_counts", counts, {0}},
     {"dv_colour", colour, {0}},
     {"dv_rule", rule, {0}},
     {"dv_sheet_size", sheet_size, {0}},
+    {"dv_cell", cell, {0}},
+    {"dv_sheet_colour", sheet_colour, {0}},
+    {"dv_run_sheet", run_sheet, {0}},
     {"dv_derive", derive, {0}},
     {"dv_check_tree", check_tree, {0}},
     {"dv_plain", plain, {0}},
@@ -220,10 +228,10 @@ int main(void)
         measure_by_chance();
     }
     for (size_t i = 0; i < sizeof kinds / sizeof *kinds; i++)
-        printf("stack: %-14s %6zu bytes, on the wide press %6zu\n", kinds[i].name, kinds[i].most[DV_PRESS],
+        printf("stack: %-15s %6zu bytes, on the wide press %6zu\n", kinds[i].name, kinds[i].most[DV_PRESS],
                kinds[i].most[DV_WIDE_PRESS]);
     for (int i = 0; i < COMBINATIONS; i++)
-        printf("stack: %-14s %6zu bytes\n", combination_name[i], most_of[i]);
+        printf("stack: %-15s %6zu bytes\n", combination_name[i], most_of[i]);
     printf("stack: at most %zu bytes; the header says that %d are enough\n", most, DV_ENOUGH_STACK);
     if (most + MARGIN > DV_ENOUGH_STACK) {
         fprintf(stderr, "stack: that leaves less than %d\n", MARGIN);

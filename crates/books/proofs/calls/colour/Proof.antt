@@ -1,10 +1,11 @@
 -- A colour below the count lies in the book where its place and length say; any other number shows nothing.
 use mathlib.Core.Path.{refl, sym}
 use native.Mathlib.Nat.{add-sub-cancel-left}
-use Rattle.books.proofs.Showing.{shown-start, shown-there, shown-nowhere, shown-nothing}
+use Rattle.books.proofs.Showing.{start-there, name-there, start-nowhere, name-nothing}
 use native.Mathlib.Omega.{arith}
 use denote.Ref.{now}
 use Rattle.names.proofs.ReadingColours.{Places}
+use Rattle.books.specs.Book.{bookOf}
 use Rattle.books.proofs.ReadingBooks.{book-places}
 use borrow.Author.Needs.{needs}
 use Rattle.books.proofs.calls.colour.Statement.{statement}
@@ -38,8 +39,8 @@ returns c =
     let below = rw read at (t .if1 .taken) in
     record {
       memory = refl;
-      offset = rw (shown-start (now (a .book)) (a .number) below) (rw (← read) (omega arith));
-      holds = simp (shown-there (now (a .book)) (a .number) below, ← read, add-sub-cancel-left);
+      offset = rw (start-there (now (a .book)) (bookOf (now (a .book)) .family .colours) (a .number) below) (rw (← read) (omega arith));
+      holds = simp (name-there (now (a .book)) (bookOf (now (a .book)) .family .colours) (a .number) below, ← read, add-sub-cancel-left);
     }
 
 returns-2 : tie.Need-returns-2
@@ -49,8 +50,8 @@ returns-2 c =
     let above = rw (c .before .before .before .before .read-book .ensures) at (c .before .if1 .left) in
     record {
       memory = refl;
-      offset = rw (shown-nowhere s k above) (omega arith);
-      holds = sym (shown-nothing s k above);
+      offset = rw (start-nowhere s (bookOf s .family .colours) k above) (omega arith);
+      holds = sym (name-nothing s (bookOf s .family .colours) k above);
     }
 
 pub colour-spec : {M : Type 1} → statement M

@@ -18,7 +18,8 @@ use Rattle.books.specs.Numbering.{numberOf, numbersFor}
 use Rattle.books.specs.inner.Key.{Key}
 use Rattle.books.specs.Sheet.{sheetOf, over}
 use Rattle.books.specs.declared.sheet.SheetRead.{SheetRead}
-use Rattle.books.proofs.NumberedCells.{SheetFits, sheet-cells, numbers-for, key-numbers}
+use Rattle.books.proofs.CellsOver.{SheetFits, sheet-cells}
+use Rattle.books.proofs.NumberedCells.{numbers-for, key-numbers}
 use Rattle.books.proofs.ReadingSheets.{sheet-places}
 use Rattle.books.proofs.SheetInParts.{together, sheet-whole}
 use Rattle.books.proofs.numbering.number_sheet.Statement.{statement}

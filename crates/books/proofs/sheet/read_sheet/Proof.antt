@@ -3,7 +3,7 @@ use borrow.Author.Needs.{needs}
 use mathlib.Core.Path.{_∙_}
 use denote.Ref.{now}
 use Rattle.books.specs.Cells.{noCells}
-use Rattle.books.proofs.NumberedCells.{over-fresh}
+use Rattle.books.proofs.CellsOver.{over-fresh}
 use Rattle.books.proofs.SheetInParts.{sheet-whole}
 use Rattle.books.proofs.sheet.read_sheet.Statement.{statement}
 use Rattle.books.proofs.sheet.read_sheet.Tie as tie
