@@ -27,6 +27,10 @@ blamed P input f e x = rw e x
 pub blamed-is : (input : ℕ) (f : Fault) → (f .number ≡ 0 → ⊥) → blaming input f ≡ answer (f .number) input (f .place)
 blamed-is input f n = simp (ne-eqb (f .number) 0 n)
 
+-- Both are accepted on a press that there is.
+pub accepted-press : {press : ℕ} {book sheet : List ℕ} → Accepted press book sheet → IsPress press
+accepted-press {press} {sheet = sheet} fine = sheet-press press sheet (fine .sheet-fine)
+
 -- ── Induction over the ways ──
 
 module _ {A : Type 0} (P : A → Type 0) (refuse : Answer → A) where

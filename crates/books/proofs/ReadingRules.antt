@@ -194,8 +194,7 @@ module _ (strict : Bool) (s : List ℕ) (at motifs colours count : ℕ) (few : c
         near = t .near;
         spelled = λ bytes. rw first (t .spelled bytes);
       })
-      (λ r. absurd (omega (arith, r .some)))
-      rules-ended
+      (λ r. absurd (omega (arith, r .some))) rules-ended
 
   pub rules-refused : (rules .fault .number ≡ 0 → ⊥) → BlamedBy (NumberBy strict) s (at + 12 * count) (rules .fault)
   rules-refused z = ⊎-elim (λ t. absurd (z (ap (λ (f : Fault). f .number) (t .fine)))) (λ r. r) rules-ended

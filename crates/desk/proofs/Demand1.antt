@@ -1,90 +1,31 @@
 -- Demand 1, of the call: whatever the bytes, the slices and the numbers, it answers 0 to 9, 11, 18, 19 or 21, each exactly when its row says; a fault blames the input in which
 -- it stands at a place within it; and unless 0 or 11 is answered nothing is written. Stated on the number that a C host gets, taken apart as the header does.
-use Prim.Native.Nat.{ℕ, _/_, _%_, _^_, _≤_, _<_}
-use mathlib.Core.Path.{_≡_, refl, sym, _∙_, subst}
-use mathlib.Core.Bool.{true≢false}
+use Prim.Native.Nat.{ℕ, _/_, _%_, _^_, _≤_}
+use mathlib.Core.Path.{_≡_, refl, subst}
 use mathlib.Core.List.{List}
 use mathlib.Core.Logic.{_↔_, _⊎_, inl, inr, ⊎-elim}
 use native.Mathlib.Omega.{arith}
-use borrow.Author.Tests.{ne-eqb, ltb-true, ltb-false}
-use lib.Dec.{ltb}
-use lib.ListN.{length}
-use Rattle.names.specs.Pick.{pick}
-use Rattle.names.proofs.Picking.{pick-ind}
+use borrow.Author.Tests.{ne-eqb}
 use Rattle.names.proofs.Tests.{together, neither}
-use Rattle.books.specs.Answer.{InputsNumber, answer, plain, Packs}
+use Rattle.books.specs.Answer.{InputsNumber, answer, Packs}
 use Rattle.books.specs.Book.{bookOf}
-use Rattle.books.specs.Contents.{Contents}
-use Rattle.books.specs.Lent.{contentsOf, pictureOf, Accepted}
+use Rattle.books.specs.Lent.{Accepted}
 use Rattle.books.specs.Press.{IsPress}
 use Rattle.books.specs.Sheet.{sheetOf}
-use Rattle.books.proofs.LentEnds.{both-end}
+use Rattle.books.proofs.LentEnds.{accepted-press}
 use Rattle.books.proofs.Packing.{apart, plain-packs, book-placed, sheet-placed}
 use Rattle.books.proofs.ReadingBooks.{book-refused}
-use Rattle.books.proofs.ReadingSheets.{sheet-refused, sheet-press}
-use Rattle.pieces.specs.Asking.{startAnswer}
-use Rattle.pieces.specs.Derivation.{entriesNeeded}
-use Rattle.pieces.specs.Largest.{marked}
-use Rattle.pieces.specs.Area.{whole}
-use Rattle.pieces.specs.Recolour.{has?, sheetWith, ruled, refilled, Recolouring, untouched, recast, recolouring, RecoloursPacked}
+use Rattle.books.proofs.ReadingSheets.{sheet-refused}
+use Rattle.pieces.specs.Recolour.{Recolouring, recolouring, RecoloursPacked}
 use Rattle.pieces.proofs.Demand1.{InBook, InSheet, not-input}
-use Rattle.pieces.proofs.Recolouring.{Has, has-it, it-has}
+use Rattle.desk.proofs.Endings as ways
 
 module _ (press : ℕ) (book sheet entries : List ℕ) (row column colour : ℕ) where
-  -- the sheet has the cell and the colour
   abbrev pub Found : Type 0
-  Found = Has (sheetOf press sheet .sheet .size) (sheetOf press sheet .sheet .colours .count) row column colour
+  Found = ways.Found press book sheet entries row column colour
 
   abbrev pub Short : Type 0
-  Short = length entries < entriesNeeded (pictureOf press sheet)
-
-  -- ── The six ways in which it ends ──
-
-  pub record Cases (P : Recolouring → Type 0) : Type 0 where
-    pub no-press : (IsPress press → ⊥) → P (untouched (plain 21) sheet entries)
-    pub in-book : IsPress press → (bookOf book .fault .number ≡ 0 → ⊥) → P (untouched (answer (bookOf book .fault .number) 1 (bookOf book .fault .place)) sheet entries)
-    pub in-sheet : IsPress press → bookOf book .fault .number ≡ 0 → (sheetOf press sheet .fault .number ≡ 0 → ⊥)
-        → P (untouched (answer (sheetOf press sheet .fault .number) 2 (sheetOf press sheet .fault .place)) sheet entries)
-    pub no-cell : Accepted press book sheet → (Found → ⊥) → P (untouched (plain 19) sheet entries)
-    pub short-work : Accepted press book sheet → Found → Short → P (untouched (plain 9) sheet entries)
-    pub recoloured : Accepted press book sheet → Found → (Short → ⊥) → (n : ℕ) → (n ≡ 0) ⊎ (n ≡ 11) → (bytes work : List ℕ)
-        → P (record { answer = plain n; bytes = bytes; entries = work })
-
-  zero-or-eleven : (m n : ℕ) (t : List ℕ) (start : ℕ) → (startAnswer m n t start ≡ 0) ⊎ (startAnswer m n t start ≡ 11)
-  unfolding startAnswer
-  zero-or-eleven m n t start = pick-ind (λ (x : ℕ). (x ≡ 0) ⊎ (x ≡ 11)) (marked m n t start (whole m n)) 0 11 (λ _. inl refl) (λ _. inr refl)
-
-  module _ (P : Recolouring → Type 0) (cases : Cases P) where
-    by-room : Accepted press book sheet → Found → (b : Contents)
-        → P (pick (ltb (length entries) (entriesNeeded (pictureOf press sheet))) (untouched (plain 9) sheet entries) (recast press b (sheetWith press sheet row column colour) row column entries))
-    unfolding recast
-    by-room fine found b =
-        pick-ind P (ltb (length entries) (entriesNeeded (pictureOf press sheet))) (untouched (plain 9) sheet entries) (recast press b (sheetWith press sheet row column colour) row column entries)
-        (λ e. cases .short-work fine found (ltb-true _ _ e))
-        (λ e.
-        let p = pictureOf press (sheetWith press sheet row column colour) in
-        let work = refilled (ruled b p) (p .rows) (p .cols) row column entries in
-        cases .recoloured fine found (λ s. let long = ltb-false (length entries) (entriesNeeded (pictureOf press sheet)) e in omega arith)
-        (startAnswer (p .rows) (p .cols) work (b .start)) (zero-or-eleven (p .rows) (p .cols) work (b .start)) (sheetWith press sheet row column colour) work)
-
-    pub recolouring-ends : P (recolouring press book sheet entries row column colour)
-    unfolding recolouring
-    recolouring-ends =
-        both-end P (λ a. untouched a sheet entries) press book sheet
-        (λ b p. pick (has? (sheetOf press sheet .sheet .size) (sheetOf press sheet .sheet .colours .count) row column colour)
-        (pick (ltb (length entries) (entriesNeeded p)) (untouched (plain 9) sheet entries) (recast press b (sheetWith press sheet row column colour) row column entries))
-        (untouched (plain 19) sheet entries))
-        (record {
-          no-press = cases .no-press;
-          in-book = cases .in-book;
-          in-sheet = cases .in-sheet;
-          in-neither = λ fine.
-              pick-ind P (has? (sheetOf press sheet .sheet .size) (sheetOf press sheet .sheet .colours .count) row column colour) _ (untouched (plain 19) sheet entries)
-              (λ h. by-room fine (has-it _ _ row column colour h) (contentsOf book))
-              (λ h. cases .no-cell fine (λ found. true≢false (sym (it-has _ _ row column colour found) ∙ h)));
-        })
-
-  -- ── What each answer says ──
+  Short = ways.Short press book sheet entries row column colour
 
   pub record Answered (number blamed place : ℕ) (sheet-left work-left : List ℕ) : Type 0 where
     pub listed : InputsNumber number ⊎ ((number ≡ 9) ⊎ (number ≡ 11) ⊎ (number ≡ 19) ⊎ (number ≡ 21))
@@ -99,9 +40,6 @@ module _ (press : ℕ) (book sheet entries : List ℕ) (row column colour : ℕ)
 
   abbrev Obeys : Recolouring → Type 0
   Obeys d = Answered (d .answer .number) (d .answer .blamed) (d .answer .place) (d .bytes) (d .entries)
-
-  on-press : Accepted press book sheet → IsPress press
-  on-press fine = sheet-press press sheet (fine .sheet-fine)
 
   -- no fault of an input
   done-unlisted : {n : ℕ} → 1 ≤ n → InputsNumber n → (n ≡ 0) ⊎ (n ≡ 11) → ⊥
@@ -126,7 +64,7 @@ module _ (press : ℕ) (book sheet entries : List ℕ) (row column colour : ℕ)
 
   obeys : Obeys (recolouring press book sheet entries row column colour)
   obeys =
-      recolouring-ends Obeys
+      ways.recolouring-ends press book sheet entries row column colour Obeys
       (record {
         no-press = λ none.
             record {
@@ -134,9 +72,9 @@ module _ (press : ℕ) (book sheet entries : List ℕ) (row column colour : ℕ)
               no-press = together refl none;
               faulty = neither (λ x. not-input 21 (x .1) (omega arith) (λ u. omega arith)) (λ x. none (x .0));
               faults = λ h g. absurd (not-input 21 g (omega arith) (λ u. omega arith));
-              nineteen = neither (λ e. omega arith) (λ x. none (on-press (x .0)));
-              nine = neither (λ e. omega arith) (λ x. none (on-press (x .0)));
-              done = neither (λ x. ⊎-elim (λ e. omega arith) (λ e. omega arith) x) (λ x. none (on-press (x .0)));
+              nineteen = neither (λ e. omega arith) (λ x. none (accepted-press (x .0)));
+              nine = neither (λ e. omega arith) (λ x. none (accepted-press (x .0)));
+              done = neither (λ x. ⊎-elim (λ e. omega arith) (λ e. omega arith) x) (λ x. none (accepted-press (x .0)));
               unblamed = λ _. (refl, refl);
               unwritten = λ _. (refl, refl);
             };
@@ -148,7 +86,7 @@ module _ (press : ℕ) (book sheet entries : List ℕ) (row column colour : ℕ)
         no-cell = λ fine none.
             record {
               listed = inr (inr (inr (inl refl)));
-              no-press = neither (λ e. omega arith) (λ none. none (on-press fine));
+              no-press = neither (λ e. omega arith) (λ none. none (accepted-press fine));
               faulty = neither (λ x. not-input 19 (x .1) (omega arith) (λ u. omega arith)) (λ x. x .1 fine);
               faults = λ h g. absurd (not-input 19 g (omega arith) (λ u. omega arith));
               nineteen = together refl (fine, none);
@@ -160,7 +98,7 @@ module _ (press : ℕ) (book sheet entries : List ℕ) (row column colour : ℕ)
         short-work = λ fine found short.
             record {
               listed = inr (inl refl);
-              no-press = neither (λ e. omega arith) (λ none. none (on-press fine));
+              no-press = neither (λ e. omega arith) (λ none. none (accepted-press fine));
               faulty = neither (λ x. not-input 9 (x .1) (omega arith) (λ u. omega arith)) (λ x. x .1 fine);
               faults = λ h g. absurd (not-input 9 g (omega arith) (λ u. omega arith));
               nineteen = neither (λ e. omega arith) (λ x. x .1 found);
@@ -172,7 +110,7 @@ module _ (press : ℕ) (book sheet entries : List ℕ) (row column colour : ℕ)
         recoloured = λ fine found long n told bytes work.
             record {
               listed = ⊎-elim (λ z. inl (inl (omega arith))) (λ z. inr (inr (inl z))) told;
-              no-press = neither (λ e. ⊎-elim (λ z. omega arith) (λ z. omega arith) told) (λ none. none (on-press fine));
+              no-press = neither (λ e. ⊎-elim (λ z. omega arith) (λ z. omega arith) told) (λ none. none (accepted-press fine));
               faulty = neither (λ x. done-unlisted (x .0) (x .1) told) (λ x. x .1 fine);
               faults = λ h g. absurd (done-unlisted h g told);
               nineteen = neither (λ e. ⊎-elim (λ z. omega arith) (λ z. omega arith) told) (λ x. x .1 found);
@@ -185,7 +123,7 @@ module _ (press : ℕ) (book sheet entries : List ℕ) (row column colour : ℕ)
 
   packs : Packs (recolouring press book sheet entries row column colour .answer) 0
   packs =
-      recolouring-ends (λ d. Packs (d .answer) 0)
+      ways.recolouring-ends press book sheet entries row column colour (λ d. Packs (d .answer) 0)
       (record {
         no-press = λ _. plain-packs 21 0 (omega arith) (omega arith);
         in-book = λ is n. rw (ne-eqb (bookOf book .fault .number) 0 n) at (book-placed book 1 (omega arith) .packs);

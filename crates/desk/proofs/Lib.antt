@@ -1,4 +1,5 @@
 pub mod Recast
 pub mod TableKept
 pub mod Theorems
+pub mod Endings
 pub mod Demand1

@@ -71,8 +71,7 @@ module _ (s t : List ℕ) (f g : Family) (m : Merged) (lf : Lent s f) (lg : Lent
   unfolding raisedBy
   risen-are =
       changed-stands (rulesOf g) (second .rules) (own-stand t g (lg .fitted .sized)) (raisedBy (f .motifs) (m .numbers)) .are
-      ∙ map-agrees _ _ (second .rules)
-      (λ r h i. record { head = f .motifs + r .head; body = body-same (r .body) (lg .keeps .sound .rules-fit r h .body-fits) i })
+      ∙ map-agrees _ _ (second .rules) (λ r h i. record { head = f .motifs + r .head; body = body-same (r .body) (lg .keeps .sound .rules-fit r h .body-fits) i })
 
   pub risen-rows : Rows (raisedRules f g (m .numbers))
   risen-rows = changed-rows (rulesOf g) (lg .fitted .sized .rows) (raisedBy (f .motifs) (m .numbers))

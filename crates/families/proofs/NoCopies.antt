@@ -53,10 +53,7 @@ unfolding copies
 copies-distinct n s [] d = tt
 copies-distinct n s (r ∷ rs) d =
     pick-ind Distinct (eqb (r .head) s) (record { head = n; body = r .body } ∷ copies n s rs) (copies n s rs)
-    (λ e. (
-      λ m. d .0 (Memᴰ·cast (λ i. record { head = eqb-true (r .head) s e i; body = r .body }) (copies-back n s n (r .body) rs m .1)),
-      copies-distinct n s rs (d .1),
-    ))
+    (λ e. (λ m. d .0 (Memᴰ·cast (λ i. record { head = eqb-true (r .head) s e i; body = r .body }) (copies-back n s n (r .body) rs m .1)), copies-distinct n s rs (d .1)))
     (λ e. copies-distinct n s rs (d .1))
 
 -- ── Raised rules ──

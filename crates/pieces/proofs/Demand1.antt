@@ -10,9 +10,10 @@ use Rattle.books.specs.Answer.{InputsNumber}
 use Rattle.books.specs.Book.{bookOf}
 use Rattle.books.specs.Press.{IsPress}
 use Rattle.books.specs.Sheet.{sheetOf}
+use Rattle.books.proofs.LentEnds.{accepted-press}
 use Rattle.books.proofs.Packing.{apart}
 use Rattle.books.proofs.ReadingBooks.{book-refused}
-use Rattle.books.proofs.ReadingSheets.{sheet-refused, sheet-press}
+use Rattle.books.proofs.ReadingSheets.{sheet-refused}
 use Rattle.names.proofs.Tests.{together, neither}
 use Rattle.pieces.specs.Table.{table}
 use Rattle.pieces.specs.Derivation.{Derivation, entriesNeeded, derivation, LeavesPacked}
@@ -90,7 +91,7 @@ module _ (press : ℕ) (book sheet work tree : List ℕ) where
         declined = λ fine room none.
             record {
               listed = inl (omega arith);
-              no-press = neither (λ e. omega arith) (λ none. none (on-press fine));
+              no-press = neither (λ e. omega arith) (λ none. none (accepted-press fine));
               faults = λ h g. absurd (not-input 11 g (omega arith) (λ u. omega arith));
               others = λ o. (refl, refl);
               unwritten = λ h g. absurd (g refl);
@@ -99,7 +100,7 @@ module _ (press : ℕ) (book sheet work tree : List ℕ) where
         derived = λ fine room x nodes given.
             record {
               listed = inl (omega arith);
-              no-press = neither (λ e. omega arith) (λ none. none (on-press fine));
+              no-press = neither (λ e. omega arith) (λ none. none (accepted-press fine));
               faults = λ h g. absurd (omega arith);
               others = λ o. (refl, refl);
               unwritten = λ h g. absurd (omega arith);
@@ -107,9 +108,6 @@ module _ (press : ℕ) (book sheet work tree : List ℕ) where
             };
       })
     where
-      on-press : Accepted press book sheet → IsPress press
-      on-press fine = sheet-press press sheet (fine .sheet-fine)
-
       unlisted : (n : ℕ) → 1 ≤ n → InputsNumber n → (n ≡ 0) ⊎ (InputsNumber n → ⊥) → ⊥
       unlisted n h g (inl e) = omega arith
       unlisted n h g (inr other) = other g
@@ -118,7 +116,7 @@ module _ (press : ℕ) (book sheet work tree : List ℕ) where
       still n fine h g =
           record {
             listed = inl (omega arith);
-            no-press = neither (λ e. omega arith) (λ none. none (on-press fine));
+            no-press = neither (λ e. omega arith) (λ none. none (accepted-press fine));
             faults = λ u w. absurd (not-input n w h (λ u. omega arith));
             others = λ o. (refl, refl);
             unwritten = λ u w. (refl, refl);

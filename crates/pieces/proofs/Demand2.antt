@@ -16,9 +16,9 @@ use Rattle.books.specs.Derives.{Derives, Member}
 use Rattle.books.specs.Decide.{derives?}
 use Rattle.books.specs.Answer.{plain}
 use Rattle.books.specs.declared.answer.Answer.{Answer}
+use Rattle.books.proofs.LentEnds.{accepted-press}
 use Rattle.books.proofs.Deciding.{decided, refused}
 use Rattle.books.proofs.ReadingBooks.{book-accepted}
-use Rattle.books.proofs.ReadingSheets.{sheet-press}
 use Rattle.pieces.specs.declared.piece.Piece.{Piece}
 use Rattle.pieces.specs.Pieces.{Inside, slotOf}
 use Rattle.pieces.specs.Table.{cut, table}
@@ -65,7 +65,7 @@ module _ (press : ℕ) (book sheet entries numbers : List ℕ) (fine : Accepted 
   told =
       derivation-ends press book sheet entries numbers Told
       (record {
-        no-press = λ n. absurd (n (sheet-press press sheet (fine .sheet-fine)));
+        no-press = λ n. absurd (n (accepted-press fine));
         in-book = λ is n. absurd (n (fine .book-fine));
         in-sheet = λ is z n. absurd (n (fine .sheet-fine));
         short-work = λ f short. absurd (omega (arith, room .work-long));

@@ -13,9 +13,10 @@ use Rattle.books.specs.Press.{IsPress}
 use Rattle.books.specs.Derives.{Member}
 use Rattle.books.specs.Answer.{InputsNumber, packed}
 use Rattle.pieces.specs.declared.derive.Derived.{Derived}
+use Rattle.books.proofs.LentEnds.{accepted-press}
 use Rattle.books.proofs.Packing.{apart}
 use Rattle.books.proofs.ReadingBooks.{book-refused}
-use Rattle.books.proofs.ReadingSheets.{sheet-refused, sheet-press}
+use Rattle.books.proofs.ReadingSheets.{sheet-refused}
 use Rattle.pieces.specs.Derivation.{Derivation, entriesNeeded, numbersNeeded, derivation, Leaves, LeavesPacked, Roomy}
 use Rattle.pieces.proofs.Demand1.{not-input}
 use Rattle.pieces.proofs.DerivationAnswers.{derivation-packs}
@@ -40,9 +41,6 @@ module _ (press : ℕ) (book sheet entries numbers : List ℕ) where
   abbrev Numbered : Derivation → Type 0
   Numbered d = Numbers (d .answer .number)
 
-  on-press : Accepted press book sheet → IsPress press
-  on-press fine = sheet-press press sheet (fine .sheet-fine)
-
   in-input : (n : ℕ) → IsPress press → 1 ≤ n → InputsNumber n → (Accepted press book sheet → ⊥) → Numbers n
   in-input n is h g bad =
       record {
@@ -62,16 +60,16 @@ module _ (press : ℕ) (book sheet entries numbers : List ℕ) where
             record {
               twenty-one = together refl none;
               faulty = neither (λ e. not-input _ (e .1) (omega arith) (λ u. omega arith)) (λ x. none (x .0));
-              nine = neither (λ e. omega arith) (λ x. none (on-press (x .0)));
-              ten = neither (λ e. omega arith) (λ x. none (on-press (x .0)));
-              eleven = neither (λ e. omega arith) (λ x. none (on-press (x .0)));
-              zero = neither (λ e. omega arith) (λ x. none (on-press (x .0)));
+              nine = neither (λ e. omega arith) (λ x. none (accepted-press (x .0)));
+              ten = neither (λ e. omega arith) (λ x. none (accepted-press (x .0)));
+              eleven = neither (λ e. omega arith) (λ x. none (accepted-press (x .0)));
+              zero = neither (λ e. omega arith) (λ x. none (accepted-press (x .0)));
             };
         in-book = λ is n. let f = book-refused book n .blamed in in-input _ is (f .some) (f .known) (λ fine. n (fine .book-fine));
         in-sheet = λ is z n. let f = sheet-refused press sheet n .blamed in in-input _ is (f .some) (inl (f .known)) (λ fine. n (fine .sheet-fine));
         short-work = λ fine short.
             record {
-              twenty-one = neither (λ e. omega arith) (λ none. none (on-press fine));
+              twenty-one = neither (λ e. omega arith) (λ none. none (accepted-press fine));
               faulty = neither (λ e. not-input _ (e .1) (omega arith) (λ u. omega arith)) (λ x. x .1 fine);
               nine = together refl (fine, short);
               ten = neither (λ e. omega arith) (λ x. omega (arith, x .1));
@@ -80,7 +78,7 @@ module _ (press : ℕ) (book sheet entries numbers : List ℕ) where
             };
         short-tree = λ fine enough short.
             record {
-              twenty-one = neither (λ e. omega arith) (λ none. none (on-press fine));
+              twenty-one = neither (λ e. omega arith) (λ none. none (accepted-press fine));
               faulty = neither (λ e. not-input _ (e .1) (omega arith) (λ u. omega arith)) (λ x. x .1 fine);
               nine = neither (λ e. omega arith) (λ x. omega (arith, x .1));
               ten = together refl (fine, enough, short);
@@ -89,7 +87,7 @@ module _ (press : ℕ) (book sheet entries numbers : List ℕ) where
             };
         declined = λ fine room none.
             record {
-              twenty-one = neither (λ e. omega arith) (λ none. none (on-press fine));
+              twenty-one = neither (λ e. omega arith) (λ none. none (accepted-press fine));
               faulty = neither (λ e. not-input _ (e .1) (omega arith) (λ u. omega arith)) (λ x. x .1 fine);
               nine = neither (λ e. omega arith) (λ x. omega (arith, x .1, room .work-long));
               ten = neither (λ e. omega arith) (λ x. omega (arith, x .2, room .tree-long));
@@ -98,7 +96,7 @@ module _ (press : ℕ) (book sheet entries numbers : List ℕ) where
             };
         derived = λ fine room x nodes given.
             record {
-              twenty-one = neither (λ e. omega arith) (λ none. none (on-press fine));
+              twenty-one = neither (λ e. omega arith) (λ none. none (accepted-press fine));
               faulty = neither (λ e. omega (arith, e .0)) (λ x. x .1 fine);
               nine = neither (λ e. omega arith) (λ y. omega (arith, y .1, room .work-long));
               ten = neither (λ e. omega arith) (λ y. omega (arith, y .2, room .tree-long));

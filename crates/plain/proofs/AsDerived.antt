@@ -9,9 +9,8 @@ use Rattle.books.specs.Derives.{Member}
 use Rattle.books.specs.Lent.{contentsOf, pictureOf, Accepted}
 use Rattle.books.specs.Sheet.{sheetOf}
 use Rattle.books.specs.declared.answer.Answer.{Answer}
-use Rattle.books.proofs.LentEnds.{blamed-is}
+use Rattle.books.proofs.LentEnds.{accepted-press, blamed-is}
 use Rattle.books.proofs.Packing.{apart}
-use Rattle.books.proofs.ReadingSheets.{sheet-press}
 use Rattle.pieces.specs.Derivation.{Derivation, Roomy, derivation, Leaves, LeavesPacked}
 use Rattle.pieces.specs.declared.derive.Derived.{Derived}
 use Rattle.pieces.proofs.DerivationAnswers.{press-first, book-second, sheet-third, derivation-packs}
@@ -36,7 +35,7 @@ module _ (press : ℕ) (book sheet entries numbers : List ℕ) (room : Roomy (pi
   says fine a none some =
       derivation-ends press book sheet entries numbers (λ (x : Derivation). a ≡ x .answer)
       (record {
-        no-press = λ none. absurd (none (sheet-press press sheet (fine .sheet-fine)));
+        no-press = λ none. absurd (none (accepted-press fine));
         in-book = λ _ n. absurd (n (fine .book-fine));
         in-sheet = λ _ z n. absurd (n (fine .sheet-fine));
         short-work = λ _ short. absurd (omega (arith, room .work-long));

@@ -14,9 +14,10 @@ use Rattle.books.specs.Lent.{contentsOf, pictureOf, Accepted}
 use Rattle.books.specs.Press.{IsPress}
 use Rattle.books.specs.Sheet.{sheetOf}
 use Rattle.books.specs.declared.answer.Answer.{Answer}
+use Rattle.books.proofs.LentEnds.{accepted-press}
 use Rattle.books.proofs.Packing.{apart, plain-packs, book-placed, sheet-placed}
 use Rattle.books.proofs.ReadingBooks.{book-refused}
-use Rattle.books.proofs.ReadingSheets.{sheet-refused, sheet-press}
+use Rattle.books.proofs.ReadingSheets.{sheet-refused}
 use Rattle.pieces.proofs.Demand1.{InBook, InSheet, not-input}
 use Rattle.plain.specs.Outcome.{mostCells, cells, plainAnswer}
 use Rattle.plain.proofs.Endings.{plain-ends}
@@ -44,9 +45,6 @@ module _ (press : ℕ) (book sheet : List ℕ) where
   abbrev Obeys : Answer → Type 0
   Obeys a = Answered (a .number) (a .blamed) (a .place)
 
-  on-press : Accepted press book sheet → IsPress press
-  on-press fine = sheet-press press sheet (fine .sheet-fine)
-
   in-input : (n blamed place : ℕ) → IsPress press → 1 ≤ n → InputsNumber n → (Accepted press book sheet → ⊥)
       → InBook book n blamed place ⊎ InSheet press book sheet n blamed place → Answered n blamed place
   in-input n blamed place is h g bad which =
@@ -70,9 +68,9 @@ module _ (press : ℕ) (book sheet : List ℕ) where
               listed = inr (inr (inr refl));
               no-press = together refl none;
               faulty = neither (λ e. not-input 21 (e .1) (omega arith) (λ u. omega arith)) (λ x. none (x .0));
-              twenty = neither (λ e. omega arith) (λ x. none (on-press (x .0)));
-              eleven = neither (λ e. omega arith) (λ x. none (on-press (x .0)));
-              zero = neither (λ e. omega arith) (λ x. none (on-press (x .0)));
+              twenty = neither (λ e. omega arith) (λ x. none (accepted-press (x .0)));
+              eleven = neither (λ e. omega arith) (λ x. none (accepted-press (x .0)));
+              zero = neither (λ e. omega arith) (λ x. none (accepted-press (x .0)));
               faults = λ h g. absurd (not-input 21 g (omega arith) (λ u. omega arith));
               others = λ _. (refl, refl);
             };
@@ -85,7 +83,7 @@ module _ (press : ℕ) (book sheet : List ℕ) where
         too-many = λ fine many.
             record {
               listed = inr (inr (inl refl));
-              no-press = neither (λ e. omega arith) (λ none. none (on-press fine));
+              no-press = neither (λ e. omega arith) (λ none. none (accepted-press fine));
               faulty = neither (λ e. not-input 20 (e .1) (omega arith) (λ u. omega arith)) (λ x. x .1 fine);
               twenty = together refl (fine, many);
               eleven = neither (λ e. omega arith) (λ x. omega (arith, x .1));
@@ -96,7 +94,7 @@ module _ (press : ℕ) (book sheet : List ℕ) where
         declined = λ fine few none.
             record {
               listed = inr (inl refl);
-              no-press = neither (λ e. omega arith) (λ none. none (on-press fine));
+              no-press = neither (λ e. omega arith) (λ none. none (accepted-press fine));
               faulty = neither (λ e. not-input 11 (e .1) (omega arith) (λ u. omega arith)) (λ x. x .1 fine);
               twenty = neither (λ e. omega arith) (λ x. omega (arith, x .1));
               eleven = together refl (fine, few, none);
@@ -107,7 +105,7 @@ module _ (press : ℕ) (book sheet : List ℕ) where
         derived = λ fine few has.
             record {
               listed = inl (inl (omega arith));
-              no-press = neither (λ e. omega arith) (λ none. none (on-press fine));
+              no-press = neither (λ e. omega arith) (λ none. none (accepted-press fine));
               faulty = neither (λ e. omega (arith, e .0)) (λ x. x .1 fine);
               twenty = neither (λ e. omega arith) (λ x. omega (arith, x .1));
               eleven = neither (λ e. omega arith) (λ x. x .2 has);

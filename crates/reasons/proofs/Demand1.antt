@@ -1,10 +1,9 @@
--- What the call answers, from any bytes and any slice: which number and exactly when, which input it blames and where, what the work slice then holds, and that
--- with 0 the reason is the first that holds of the lent book and sheet. Stated on the parts of the answer, and for the C host on the number taken apart as the
--- header does.
+-- What the call answers, from any bytes and any slice: which number and exactly when, which input it blames and where, what the work slice then holds, and that with 0 the reason is
+-- the first that holds of the lent book and sheet. Stated on the parts of the answer, and for the C host on the number taken apart as the header does.
 use Prim.Native.Nat.{ℕ, _/_, _%_, _^_, _≤_, _<_}
 use mathlib.Core.Path.{_≡_, refl, ap, _∙_, subst}
 use mathlib.Core.List.{List, _++_}
-use mathlib.Core.Logic.{_↔_, _⊎_, inl, inr}
+use mathlib.Core.Logic.{_↔_, _⊎_, inl, inr, ⊎-elim}
 use native.Mathlib.Omega.{arith}
 use lib.ListN.{length, drop}
 use Rattle.names.proofs.Tests.{together, neither}
@@ -13,9 +12,10 @@ use Rattle.books.specs.Contents.{Contents}
 use Rattle.books.specs.Picture.{Picture}
 use Rattle.books.specs.Press.{IsPress}
 use Rattle.books.specs.Derives.{Member}
+use Rattle.books.proofs.LentEnds.{accepted-press}
 use Rattle.books.proofs.Packing.{apart}
 use Rattle.books.proofs.ReadingBooks.{book-refused}
-use Rattle.books.proofs.ReadingSheets.{sheet-refused, sheet-press}
+use Rattle.books.proofs.ReadingSheets.{sheet-refused}
 use Rattle.pieces.specs.Derivation.{entriesNeeded}
 use Rattle.pieces.specs.Table.{table}
 use Rattle.pieces.proofs.Demand1.{InBook, InSheet, not-input}
@@ -69,9 +69,6 @@ module _ (press : ℕ) (book sheet work : List ℕ) where
   abbrev Obeys : Outcome → Type 0
   Obeys o = Answered (o .answer .number) (o .answer .blamed) (o .answer .place) (o .reason) (o .entries)
 
-  on-press : Accepted press book sheet → IsPress press
-  on-press fine = sheet-press press sheet (fine .sheet-fine)
-
   faulty-input : (n blamed place : ℕ) → IsPress press → 1 ≤ n → InputsNumber n → (Accepted press book sheet → ⊥) → InBook book n blamed place ⊎ InSheet press book sheet n blamed place
       → Answered n blamed place NoReason work
   faulty-input n blamed place is h g bad where-it-is =
@@ -83,16 +80,12 @@ module _ (press : ℕ) (book sheet work : List ℕ) where
         fifteen = neither (λ e. not-input 15 (subst InputsNumber e g) (omega arith) (λ u. omega arith)) (λ x. bad (x .0 .0));
         zero = neither (λ e. omega arith) (λ x. bad (x .0 .0));
         faults = λ _ _. where-it-is;
-        others = λ o. absurd (unlisted o);
+        others = λ o. absurd (⊎-elim (λ e. omega arith) (λ other. other g) o);
         first = λ z. absurd (omega arith);
         no-reason = λ _. refl;
         unwritten = λ _ _. refl;
         written = λ o. absurd (unread n h (inl g) o);
       }
-    where
-      unlisted : (n ≡ 0) ⊎ (InputsNumber n → ⊥) → ⊥
-      unlisted (inl e) = omega arith
-      unlisted (inr other) = other g
 
   pub obeys : Obeys (whyNot press book sheet work)
   obeys =
@@ -103,9 +96,9 @@ module _ (press : ℕ) (book sheet work : List ℕ) where
               listed = inr (inr (inr refl));
               no-press = together refl none;
               faulty = neither (λ e. not-input 21 (e .1) (omega arith) (λ u. omega arith)) (λ x. none (x .0));
-              nine = neither (λ e. omega arith) (λ x. none (on-press (x .0)));
-              fifteen = neither (λ e. omega arith) (λ x. none (on-press (x .0 .0)));
-              zero = neither (λ e. omega arith) (λ x. none (on-press (x .0 .0)));
+              nine = neither (λ e. omega arith) (λ x. none (accepted-press (x .0)));
+              fifteen = neither (λ e. omega arith) (λ x. none (accepted-press (x .0 .0)));
+              zero = neither (λ e. omega arith) (λ x. none (accepted-press (x .0 .0)));
               faults = λ h g. absurd (not-input 21 g (omega arith) (λ u. omega arith));
               others = λ o. (refl, refl);
               first = λ e. absurd (omega arith);
@@ -122,7 +115,7 @@ module _ (press : ℕ) (book sheet work : List ℕ) where
         short-work = λ fine short.
             record {
               listed = inr (inl refl);
-              no-press = neither (λ e. omega arith) (λ none. none (on-press fine));
+              no-press = neither (λ e. omega arith) (λ none. none (accepted-press fine));
               faulty = neither (λ e. not-input 9 (e .1) (omega arith) (λ u. omega arith)) (λ x. x .1 fine);
               nine = together refl (fine, short);
               fifteen = neither (λ e. omega arith) (λ x. omega (arith, x .0 .1));
@@ -137,7 +130,7 @@ module _ (press : ℕ) (book sheet work : List ℕ) where
         in-family = λ fine room x.
             record {
               listed = inr (inr (inl refl));
-              no-press = neither (λ e. omega arith) (λ none. none (on-press fine));
+              no-press = neither (λ e. omega arith) (λ none. none (accepted-press fine));
               faulty = neither (λ e. not-input 15 (e .1) (omega arith) (λ u. omega arith)) (λ x. x .1 fine);
               nine = neither (λ e. omega arith) (λ y. omega (arith, y .1));
               fifteen = together refl ((fine, room), x);
@@ -152,7 +145,7 @@ module _ (press : ℕ) (book sheet work : List ℕ) where
         explained = λ fine room other first.
             record {
               listed = inl (inl (omega arith));
-              no-press = neither (λ e. omega arith) (λ none. none (on-press fine));
+              no-press = neither (λ e. omega arith) (λ none. none (accepted-press fine));
               faulty = neither (λ e. omega (arith, e .0)) (λ x. x .1 fine);
               nine = neither (λ e. omega arith) (λ y. omega (arith, y .1));
               fifteen = neither (λ e. omega arith) (λ y. other (y .1));

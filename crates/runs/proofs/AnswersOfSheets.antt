@@ -18,8 +18,9 @@ use Rattle.books.specs.Derives.{Member}
 use Rattle.books.specs.Lent.{contentsOf, pictureOf, Accepted}
 use Rattle.books.specs.Press.{IsPress}
 use Rattle.books.specs.Sheet.{sheetOf}
+use Rattle.books.proofs.LentEnds.{accepted-press}
 use Rattle.books.proofs.Area.{within-area}
-use Rattle.books.proofs.ReadingSheets.{sheet-refused, sheet-lies, sheet-press}
+use Rattle.books.proofs.ReadingSheets.{sheet-refused, sheet-lies}
 use Rattle.pieces.specs.Derivation.{Derivation, entriesNeeded, numbersNeeded}
 use Rattle.pieces.proofs.Endings.{derivation-ends}
 use Rattle.pieces.proofs.Stretches.{total-few}
@@ -90,7 +91,7 @@ module _ (press : ℕ) (book sheet : List ℕ) where
   accepted-exactly =
       answer-ends (λ n. (n ≡ 0) ↔ (Accepted press book sheet × Member (contentsOf book) (pictureOf press sheet)))
       (record {
-        no-press = λ none. neither (λ e. omega arith) (λ x. none (sheet-press press sheet (x .0 .sheet-fine)));
+        no-press = λ none. neither (λ e. omega arith) (λ x. none (accepted-press (x .0)));
         in-book = λ n. neither n (λ x. n (x .0 .book-fine));
         in-sheet = λ z n. neither n (λ x. n (x .0 .sheet-fine));
         declined = λ fine none. neither (λ e. omega arith) (λ x. none (x .1));

@@ -20,9 +20,10 @@ use Rattle.books.specs.Press.{IsPress}
 use Rattle.books.specs.Size.{room}
 use Rattle.books.specs.Sheet.{sheetOf}
 use Rattle.books.specs.declared.answer.Answer.{Answer}
+use Rattle.books.proofs.LentEnds.{accepted-press}
 use Rattle.books.proofs.Packing.{apart, plain-packs, book-placed, sheet-placed}
 use Rattle.books.proofs.ReadingBooks.{book-refused}
-use Rattle.books.proofs.ReadingSheets.{sheet-refused, sheet-lies, sheet-press}
+use Rattle.books.proofs.ReadingSheets.{sheet-refused, sheet-lies}
 use Rattle.pieces.proofs.Demand1.{InBook, InSheet, not-input}
 use Rattle.trees.specs.declared.node.Node.{Node}
 use Rattle.trees.specs.Due.{RightAt, WrongAt}
@@ -71,9 +72,6 @@ module _ (press : ℕ) (book sheet : List ℕ) (nodes : List Node) where
   abbrev Obeys : Answer → Type 0
   Obeys a = Answered (a .number) (a .blamed) (a .place)
 
-  on-press : Accepted press book sheet → IsPress press
-  on-press fine = sheet-press press sheet (fine .sheet-fine)
-
   in-input : (n blamed place : ℕ) → IsPress press → 1 ≤ n → InputsNumber n → (Accepted press book sheet → ⊥)
       → InBook book n blamed place ⊎ InSheet press book sheet n blamed place → Answered n blamed place
   in-input n blamed place is h g bad which =
@@ -101,7 +99,7 @@ module _ (press : ℕ) (book sheet : List ℕ) (nodes : List Node) where
       let none : IsTree → ⊥ = λ t. omega (arith, ap (λ (f : Fault). f .number) (one-end b p end (a-tree t))) in
       record {
         listed = inr (inl refl);
-        twenty-one = neither (λ e. omega arith) (λ none. none (on-press fine));
+        twenty-one = neither (λ e. omega arith) (λ none. none (accepted-press fine));
         faulty = neither (λ e. not-input 16 (e .1) (omega arith) (λ u. omega arith)) (λ x. x .1 fine);
         sixteen = together refl (fine, none);
         zero = neither (λ e. omega arith) (λ x. none (x .1));
@@ -121,8 +119,8 @@ module _ (press : ℕ) (book sheet : List ℕ) (nodes : List Node) where
               listed = inr (inr refl);
               twenty-one = together refl none;
               faulty = neither (λ e. not-input 21 (e .1) (omega arith) (λ u. omega arith)) (λ x. none (x .0));
-              sixteen = neither (λ e. omega arith) (λ x. none (on-press (x .0)));
-              zero = neither (λ e. omega arith) (λ x. none (on-press (x .0)));
+              sixteen = neither (λ e. omega arith) (λ x. none (accepted-press (x .0)));
+              zero = neither (λ e. omega arith) (λ x. none (accepted-press (x .0)));
               faults = λ h g. absurd (not-input 21 g (omega arith) (λ u. omega arith));
               unblamed = λ _. refl;
               at-start = λ _. refl;
@@ -130,11 +128,9 @@ module _ (press : ℕ) (book sheet : List ℕ) (nodes : List Node) where
               there = λ e. absurd (omega arith);
             };
         in-book = λ is n. let f = book-refused book n .blamed in
-            in-input _ _ _ is (f .some) (f .known) (λ fine. n (fine .book-fine))
-            (inl (record { number-is = refl; place-is = refl; first = refl; inside = f .inside }));
+            in-input _ _ _ is (f .some) (f .known) (λ fine. n (fine .book-fine)) (inl (record { number-is = refl; place-is = refl; first = refl; inside = f .inside }));
         in-sheet = λ is z n. let f = sheet-refused press sheet n .blamed in
-            in-input _ _ _ is (f .some) (inl (f .known)) (λ fine. n (fine .sheet-fine))
-            (inr (record { book-fine = z; number-is = refl; place-is = refl; second = refl; inside = f .inside }));
+            in-input _ _ _ is (f .some) (inl (f .known)) (λ fine. n (fine .sheet-fine)) (inr (record { book-fine = z; number-is = refl; place-is = refl; second = refl; inside = f .inside }));
         failing = λ fine i x. no-tree i fine (fails x) (right-before b x) (inl (wrong-there b x));
         over = λ fine xs v vs e t.
             no-tree (length xs) fine (rw e (left-over v vs t)) (λ i h. rw e (tree-right b t (v ∷ vs) i h))
@@ -142,7 +138,7 @@ module _ (press : ℕ) (book sheet : List ℕ) (nodes : List Node) where
         derived = λ fine t.
             record {
               listed = inl (inl (omega arith));
-              twenty-one = neither (λ e. omega arith) (λ none. none (on-press fine));
+              twenty-one = neither (λ e. omega arith) (λ none. none (accepted-press fine));
               faulty = neither (λ e. omega (arith, e .0)) (λ x. x .1 fine);
               sixteen = neither (λ e. omega arith) (λ x. x .1 t);
               zero = together refl (fine, t);

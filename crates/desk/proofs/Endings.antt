@@ -1,0 +1,77 @@
+-- The six ways in which a recolouring ends: what holds of each holds of every one.
+use Prim.Native.Nat.{ℕ, _<_}
+use mathlib.Core.Path.{_≡_, refl, sym, _∙_}
+use mathlib.Core.Bool.{true≢false}
+use mathlib.Core.List.{List}
+use mathlib.Core.Logic.{_⊎_, inl, inr}
+use native.Mathlib.Omega.{arith}
+use borrow.Author.Tests.{ltb-true, ltb-false}
+use lib.Dec.{ltb}
+use lib.ListN.{length}
+use Rattle.names.specs.Pick.{pick}
+use Rattle.names.proofs.Picking.{pick-ind}
+use Rattle.books.specs.Answer.{answer, plain}
+use Rattle.books.specs.Book.{bookOf}
+use Rattle.books.specs.Contents.{Contents}
+use Rattle.books.specs.Lent.{contentsOf, pictureOf, Accepted}
+use Rattle.books.specs.Press.{IsPress}
+use Rattle.books.specs.Sheet.{sheetOf}
+use Rattle.books.proofs.LentEnds.{both-end}
+use Rattle.pieces.specs.Asking.{startAnswer}
+use Rattle.pieces.specs.Derivation.{entriesNeeded}
+use Rattle.pieces.specs.Largest.{marked}
+use Rattle.pieces.specs.Area.{whole}
+use Rattle.pieces.specs.Recolour.{has?, sheetWith, ruled, refilled, Recolouring, untouched, recast, recolouring}
+use Rattle.pieces.proofs.Recolouring.{Has, has-it, it-has}
+
+module _ (press : ℕ) (book sheet entries : List ℕ) (row column colour : ℕ) where
+  -- the sheet has the cell and the colour
+  abbrev pub Found : Type 0
+  Found = Has (sheetOf press sheet .sheet .size) (sheetOf press sheet .sheet .colours .count) row column colour
+
+  abbrev pub Short : Type 0
+  Short = length entries < entriesNeeded (pictureOf press sheet)
+
+  pub record Cases (P : Recolouring → Type 0) : Type 0 where
+    pub no-press : (IsPress press → ⊥) → P (untouched (plain 21) sheet entries)
+    pub in-book : IsPress press → (bookOf book .fault .number ≡ 0 → ⊥) → P (untouched (answer (bookOf book .fault .number) 1 (bookOf book .fault .place)) sheet entries)
+    pub in-sheet : IsPress press → bookOf book .fault .number ≡ 0 → (sheetOf press sheet .fault .number ≡ 0 → ⊥)
+        → P (untouched (answer (sheetOf press sheet .fault .number) 2 (sheetOf press sheet .fault .place)) sheet entries)
+    pub no-cell : Accepted press book sheet → (Found → ⊥) → P (untouched (plain 19) sheet entries)
+    pub short-work : Accepted press book sheet → Found → Short → P (untouched (plain 9) sheet entries)
+    pub recoloured : Accepted press book sheet → Found → (Short → ⊥) → (n : ℕ) → (n ≡ 0) ⊎ (n ≡ 11) → (bytes work : List ℕ)
+        → P (record { answer = plain n; bytes = bytes; entries = work })
+
+  zero-or-eleven : (m n : ℕ) (t : List ℕ) (start : ℕ) → (startAnswer m n t start ≡ 0) ⊎ (startAnswer m n t start ≡ 11)
+  unfolding startAnswer
+  zero-or-eleven m n t start = pick-ind (λ (x : ℕ). (x ≡ 0) ⊎ (x ≡ 11)) (marked m n t start (whole m n)) 0 11 (λ _. inl refl) (λ _. inr refl)
+
+  module _ (P : Recolouring → Type 0) (cases : Cases P) where
+    by-room : Accepted press book sheet → Found → (b : Contents)
+        → P (pick (ltb (length entries) (entriesNeeded (pictureOf press sheet))) (untouched (plain 9) sheet entries) (recast press b (sheetWith press sheet row column colour) row column entries))
+    unfolding recast
+    by-room fine found b =
+        pick-ind P (ltb (length entries) (entriesNeeded (pictureOf press sheet))) (untouched (plain 9) sheet entries) (recast press b (sheetWith press sheet row column colour) row column entries)
+        (λ e. cases .short-work fine found (ltb-true _ _ e))
+        (λ e.
+        let p = pictureOf press (sheetWith press sheet row column colour) in
+        let work = refilled (ruled b p) (p .rows) (p .cols) row column entries in
+        cases .recoloured fine found (λ s. let long = ltb-false (length entries) (entriesNeeded (pictureOf press sheet)) e in omega arith)
+        (startAnswer (p .rows) (p .cols) work (b .start)) (zero-or-eleven (p .rows) (p .cols) work (b .start)) (sheetWith press sheet row column colour) work)
+
+    pub recolouring-ends : P (recolouring press book sheet entries row column colour)
+    unfolding recolouring
+    recolouring-ends =
+        both-end P (λ a. untouched a sheet entries) press book sheet
+        (λ b p. pick (has? (sheetOf press sheet .sheet .size) (sheetOf press sheet .sheet .colours .count) row column colour)
+        (pick (ltb (length entries) (entriesNeeded p)) (untouched (plain 9) sheet entries) (recast press b (sheetWith press sheet row column colour) row column entries))
+        (untouched (plain 19) sheet entries))
+        (record {
+          no-press = cases .no-press;
+          in-book = cases .in-book;
+          in-sheet = cases .in-sheet;
+          in-neither = λ fine.
+              pick-ind P (has? (sheetOf press sheet .sheet .size) (sheetOf press sheet .sheet .colours .count) row column colour) _ (untouched (plain 19) sheet entries)
+              (λ h. by-room fine (has-it _ _ row column colour h) (contentsOf book))
+              (λ h. cases .no-cell fine (λ found. true≢false (sym (it-has _ _ row column colour found) ∙ h)));
+        })
