@@ -35,17 +35,13 @@ static void measure_derivation(const char *name, size_t press, const struct fami
 {
     const char *unit = units == 1 ? "a call" : "a trial";
     struct task task = {.call = derive, .unit = unit, .units = units, .press = press, .work = dv_most_work(press)};
-    spell_book(family, &task.first);
-    spell_sheet(grid, &task.second);
-    measure_line(name, &task);
+    measure_pair(name, &task, family, grid);
 }
 
 static void measure_reason(const char *name, const struct family *family, const struct grid *grid)
 {
     struct task task = {.call = why_not, .unit = "a call", .units = 1};
-    spell_book(family, &task.first);
-    spell_sheet(grid, &task.second);
-    measure_line(name, &task);
+    measure_pair(name, &task, family, grid);
 }
 
 static void measure_house(void)

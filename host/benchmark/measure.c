@@ -93,3 +93,10 @@ void measure_line(const char *name, const struct task *task)
 {
     print_figures(name, task, measure(task));
 }
+
+void measure_pair(const char *name, struct task *task, const struct family *family, const struct grid *grid)
+{
+    spell_book(family, &task->first);
+    spell_sheet(grid, &task->second);
+    measure_line(name, task);
+}

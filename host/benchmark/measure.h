@@ -38,6 +38,9 @@ void print_figures(const char *name, const struct task *task, struct figures fig
 // Both.
 void measure_line(const char *name, const struct task *task);
 
+// The same of a task on a book and a sheet, which are spelt for it.
+void measure_pair(const char *name, struct task *task, const struct family *family, const struct grid *grid);
+
 // The calls that several tasks make.
 void derive(const struct engine *timed, const struct task *task);
 void make(const struct engine *timed, const struct task *task);

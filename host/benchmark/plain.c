@@ -10,9 +10,7 @@ static void plain(const struct engine *timed, const struct task *task)
 static void measure_plain(const char *name, const struct family *family, const struct grid *grid)
 {
     struct task task = {.call = plain, .unit = "a call", .units = 1};
-    spell_book(family, &task.first);
-    spell_sheet(grid, &task.second);
-    measure_line(name, &task);
+    measure_pair(name, &task, family, grid);
 }
 
 static void measure_house(void)

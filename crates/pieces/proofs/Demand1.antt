@@ -17,6 +17,8 @@ use Rattle.books.proofs.ReadingSheets.{sheet-refused}
 use Rattle.names.proofs.Tests.{together, neither}
 use Rattle.pieces.specs.Table.{table}
 use Rattle.pieces.specs.Derivation.{Derivation, entriesNeeded, derivation, LeavesPacked}
+-- That from 9 on 18 alone tells a fault of an input is used by every call that is lent both.
+pub use Rattle.pieces.proofs.InputNumbers.{not-input}
 use Rattle.pieces.proofs.DerivationAnswers.{derivation-packs}
 use Rattle.books.specs.Lent.{contentsOf, pictureOf, Accepted}
 use Rattle.pieces.proofs.Endings.{derivation-ends}
@@ -36,11 +38,6 @@ pub record InSheet (press : ℕ) (book sheet : List ℕ) (number blamed place : 
   pub place-is : place ≡ sheetOf press sheet .fault .place
   pub second : blamed ≡ 2
   pub inside : place ≤ length sheet
-
--- From 9 on 18 alone tells a fault of an input.
-pub not-input : (n : ℕ) → InputsNumber n → 9 ≤ n → (n ≡ 18 → ⊥) → ⊥
-not-input n (inl few) h other = omega arith
-not-input n (inr e) h other = other e
 
 -- A call that was lent a book, a sheet and two slices answers so, and leaves the slices so.
 pub record Answered (press : ℕ) (book sheet work tree : List ℕ) (number blamed place : ℕ) (work-left tree-left : List ℕ) : Type 0 where

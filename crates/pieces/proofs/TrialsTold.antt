@@ -1,7 +1,7 @@
 -- The trials that a derivation reports, of `derive` and of `dv_derive` as the host reads it: with 0 and 11 as many as the list of all trials has, and as the formula says, and
 -- with every other answer 0. Of the ways in which a derivation ends two come after the table.
 use Prim.Native.Nat.{ℕ, _/_, _%_, _^_, _≤_}
-use mathlib.Core.Path.{_≡_, refl}
+use mathlib.Core.Path.{_≡_, refl, subst}
 use mathlib.Core.List.{List}
 use mathlib.Core.Logic.{_⊎_, inl, inr}
 use native.Mathlib.Omega.{arith}
@@ -19,6 +19,7 @@ use Rattle.pieces.specs.declared.derive.Derived.{Derived}
 use Rattle.pieces.proofs.CountingTrials.{trials-formula}
 use Rattle.pieces.proofs.DerivationAnswers.{needed-few, derivation-packs}
 use Rattle.pieces.proofs.Endings.{derivation-ends}
+use Rattle.pieces.proofs.InputNumbers.{not-input}
 
 -- what an answer's number says of the count that it carries
 pub record Counts (press : ℕ) (book sheet : List ℕ) (number count : ℕ) : Type 0 where
@@ -30,8 +31,7 @@ pub record Counts (press : ℕ) (book sheet : List ℕ) (number count : ℕ) : T
 
 -- no fault of an input has the number 11
 not-eleven : {n : ℕ} → InputsNumber n → n ≡ 11 → ⊥
-not-eleven (inl few) e = omega arith
-not-eleven (inr other) e = omega arith
+not-eleven g e = not-input 11 (subst InputsNumber e g) (omega arith) (λ u. omega arith)
 
 module _ (press : ℕ) (book sheet work tree : List ℕ) where
   abbrev Counted : Derivation → Type 0
