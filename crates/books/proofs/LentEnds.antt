@@ -2,18 +2,17 @@
 -- call. Each way is read off the press or the fault's number.
 use Prim.Native.Nat.{ℕ}
 use mathlib.Core.Path.{_≡_}
-use mathlib.Core.Bool.{Bool, true, false}
+use mathlib.Core.Bool.{Bool, false}
 use mathlib.Core.List.{List}
 use native.Mathlib.Omega.{arith}
 use borrow.Author.Tests.{eq-eqb, ne-eqb, eqb-true, eqb-false, lt-ltb, le-ltb, ltb-true, ltb-false}
 use lib.Dec.{eqb, ltb}
-use Rattle.names.specs.Pick.{pick}
 use Rattle.names.specs.declared.number.Fault.{Fault}
 use Rattle.names.proofs.Picking.{pick-ind}
 use Rattle.books.specs.Answer.{answer, plain, blaming}
 use Rattle.books.specs.Book.{bookBy, bookOf}
 use Rattle.books.specs.Contents.{Contents}
-use Rattle.books.specs.Lent.{contentsBy, contentsOf, pictureOf, Accepted, onPress, lentBookBy, lentBook, lentSheet, lentBoth}
+use Rattle.books.specs.Lent.{contentsBy, contentsOf, pictureOf, Fine, Accepted, onPress, lentBookBy, lentBook, lentBoth}
 use Rattle.books.specs.Picture.{Picture}
 use Rattle.books.specs.Press.{presses, IsPress}
 use Rattle.books.specs.Sheet.{sheetOf}
@@ -31,6 +30,12 @@ blamed-is input f n = simp (ne-eqb (f .number) 0 n)
 pub accepted-press : {press : ℕ} {book sheet : List ℕ} → Accepted press book sheet → IsPress press
 accepted-press {press} {sheet = sheet} fine = sheet-press press sheet (fine .sheet-fine)
 
+-- The ways in which a press, a book and a sheet are refused, and the answer of each.
+pub data Refusal (press : ℕ) (book sheet : List ℕ) : Answer → Type 0 where
+  no-press : (IsPress press → ⊥) → Refusal press book sheet (plain 21)
+  in-book : IsPress press → (Fine book → ⊥) → Refusal press book sheet (blaming 1 (bookOf book .fault))
+  in-sheet : IsPress press → Fine book → (sheetOf press sheet .fault .number ≡ 0 → ⊥) → Refusal press book sheet (blaming 2 (sheetOf press sheet .fault))
+
 -- ── Induction over the ways ──
 
 module _ {A : Type 0} (P : A → Type 0) (refuse : Answer → A) where
@@ -40,37 +45,27 @@ module _ {A : Type 0} (P : A → Type 0) (refuse : Answer → A) where
       (λ e. some (ltb-true press presses e))
       (λ e. none (λ h. omega (arith, ltb-false press presses e)))
 
-  -- of what was read with a fault, or without one
-  read-ends : {X : Type 0} (input : ℕ) (f : Fault) (x : X) (go : X → A)
-      → ((f .number ≡ 0 → ⊥) → P (refuse (answer (f .number) input (f .place)))) → (f .number ≡ 0 → P (go x))
-      → P (pick (eqb (f .number) 0) (go x) (refuse (blaming input f)))
-  read-ends input f x go faulty fine =
-      pick-ind P (eqb (f .number) 0) (go x) (refuse (blaming input f))
-      (λ e. fine (eqb-true (f .number) 0 e))
-      (λ e. blamed (λ (a : Answer). P (refuse a)) input f e (faulty (eqb-false (f .number) 0 e)))
-
+  -- of a book alone, by either reader
   pub book-ends : (strict : Bool) (input : ℕ) (book : List ℕ) (go : Contents → A)
       → ((bookBy strict book .fault .number ≡ 0 → ⊥) → P (refuse (answer (bookBy strict book .fault .number) input (bookBy strict book .fault .place))))
       → (bookBy strict book .fault .number ≡ 0 → P (go (contentsBy strict book))) → P (lentBookBy strict input book refuse go)
-  book-ends strict input book go = read-ends input (bookBy strict book .fault) (contentsBy strict book) go
+  book-ends strict input book go faulty fine =
+      let f = bookBy strict book .fault in
+      pick-ind P (eqb (f .number) 0) (go (contentsBy strict book)) (refuse (blaming input f))
+      (λ e. fine (eqb-true (f .number) 0 e))
+      (λ e. blamed (λ (a : Answer). P (refuse a)) input f e (faulty (eqb-false (f .number) 0 e)))
 
-  pub sheet-ends : (press input : ℕ) (sheet : List ℕ) (go : Picture → A)
-      → ((sheetOf press sheet .fault .number ≡ 0 → ⊥) → P (refuse (answer (sheetOf press sheet .fault .number) input (sheetOf press sheet .fault .place))))
-      → (sheetOf press sheet .fault .number ≡ 0 → P (go (pictureOf press sheet))) → P (lentSheet press input sheet refuse go)
-  sheet-ends press input sheet go = read-ends input (sheetOf press sheet .fault) (pictureOf press sheet) go
-
-  pub record BothEnd (press : ℕ) (book sheet : List ℕ) (go : Contents → Picture → A) : Type 0 where
-    pub no-press : (IsPress press → ⊥) → P (refuse (plain 21))
-    pub in-book : IsPress press → (bookOf book .fault .number ≡ 0 → ⊥) → P (refuse (answer (bookOf book .fault .number) 1 (bookOf book .fault .place)))
-    pub in-sheet : IsPress press → bookOf book .fault .number ≡ 0 → (sheetOf press sheet .fault .number ≡ 0 → ⊥)
-        → P (refuse (answer (sheetOf press sheet .fault .number) 2 (sheetOf press sheet .fault .place)))
-    pub in-neither : Accepted press book sheet → P (go (contentsOf book) (pictureOf press sheet))
-
-  pub both-end : (press : ℕ) (book sheet : List ℕ) (go : Contents → Picture → A) → BothEnd press book sheet go → P (lentBoth press book sheet refuse go)
-  both-end press book sheet go ways =
-      press-ends press _ (ways .no-press) (λ is.
-      book-ends true 1 book (λ b. lentSheet press 2 sheet refuse (go b)) (ways .in-book is)
-      (λ z. sheet-ends press 2 sheet (go (contentsOf book)) (ways .in-sheet is z) (λ y. ways .in-neither (record { book-fine = z; sheet-fine = y }))))
+  -- of a press, a book and a sheet
+  pub both-end : (press : ℕ) (book sheet : List ℕ) (go : Contents → Picture → A) → ((a : Answer) → Refusal press book sheet a → P (refuse a))
+      → (Accepted press book sheet → P (go (contentsOf book) (pictureOf press sheet))) → P (lentBoth press book sheet refuse go)
+  both-end press book sheet go refused accepted =
+      press-ends press _ (λ none. refused _ (no-press none)) (λ is.
+      pick-ind P (eqb (bookOf book .fault .number) 0) _ _
+      (λ e. let z = eqb-true (bookOf book .fault .number) 0 e in
+      pick-ind P (eqb (sheetOf press sheet .fault .number) 0) _ _
+      (λ f. accepted (record { book-fine = z; sheet-fine = eqb-true (sheetOf press sheet .fault .number) 0 f }))
+      (λ f. refused _ (in-sheet is z (eqb-false (sheetOf press sheet .fault .number) 0 f))))
+      (λ e. refused _ (in-book is (eqb-false (bookOf book .fault .number) 0 e))))
 
 -- ── The order of the answers ──
 
@@ -82,12 +77,10 @@ module _ {A : Type 0} (press : ℕ) (refuse : Answer → A) where
   on-press go h = simp (lt-ltb press presses h)
 
   module _ (book sheet : List ℕ) (go : Contents → Picture → A) where
-    pub book-refused-next : IsPress press → (bookOf book .fault .number ≡ 0 → ⊥) → lentBoth press book sheet refuse go ≡ refuse (blaming 1 (bookOf book .fault))
-    book-refused-next h n = simp (lt-ltb press presses h, ne-eqb (bookOf book .fault .number) 0 n)
-
-    pub sheet-refused-last : IsPress press → bookOf book .fault .number ≡ 0 → (sheetOf press sheet .fault .number ≡ 0 → ⊥)
-        → lentBoth press book sheet refuse go ≡ refuse (blaming 2 (sheetOf press sheet .fault))
-    sheet-refused-last h z n = simp (lt-ltb press presses h, eq-eqb (bookOf book .fault .number) 0 z, ne-eqb (sheetOf press sheet .fault .number) 0 n)
+    pub refused-so : {a : Answer} → Refusal press book sheet a → lentBoth press book sheet refuse go ≡ refuse a
+    refused-so (no-press none) = no-press-first _ none
+    refused-so (in-book is n) = simp (lt-ltb press presses is, ne-eqb (bookOf book .fault .number) 0 n)
+    refused-so (in-sheet is z n) = simp (lt-ltb press presses is, eq-eqb (bookOf book .fault .number) 0 z, ne-eqb (sheetOf press sheet .fault .number) 0 n)
 
     pub both-go-on : Accepted press book sheet → lentBoth press book sheet refuse go ≡ go (contentsOf book) (pictureOf press sheet)
     both-go-on fine =

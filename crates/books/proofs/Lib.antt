@@ -45,6 +45,7 @@ pub mod SpellingOn
 pub mod SpellingDrafts
 pub mod Packing
 pub mod LentEnds
+pub mod Refusals
 pub mod TwoPresses
 pub mod Tickets
 pub mod Outcomes

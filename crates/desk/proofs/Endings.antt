@@ -1,4 +1,4 @@
--- The six ways in which a recolouring ends: what holds of each holds of every one.
+-- The four ways in which a recolouring ends: what holds of each holds of every one.
 use Prim.Native.Nat.{ℕ, _<_}
 use mathlib.Core.Path.{_≡_, refl, sym, _∙_}
 use mathlib.Core.Bool.{true≢false}
@@ -10,13 +10,12 @@ use lib.Dec.{ltb}
 use lib.ListN.{length}
 use Rattle.names.specs.Pick.{pick}
 use Rattle.names.proofs.Picking.{pick-ind}
-use Rattle.books.specs.Answer.{answer, plain}
-use Rattle.books.specs.Book.{bookOf}
+use Rattle.books.specs.Answer.{plain}
+use Rattle.books.specs.declared.answer.Answer.{Answer}
 use Rattle.books.specs.Contents.{Contents}
 use Rattle.books.specs.Lent.{contentsOf, pictureOf, Accepted}
-use Rattle.books.specs.Press.{IsPress}
 use Rattle.books.specs.Sheet.{sheetOf}
-use Rattle.books.proofs.LentEnds.{both-end}
+use Rattle.books.proofs.LentEnds.{Refusal, both-end}
 use Rattle.pieces.specs.Asking.{startAnswer}
 use Rattle.pieces.specs.Derivation.{entriesNeeded}
 use Rattle.pieces.specs.Largest.{marked}
@@ -33,10 +32,7 @@ module _ (press : ℕ) (book sheet entries : List ℕ) (row column colour : ℕ)
   Short = length entries < entriesNeeded (pictureOf press sheet)
 
   pub record Cases (P : Recolouring → Type 0) : Type 0 where
-    pub no-press : (IsPress press → ⊥) → P (untouched (plain 21) sheet entries)
-    pub in-book : IsPress press → (bookOf book .fault .number ≡ 0 → ⊥) → P (untouched (answer (bookOf book .fault .number) 1 (bookOf book .fault .place)) sheet entries)
-    pub in-sheet : IsPress press → bookOf book .fault .number ≡ 0 → (sheetOf press sheet .fault .number ≡ 0 → ⊥)
-        → P (untouched (answer (sheetOf press sheet .fault .number) 2 (sheetOf press sheet .fault .place)) sheet entries)
+    pub refused : (a : Answer) → Refusal press book sheet a → P (untouched a sheet entries)
     pub no-cell : Accepted press book sheet → (Found → ⊥) → P (untouched (plain 19) sheet entries)
     pub short-work : Accepted press book sheet → Found → Short → P (untouched (plain 9) sheet entries)
     pub recoloured : Accepted press book sheet → Found → (Short → ⊥) → (n : ℕ) → (n ≡ 0) ⊎ (n ≡ 11) → (bytes work : List ℕ)
@@ -66,12 +62,8 @@ module _ (press : ℕ) (book sheet entries : List ℕ) (row column colour : ℕ)
         (λ b p. pick (has? (sheetOf press sheet .sheet .size) (sheetOf press sheet .sheet .colours .count) row column colour)
         (pick (ltb (length entries) (entriesNeeded p)) (untouched (plain 9) sheet entries) (recast press b (sheetWith press sheet row column colour) row column entries))
         (untouched (plain 19) sheet entries))
-        (record {
-          no-press = cases .no-press;
-          in-book = cases .in-book;
-          in-sheet = cases .in-sheet;
-          in-neither = λ fine.
-              pick-ind P (has? (sheetOf press sheet .sheet .size) (sheetOf press sheet .sheet .colours .count) row column colour) _ (untouched (plain 19) sheet entries)
-              (λ h. by-room fine (has-it _ _ row column colour h) (contentsOf book))
-              (λ h. cases .no-cell fine (λ found. true≢false (sym (it-has _ _ row column colour found) ∙ h)));
-        })
+        (cases .refused)
+        (λ fine.
+        pick-ind P (has? (sheetOf press sheet .sheet .size) (sheetOf press sheet .sheet .colours .count) row column colour) _ (untouched (plain 19) sheet entries)
+        (λ h. by-room fine (has-it _ _ row column colour h) (contentsOf book))
+        (λ h. cases .no-cell fine (λ found. true≢false (sym (it-has _ _ row column colour found) ∙ h))))

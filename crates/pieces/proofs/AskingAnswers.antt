@@ -22,6 +22,7 @@ use Rattle.books.specs.Answer.{plain, blaming}
 use Rattle.books.specs.declared.answer.Answer.{Answer}
 use Rattle.books.specs.declared.rule.Dir.{Dir}
 use Rattle.books.proofs.Deciding.{decided, refused}
+use Rattle.books.proofs.LentEnds.{Refusal, no-press, in-book, in-sheet}
 use Rattle.books.proofs.ReadingBooks.{book-accepted}
 use Rattle.pieces.specs.declared.asking.Asked.{Asked}
 use Rattle.pieces.specs.declared.asking.Split.{Split}
@@ -30,7 +31,7 @@ use Rattle.pieces.specs.declared.piece.Piece.{Piece}
 use Rattle.pieces.specs.Pieces.{Inside, slotOf}
 use Rattle.pieces.specs.Table.{cut}
 use Rattle.names.specs.Bits.{bit}
-use Rattle.pieces.specs.Derivation.{Derivation, entriesNeeded, numbersNeeded, filled, derivation}
+use Rattle.pieces.specs.Derivation.{Derivation, leaving, entriesNeeded, numbersNeeded, filled, derivation}
 use Rattle.pieces.specs.Asking.{SplitBook, keptWith, splitBook, AskedSheet, askedWith, askSheet, Asking, unwritten, tabled, asking}
 use Rattle.pieces.specs.Firing.{fireOf, paintedOf}
 use Rattle.pieces.proofs.Entries.{entry-derives, derives-entry}
@@ -121,14 +122,17 @@ module _ (press : ℕ) (book sheet entries numbers : List ℕ) (fine : bookOf bo
   as-derived is =
       derivation-ends press book sheet entries numbers Says
       (record {
-        no-press = λ none. absurd (none is);
-        in-book = λ _ n. absurd (n fine);
-        in-sheet = λ _ z n. says (rw (ne-eqb (sheetOf press sheet .fault .number) 0 n) at (sheet-first press book sheet entries n));
+        refused = λ a r. out r;
         short-work = λ f short. says (room-second press book sheet entries (f .sheet-fine) short);
         short-tree = λ f enough short. absurd (omega arith);
         declined = λ f r none. says (other-asked press book sheet entries f (r .work-long) none);
         derived = λ f r x nodes given. says (derived-asked press book sheet entries f (r .work-long) x);
       })
+    where
+      out : {a : Answer} → Refusal press book sheet a → Says (leaving a entries numbers)
+      out (no-press none) = absurd (none is)
+      out (in-book _ n) = absurd (n fine)
+      out (in-sheet _ _ n) = says (sheet-first press book sheet entries n)
 
 -- ── Two outcomes that a contract allows are equal ──
 

@@ -16,7 +16,7 @@ use Rattle.books.specs.Derives.{Derives, Member}
 use Rattle.books.specs.Decide.{derives?}
 use Rattle.books.specs.Answer.{plain}
 use Rattle.books.specs.declared.answer.Answer.{Answer}
-use Rattle.books.proofs.LentEnds.{accepted-press}
+use Rattle.books.proofs.Refusals.{refusal-bad}
 use Rattle.books.proofs.Deciding.{decided, refused}
 use Rattle.books.proofs.ReadingBooks.{book-accepted}
 use Rattle.pieces.specs.declared.piece.Piece.{Piece}
@@ -65,9 +65,7 @@ module _ (press : ℕ) (book sheet entries numbers : List ℕ) (fine : Accepted 
   told =
       derivation-ends press book sheet entries numbers Told
       (record {
-        no-press = λ n. absurd (n (accepted-press fine));
-        in-book = λ is n. absurd (n (fine .book-fine));
-        in-sheet = λ is z n. absurd (n (fine .sheet-fine));
+        refused = λ a r. absurd (refusal-bad r fine);
         short-work = λ f short. absurd (omega (arith, room .work-long));
         short-tree = λ f enough short. absurd (omega (arith, room .tree-long));
         declined = λ f r none. record { accepts = λ x. absurd (none x); declines = λ _. record { answered = refl; unwritten = refl }; holds = refl };

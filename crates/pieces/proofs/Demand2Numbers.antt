@@ -1,24 +1,20 @@
 -- Demand 2, on what is answered: which number is given exactly when, of `derive` and of `dv_derive` as the host reads it. Of the ways in which a derivation ends each has its
 -- number, and no two can be at once.
 use Prim.Native.Nat.{ℕ, _%_, _^_, _≤_, _<_}
-use mathlib.Core.Path.{_≡_, refl, sym, ap, _∙_, subst}
+use mathlib.Core.Path.{_≡_, refl, sym, ap, _∙_}
 use mathlib.Core.List.{List}
-use mathlib.Core.Logic.{_↔_, inl}
+use mathlib.Core.Logic.{_↔_}
 use native.Mathlib.Omega.{arith}
 use lib.ListN.{length}
 use Rattle.names.proofs.Tests.{together, neither}
 use Rattle.books.specs.Contents.{Contents}
 use Rattle.books.specs.Picture.{Picture}
-use Rattle.books.specs.Press.{IsPress}
 use Rattle.books.specs.Derives.{Member}
-use Rattle.books.specs.Answer.{InputsNumber, packed}
+use Rattle.books.specs.Answer.{packed}
 use Rattle.pieces.specs.declared.derive.Derived.{Derived}
-use Rattle.books.proofs.LentEnds.{accepted-press}
 use Rattle.books.proofs.Packing.{apart}
-use Rattle.books.proofs.ReadingBooks.{book-refused}
-use Rattle.books.proofs.ReadingSheets.{sheet-refused}
+use Rattle.books.proofs.Refusals.{Refused, own-refused, refusal-bad, refusal-blames, refusal-other}
 use Rattle.pieces.specs.Derivation.{Derivation, entriesNeeded, numbersNeeded, derivation, Leaves, LeavesPacked, Roomy}
-use Rattle.pieces.proofs.Demand1.{not-input}
 use Rattle.pieces.proofs.DerivationAnswers.{derivation-packs}
 use Rattle.books.specs.Lent.{contentsOf, pictureOf, Accepted}
 use Rattle.pieces.proofs.Endings.{derivation-ends}
@@ -31,8 +27,7 @@ module _ (press : ℕ) (book sheet entries numbers : List ℕ) where
   p = pictureOf press sheet
 
   pub record Numbers (n : ℕ) : Type 0 where
-    pub twenty-one : (n ≡ 21) ↔ (IsPress press → ⊥)
-    pub faulty : ((1 ≤ n) × InputsNumber n) ↔ (IsPress press × (Accepted press book sheet → ⊥))
+    pub refused : Refused press book sheet n
     pub nine : (n ≡ 9) ↔ (Accepted press book sheet × (length entries < entriesNeeded p))
     pub ten : (n ≡ 10) ↔ (Accepted press book sheet × (entriesNeeded p ≤ length entries) × (length numbers < numbersNeeded p))
     pub eleven : (n ≡ 11) ↔ (Accepted press book sheet × Roomy p entries numbers × (Member b p → ⊥))
@@ -41,36 +36,23 @@ module _ (press : ℕ) (book sheet entries numbers : List ℕ) where
   abbrev Numbered : Derivation → Type 0
   Numbered d = Numbers (d .answer .number)
 
-  in-input : (n : ℕ) → IsPress press → 1 ≤ n → InputsNumber n → (Accepted press book sheet → ⊥) → Numbers n
-  in-input n is h g bad =
-      record {
-        twenty-one = neither (λ e. not-input 21 (subst InputsNumber e g) (omega arith) (λ u. omega arith)) (λ none. none is);
-        faulty = together (h, g) (is, bad);
-        nine = neither (λ e. not-input 9 (subst InputsNumber e g) (omega arith) (λ u. omega arith)) (λ x. bad (x .0));
-        ten = neither (λ e. not-input 10 (subst InputsNumber e g) (omega arith) (λ u. omega arith)) (λ x. bad (x .0));
-        eleven = neither (λ e. not-input 11 (subst InputsNumber e g) (omega arith) (λ u. omega arith)) (λ x. bad (x .0));
-        zero = neither (λ e. omega arith) (λ x. bad (x .0));
-      }
-
   numbered : Numbered (derivation press book sheet entries numbers)
   numbered =
       derivation-ends press book sheet entries numbers Numbered
       (record {
-        no-press = λ none.
+        refused = λ a r.
+            let other = refusal-other r in
+            let bad = refusal-bad r in
             record {
-              twenty-one = together refl none;
-              faulty = neither (λ e. not-input _ (e .1) (omega arith) (λ u. omega arith)) (λ x. none (x .0));
-              nine = neither (λ e. omega arith) (λ x. none (accepted-press (x .0)));
-              ten = neither (λ e. omega arith) (λ x. none (accepted-press (x .0)));
-              eleven = neither (λ e. omega arith) (λ x. none (accepted-press (x .0)));
-              zero = neither (λ e. omega arith) (λ x. none (accepted-press (x .0)));
+              refused = refusal-blames r .refused;
+              nine = neither (other 9 refl) (λ x. bad (x .0));
+              ten = neither (other 10 refl) (λ x. bad (x .0));
+              eleven = neither (other 11 refl) (λ x. bad (x .0));
+              zero = neither (other 0 refl) (λ x. bad (x .0));
             };
-        in-book = λ is n. let f = book-refused book n .blamed in in-input _ is (f .some) (f .known) (λ fine. n (fine .book-fine));
-        in-sheet = λ is z n. let f = sheet-refused press sheet n .blamed in in-input _ is (f .some) (inl (f .known)) (λ fine. n (fine .sheet-fine));
         short-work = λ fine short.
             record {
-              twenty-one = neither (λ e. omega arith) (λ none. none (accepted-press fine));
-              faulty = neither (λ e. not-input _ (e .1) (omega arith) (λ u. omega arith)) (λ x. x .1 fine);
+              refused = own-refused fine 9 refl;
               nine = together refl (fine, short);
               ten = neither (λ e. omega arith) (λ x. omega (arith, x .1));
               eleven = neither (λ e. omega arith) (λ x. omega (arith, x .1 .work-long));
@@ -78,8 +60,7 @@ module _ (press : ℕ) (book sheet entries numbers : List ℕ) where
             };
         short-tree = λ fine enough short.
             record {
-              twenty-one = neither (λ e. omega arith) (λ none. none (accepted-press fine));
-              faulty = neither (λ e. not-input _ (e .1) (omega arith) (λ u. omega arith)) (λ x. x .1 fine);
+              refused = own-refused fine 10 refl;
               nine = neither (λ e. omega arith) (λ x. omega (arith, x .1));
               ten = together refl (fine, enough, short);
               eleven = neither (λ e. omega arith) (λ x. omega (arith, x .1 .tree-long));
@@ -87,8 +68,7 @@ module _ (press : ℕ) (book sheet entries numbers : List ℕ) where
             };
         declined = λ fine room none.
             record {
-              twenty-one = neither (λ e. omega arith) (λ none. none (accepted-press fine));
-              faulty = neither (λ e. not-input _ (e .1) (omega arith) (λ u. omega arith)) (λ x. x .1 fine);
+              refused = own-refused fine 11 refl;
               nine = neither (λ e. omega arith) (λ x. omega (arith, x .1, room .work-long));
               ten = neither (λ e. omega arith) (λ x. omega (arith, x .2, room .tree-long));
               eleven = together refl (fine, room, none);
@@ -96,8 +76,7 @@ module _ (press : ℕ) (book sheet entries numbers : List ℕ) where
             };
         derived = λ fine room x nodes given.
             record {
-              twenty-one = neither (λ e. omega arith) (λ none. none (accepted-press fine));
-              faulty = neither (λ e. omega (arith, e .0)) (λ x. x .1 fine);
+              refused = own-refused fine 0 refl;
               nine = neither (λ e. omega arith) (λ y. omega (arith, y .1, room .work-long));
               ten = neither (λ e. omega arith) (λ y. omega (arith, y .2, room .tree-long));
               eleven = neither (λ e. omega arith) (λ y. y .2 x);

@@ -3,18 +3,16 @@ use Prim.Native.Nat.{ℕ, _≤_, _<_, _^_}
 use mathlib.Core.Path.{_≡_}
 use mathlib.Core.List.{List}
 use native.Mathlib.Omega.{arith}
-use borrow.Author.Tests.{ne-eqb}
-use Rattle.books.specs.Book.{bookOf}
-use Rattle.books.specs.Sheet.{sheetOf}
-use Rattle.books.specs.Answer.{plain, blaming, Packs}
+use Rattle.books.specs.Answer.{plain, Packs}
 use Rattle.books.specs.Contents.{Contents}
 use Rattle.books.specs.Picture.{Picture}
-use Rattle.books.specs.Press.{greatestOf, IsPress}
+use Rattle.books.specs.Press.{greatestOf}
 use Rattle.books.specs.Lent.{contentsOf, pictureOf, Accepted}
 use Rattle.books.specs.declared.answer.Answer.{Answer}
-use Rattle.books.proofs.LentEnds.{no-press-first, book-refused-next, sheet-refused-last, both-go-on}
+use Rattle.books.proofs.LentEnds.{Refusal, refused-so, both-go-on}
 use Rattle.books.proofs.ReadingSheets.{sheet-lies}
-use Rattle.books.proofs.Packing.{plain-packs, book-placed, sheet-placed}
+use Rattle.books.proofs.Packing.{plain-packs}
+use Rattle.books.proofs.Refusals.{refusal-packs}
 use Rattle.pieces.specs.Derivation.{Derivation, leaving, trialsNeeded, roomed, derivation}
 use Rattle.pieces.specs.Trials.{mostTrials}
 use Rattle.pieces.proofs.AcceptedInputs.{rules-read}
@@ -30,18 +28,9 @@ module _ (press : ℕ) (book sheet entries numbers : List ℕ) where
   abbrev go : Contents → Picture → Derivation
   go b p = roomed b p entries numbers
 
-  pub press-first : (IsPress press → ⊥) → derivation press book sheet entries numbers ≡ leaving (plain 21) entries numbers
+  pub refused-first : {a : Answer} → Refusal press book sheet a → derivation press book sheet entries numbers ≡ leaving a entries numbers
   unfolding derivation
-  press-first n = no-press-first press refuse _ n
-
-  pub book-second : IsPress press → (bookOf book .fault .number ≡ 0 → ⊥) → derivation press book sheet entries numbers ≡ leaving (blaming 1 (bookOf book .fault)) entries numbers
-  unfolding derivation
-  book-second is n = book-refused-next press refuse book sheet go is n
-
-  pub sheet-third : IsPress press → bookOf book .fault .number ≡ 0 → (sheetOf press sheet .fault .number ≡ 0 → ⊥)
-      → derivation press book sheet entries numbers ≡ leaving (blaming 2 (sheetOf press sheet .fault)) entries numbers
-  unfolding derivation
-  sheet-third is z n = sheet-refused-last press refuse book sheet go is z n
+  refused-first r = refused-so press refuse book sheet go r
 
   pub then-room : Accepted press book sheet → derivation press book sheet entries numbers ≡ roomed (contentsOf book) (pictureOf press sheet) entries numbers
   unfolding derivation
@@ -65,9 +54,7 @@ pub derivation-packs : (press : ℕ) (book sheet entries numbers : List ℕ) →
 derivation-packs press book sheet entries numbers =
     derivation-ends press book sheet entries numbers Packed
     (record {
-      no-press = λ _. plainly press 21 0 (omega arith) (omega arith);
-      in-book = λ is n. rw (ne-eqb (bookOf book .fault .number) 0 n) at (book-placed book 1 (omega arith) .packs);
-      in-sheet = λ is z n. rw (ne-eqb (sheetOf press sheet .fault .number) 0 n) at (sheet-placed press sheet 2 (omega arith) .packs);
+      refused = λ a r. refusal-packs r;
       short-work = λ f short. plainly press 9 0 (omega arith) (omega arith);
       short-tree = λ f enough short. plainly press 10 0 (omega arith) (omega arith);
       declined = λ f room none. plainly press 11 _ (omega arith) (needed-few press book sheet f);

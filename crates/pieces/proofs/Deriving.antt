@@ -19,6 +19,7 @@ use Rattle.books.specs.declared.lent.BookFigures.{BookFigures}
 use Rattle.books.specs.declared.rule.Rule.{Rule}
 use Rattle.books.specs.declared.sheet.Sheet.{Sheet}
 use Rattle.books.specs.declared.sheet.SheetFigures.{SheetFigures}
+use Rattle.books.proofs.LentEnds.{in-book, in-sheet}
 use Rattle.books.proofs.LentRules.{rows-back}
 use Rattle.books.proofs.NumberedCells.{numbers-for, numbers-fresh}
 use Rattle.books.proofs.ReadingBooks.{book-places}
@@ -35,7 +36,7 @@ use Rattle.pieces.specs.inner.Small.{SmallRules}
 use Rattle.pieces.specs.inner.Tally.{triedBy}
 use Rattle.pieces.specs.inner.Verdict.{Verdict, verdict, lacking}
 use Rattle.pieces.proofs.AcceptedInputs.{rules-read, as-read, cells-numbered}
-use Rattle.pieces.proofs.DerivationAnswers.{book-second, sheet-third, then-room}
+use Rattle.pieces.proofs.DerivationAnswers.{refused-first, then-room}
 use Rattle.pieces.proofs.Judging.{made-fits, judged-made}
 use Rattle.pieces.proofs.MakingTrials.{tried-listed}
 use Rattle.pieces.proofs.Lacking.{nothing-lacks, roomed-short, roomed-enough}
@@ -50,7 +51,7 @@ module _ (book : List ℕ) {b : BookFigures} {rows : List (List ℕ)} (read : Bo
 
   pub book-blamed : (press : ℕ) (sheet entries numbers : List ℕ) → IsPress press → (b .fault .number ≡ 0 → ⊥)
       → derivation press book sheet entries numbers ≡ leaving (blaming 1 (b .fault)) entries numbers
-  book-blamed press sheet entries numbers is n = rw (read .figures) (book-second press book sheet entries numbers is (rw (read .figures) at n))
+  book-blamed press sheet entries numbers is n = rw (read .figures) (refused-first press book sheet entries numbers (in-book is (rw (read .figures) at n)))
 
   pub rows-small : b .fault .number ≡ 0 → SmallRules rules
   rows-small z = rw (rows-back book read) (rules-read book (rw (read .figures) at z))
@@ -69,7 +70,7 @@ module _ (book : List ℕ) {b : BookFigures} {rows : List (List ℕ)} (read : Bo
 module _ (press : ℕ) (book sheet : List ℕ) {b : BookFigures} {rows : List (List ℕ)} (read : BookInto book b rows) {s : SheetFigures} {cells : List ℕ}
     (shown : Numbers press book (b .colours) sheet (replicate room 0) s cells) (z : b .fault .number ≡ 0) (entries numbers : List ℕ) where
   pub sheet-blamed : IsPress press → (s .fault .number ≡ 0 → ⊥) → derivation press book sheet entries numbers ≡ leaving (blaming 2 (s .fault)) entries numbers
-  sheet-blamed is n = rw (shown .figures) (sheet-third press book sheet entries numbers is (rw (read .figures) at z) (rw (shown .figures) at n))
+  sheet-blamed is n = rw (shown .figures) (refused-first press book sheet entries numbers (in-sheet is (rw (read .figures) at z) (rw (shown .figures) at n)))
 
   module _ (y : s .fault .number ≡ 0) where
     abbrev lack : ℕ

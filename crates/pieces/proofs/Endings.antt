@@ -1,6 +1,5 @@
--- The seven ways in which a derivation ends: what holds of each holds of every derivation.
+-- The five ways in which a derivation ends: what holds of each holds of every derivation.
 use Prim.Native.Nat.{ℕ, _≤_, _<_}
-use mathlib.Core.Path.{_≡_}
 use mathlib.Core.List.{List, _++_}
 use borrow.Author.Tests.{ltb-true, ltb-false}
 use lib.Dec.{ltb}
@@ -8,15 +7,13 @@ use lib.ListN.{length, drop}
 use Rattle.names.proofs.Picking.{pick-ind}
 use Rattle.books.specs.Contents.{Contents}
 use Rattle.books.specs.Picture.{Picture}
-use Rattle.books.specs.Press.{IsPress}
 use Rattle.books.specs.Lent.{contentsOf, pictureOf, Accepted}
 use Rattle.books.specs.Derives.{Member}
 use Rattle.books.specs.Decide.{derives?}
-use Rattle.books.specs.Book.{bookOf}
-use Rattle.books.specs.Sheet.{sheetOf}
-use Rattle.books.specs.Answer.{answer, plain}
+use Rattle.books.specs.Answer.{plain}
+use Rattle.books.specs.declared.answer.Answer.{Answer}
 use Rattle.books.proofs.Deciding.{decided, refused}
-use Rattle.books.proofs.LentEnds.{both-end}
+use Rattle.books.proofs.LentEnds.{Refusal, both-end}
 use Rattle.pieces.specs.Given.{Given}
 use Rattle.pieces.specs.Tree.{tree}
 use Rattle.pieces.specs.Derivation.{Derivation, leaving, entriesNeeded, numbersNeeded, trialsNeeded, Roomy, filled, judged, roomed, derivation}
@@ -30,10 +27,7 @@ module _ (press : ℕ) (book sheet entries numbers : List ℕ) where
   p = pictureOf press sheet
 
   pub record Cases (P : Derivation → Type 0) : Type 0 where
-    pub no-press : (IsPress press → ⊥) → P (leaving (plain 21) entries numbers)
-    pub in-book : IsPress press → (bookOf book .fault .number ≡ 0 → ⊥) → P (leaving (answer (bookOf book .fault .number) 1 (bookOf book .fault .place)) entries numbers)
-    pub in-sheet : IsPress press → bookOf book .fault .number ≡ 0 → (sheetOf press sheet .fault .number ≡ 0 → ⊥)
-        → P (leaving (answer (sheetOf press sheet .fault .number) 2 (sheetOf press sheet .fault .place)) entries numbers)
+    pub refused : (a : Answer) → Refusal press book sheet a → P (leaving a entries numbers)
     pub short-work : Accepted press book sheet → length entries < entriesNeeded p → P (leaving (plain 9) entries numbers)
     pub short-tree : Accepted press book sheet → entriesNeeded p ≤ length entries → length numbers < numbersNeeded p → P (leaving (plain 10) entries numbers)
     pub declined : Accepted press book sheet → Roomy p entries numbers → (Member b p → ⊥)
@@ -63,4 +57,4 @@ module _ (press : ℕ) (book sheet entries numbers : List ℕ) where
     unfolding derivation
     derivation-ends =
         both-end P (λ a. leaving a entries numbers) press book sheet (λ b p. roomed b p entries numbers)
-        (record { no-press = cases .no-press; in-book = cases .in-book; in-sheet = cases .in-sheet; in-neither = by-room })
+        (cases .refused) by-room

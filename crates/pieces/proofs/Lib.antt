@@ -47,7 +47,6 @@ pub mod Judging
 pub mod Ruled
 pub mod OneCell
 pub mod Lacking
-pub mod InputNumbers
 pub mod DerivationAnswers
 pub mod Deriving
 pub mod AskingAnswers

@@ -14,7 +14,7 @@ use Rattle.names.proofs.Tests.{true-or-false, and-both, and-make}
 use Rattle.books.specs.Answer.{plain, blaming}
 use Rattle.books.specs.Book.{bookOf}
 use Rattle.books.specs.Contents.{Contents}
-use Rattle.books.specs.Lent.{contentsOf, pictureOf, lentBook, lentSheet}
+use Rattle.books.specs.Lent.{contentsOf, pictureOf}
 use Rattle.books.specs.Picture.{Picture}
 use Rattle.books.specs.Press.{IsPress}
 use Rattle.books.specs.Sheet.{sheetOf, sheetFigures}
@@ -22,7 +22,7 @@ use Rattle.books.specs.Size.{Within}
 use Rattle.books.specs.declared.answer.Answer.{Answer}
 use Rattle.books.specs.declared.sheet.SheetFigures.{SheetFigures}
 use Rattle.books.specs.declared.size.Size.{Size}
-use Rattle.books.proofs.LentEnds.{no-press-first, book-refused-next, sheet-refused-last, both-go-on}
+use Rattle.books.proofs.LentEnds.{Refusal, in-sheet, refused-so, both-go-on}
 use Rattle.books.proofs.Presses.{greatest-few}
 use Rattle.books.proofs.ReadingSheets.{sheet-lies}
 use Rattle.books.proofs.SizesWithin.{within-more}
@@ -71,21 +71,11 @@ module _ (press : ℕ) (book sheet entries : List ℕ) (row column colour : ℕ)
       (pick (ltb (length entries) (entriesNeeded p)) (refuse (plain 9)) (recast press b (sheetWith press sheet row column colour) row column entries))
       (refuse (plain 19))
 
-  pub press-first : (IsPress press → ⊥) → recolouring press book sheet entries row column colour ≡ untouched (plain 21) sheet entries
+  pub refused-first : {a : Answer} → Refusal press book sheet a → recolouring press book sheet entries row column colour ≡ untouched a sheet entries
   unfolding recolouring
-  press-first n = no-press-first press refuse (lentBook 1 book refuse (λ b. lentSheet press 2 sheet refuse (go b))) n
-
-  pub book-second : IsPress press → (bookOf book .fault .number ≡ 0 → ⊥)
-      → recolouring press book sheet entries row column colour ≡ untouched (blaming 1 (bookOf book .fault)) sheet entries
-  unfolding recolouring
-  book-second is n = book-refused-next press refuse book sheet go is n
+  refused-first r = refused-so press refuse book sheet go r
 
   module _ (book-fine : bookOf book .fault .number ≡ 0) where
-    pub sheet-third : IsPress press → (sheetOf press sheet .fault .number ≡ 0 → ⊥)
-        → recolouring press book sheet entries row column colour ≡ untouched (blaming 2 (sheetOf press sheet .fault)) sheet entries
-    unfolding recolouring
-    sheet-third is n = sheet-refused-last press refuse book sheet go is book-fine n
-
     module _ (sheet-fine : sheetOf press sheet .fault .number ≡ 0) where
       then-cell : recolouring press book sheet entries row column colour ≡ go (contentsOf book) (pictureOf press sheet)
       unfolding recolouring
@@ -134,7 +124,7 @@ module _ (press : ℕ) (sheet : List ℕ) {g : SheetFigures} (is : g ≡ sheetFi
 
 module _ (press : ℕ) (book sheet entries : List ℕ) (row column colour : ℕ) {g : SheetFigures} (is : g ≡ sheetFigures (sheetOf press sheet)) (book-fine : bookOf book .fault .number ≡ 0) where
   pub read-blamed : IsPress press → (g .fault .number ≡ 0 → ⊥) → recolouring press book sheet entries row column colour ≡ untouched (blaming 2 (g .fault)) sheet entries
-  read-blamed on = rw is (λ n. sheet-third press book sheet entries row column colour book-fine on n)
+  read-blamed on = rw is (λ n. refused-first press book sheet entries row column colour (in-sheet on book-fine n))
 
   pub read-lacks : g .fault .number ≡ 0 → (lackingFor (g .size) (g .colours) row column colour (length entries) ≡ 0 → ⊥)
       → recolouring press book sheet entries row column colour ≡ untouched (plain (lackingFor (g .size) (g .colours) row column colour (length entries))) sheet entries

@@ -1,25 +1,22 @@
 -- The trials that a derivation reports, of `derive` and of `dv_derive` as the host reads it: with 0 and 11 as many as the list of all trials has, and as the formula says, and
 -- with every other answer 0. Of the ways in which a derivation ends two come after the table.
 use Prim.Native.Nat.{ℕ, _/_, _%_, _^_, _≤_}
-use mathlib.Core.Path.{_≡_, refl, subst}
+use mathlib.Core.Path.{_≡_, refl}
 use mathlib.Core.List.{List}
-use mathlib.Core.Logic.{_⊎_, inl, inr}
+use mathlib.Core.Logic.{_⊎_, ⊎-elim}
 use native.Mathlib.Omega.{arith}
 use lib.ListN.{length}
-use Rattle.books.specs.Answer.{InputsNumber}
 use Rattle.books.specs.Press.{greatestOf}
 use Rattle.books.specs.Lent.{contentsOf, pictureOf, Accepted}
 use Rattle.books.specs.declared.rule.Dir.the-variants.{Across as across, Down as down}
 use Rattle.books.proofs.Packing.{apart}
-use Rattle.books.proofs.ReadingBooks.{book-refused}
-use Rattle.books.proofs.ReadingSheets.{sheet-refused}
+use Rattle.books.proofs.Refusals.{refusal-other}
 use Rattle.pieces.specs.Derivation.{Derivation, trialsNeeded, derivation, Leaves, LeavesPacked}
 use Rattle.pieces.specs.Trials.{trials, rulesOf, trialsFor, mostTrials}
 use Rattle.pieces.specs.declared.derive.Derived.{Derived}
 use Rattle.pieces.proofs.CountingTrials.{trials-formula}
 use Rattle.pieces.proofs.DerivationAnswers.{needed-few, derivation-packs}
 use Rattle.pieces.proofs.Endings.{derivation-ends}
-use Rattle.pieces.proofs.InputNumbers.{not-input}
 
 -- what an answer's number says of the count that it carries
 pub record Counts (press : ℕ) (book sheet : List ℕ) (number count : ℕ) : Type 0 where
@@ -29,21 +26,13 @@ pub record Counts (press : ℕ) (book sheet : List ℕ) (number count : ℕ) : T
   pub untried : 1 ≤ number → (number ≡ 11 → ⊥) → count ≡ 0
   pub few : count ≤ mostTrials (greatestOf press)
 
--- no fault of an input has the number 11
-not-eleven : {n : ℕ} → InputsNumber n → n ≡ 11 → ⊥
-not-eleven g e = not-input 11 (subst InputsNumber e g) (omega arith) (λ u. omega arith)
-
 module _ (press : ℕ) (book sheet work tree : List ℕ) where
   abbrev Counted : Derivation → Type 0
   Counted d = Counts press book sheet (d .answer .number) (d .trials)
 
   -- no table, ...
-  none : (n : ℕ) → 1 ≤ n → (n ≡ 11 → ⊥) → Counts press book sheet n 0
-  none n h g = record { tried = λ e. absurd (unlisted e); untried = λ _ _. refl; few = omega arith }
-    where
-      unlisted : (n ≡ 0) ⊎ (n ≡ 11) → ⊥
-      unlisted (inl e) = omega arith
-      unlisted (inr e) = g e
+  none : (n : ℕ) → (n ≡ 0 → ⊥) → (n ≡ 11 → ⊥) → Counts press book sheet n 0
+  none n h g = record { tried = λ e. absurd (⊎-elim h g e); untried = λ _ _. refl; few = omega arith }
 
   -- ... or a table
   all : (n : ℕ) → Accepted press book sheet → (1 ≤ n → (n ≡ 11 → ⊥) → ⊥) → Counts press book sheet n (trialsNeeded (contentsOf book) (pictureOf press sheet))
@@ -58,11 +47,9 @@ module _ (press : ℕ) (book sheet work tree : List ℕ) where
   counted =
       derivation-ends press book sheet work tree Counted
       (record {
-        no-press = λ _. none 21 (omega arith) (λ e. omega arith);
-        in-book = λ is n. let f = book-refused book n .blamed in none _ (f .some) (not-eleven (f .known));
-        in-sheet = λ is z n. let f = sheet-refused press sheet n .blamed in none _ (f .some) (not-eleven (inl (f .known)));
-        short-work = λ fine short. none 9 (omega arith) (λ e. omega arith);
-        short-tree = λ fine enough short. none 10 (omega arith) (λ e. omega arith);
+        refused = λ a r. none (a .number) (refusal-other r 0 refl) (refusal-other r 11 refl);
+        short-work = λ fine short. none 9 (λ e. omega arith) (λ e. omega arith);
+        short-tree = λ fine enough short. none 10 (λ e. omega arith) (λ e. omega arith);
         declined = λ fine room no. all 11 fine (λ h g. g refl);
         derived = λ fine room x nodes given. all 0 fine (λ h g. omega arith);
       })

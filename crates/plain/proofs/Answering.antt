@@ -12,7 +12,8 @@ use Rattle.books.specs.Answer.{plain, blaming}
 use Rattle.books.specs.Book.{bookOf}
 use Rattle.books.specs.Contents.{Contents}
 use Rattle.books.specs.Decide.{pictures, derives?}
-use Rattle.books.specs.Lent.{contentsOf, pictureOf, Accepted, lentBook, lentSheet}
+use Rattle.books.specs.declared.answer.Answer.{Answer}
+use Rattle.books.specs.Lent.{contentsOf, pictureOf, Accepted}
 use Rattle.books.specs.Numbering.{Numbers, numbersOf, numbersFor}
 use Rattle.books.specs.Picture.{Picture}
 use Rattle.books.specs.Press.{IsPress}
@@ -24,7 +25,7 @@ use Rattle.books.specs.declared.lent.BookFigures.{BookFigures}
 use Rattle.books.specs.declared.sheet.Sheet.{Sheet}
 use Rattle.books.specs.declared.sheet.SheetFigures.{SheetFigures}
 use Rattle.books.proofs.AlikeSearches.{found-alike}
-use Rattle.books.proofs.LentEnds.{no-press-first, book-refused-next, sheet-refused-last, both-go-on}
+use Rattle.books.proofs.LentEnds.{Refusal, in-book, in-sheet, refused-so, both-go-on}
 use Rattle.books.proofs.LentRules.{rows-back}
 use Rattle.books.proofs.NumberedCells.{numbers-for, numbers-fresh, fresh-room}
 use Rattle.books.proofs.Presses.{greatest-few}
@@ -43,14 +44,13 @@ unfolding found derives?
 found-whole b p cells given a hr hc =
     found-alike (onSheet (sizeOf p) cells) (pictures b) (b .rules) (CutsOut p) (pieces-alike b p cells given) _ a (whole (p .rows) (p .cols)) p (whole-cuts p hr hc)
 
-pub press-first : (press : ℕ) (book sheet : List ℕ) → (IsPress press → ⊥) → plainAnswer press book sheet ≡ plain 21
+pub refused-first : (press : ℕ) (book sheet : List ℕ) {a : Answer} → Refusal press book sheet a → plainAnswer press book sheet ≡ a
 unfolding plainAnswer
-press-first press book sheet n = no-press-first press (λ a. a) (lentBook 1 book (λ a. a) (λ c. lentSheet press 2 sheet (λ a. a) (λ p. searched c p))) n
+refused-first press book sheet r = refused-so press (λ a. a) book sheet searched r
 
 module _ (press : ℕ) (book sheet : List ℕ) {b : BookFigures} {rows : List (List ℕ)} (read : BookInto book b rows) where
   pub book-blamed : IsPress press → (b .fault .number ≡ 0 → ⊥) → plainAnswer press book sheet ≡ blaming 1 (b .fault)
-  unfolding plainAnswer
-  book-blamed is n = rw (read .figures) (book-refused-next press (λ a. a) book sheet searched is (rw (read .figures) at n))
+  book-blamed is n = rw (read .figures) (refused-first press book sheet (in-book is (rw (read .figures) at n)))
 
   module _ {s : SheetFigures} {cells : List ℕ} (shown : Numbers press book (b .colours) sheet (replicate room 0) s cells) (z : b .fault .number ≡ 0) where
     abbrev f : Family
@@ -63,8 +63,7 @@ module _ (press : ℕ) (book sheet : List ℕ) {b : BookFigures} {rows : List (L
     book-fine = rw (read .figures) at z
 
     pub sheet-blamed : IsPress press → (s .fault .number ≡ 0 → ⊥) → plainAnswer press book sheet ≡ blaming 2 (s .fault)
-    unfolding plainAnswer
-    sheet-blamed is n = rw (shown .figures) (sheet-refused-last press (λ a. a) book sheet searched is book-fine (rw (shown .figures) at n))
+    sheet-blamed is n = rw (shown .figures) (refused-first press book sheet (in-sheet is book-fine (rw (shown .figures) at n)))
 
     pub cells-room : length cells ≡ room
     cells-room = fresh-room press book (b .colours) sheet shown

@@ -4,16 +4,14 @@ use mathlib.Core.Path.{_≡_, refl, sym, ap, _∙_}
 use mathlib.Core.List.{List}
 use native.Mathlib.Omega.{arith}
 use Rattle.books.specs.Answer.{answer, plain, packed, Packs, answerIn}
-use Rattle.books.specs.Book.{bookOf}
 use Rattle.books.specs.Derives.{Member}
 use Rattle.books.specs.Lent.{contentsOf, pictureOf, Accepted}
-use Rattle.books.specs.Sheet.{sheetOf}
 use Rattle.books.specs.declared.answer.Answer.{Answer}
-use Rattle.books.proofs.LentEnds.{accepted-press, blamed-is}
 use Rattle.books.proofs.Packing.{apart}
+use Rattle.books.proofs.Refusals.{refusal-bad}
 use Rattle.pieces.specs.Derivation.{Derivation, Roomy, derivation, Leaves, LeavesPacked}
 use Rattle.pieces.specs.declared.derive.Derived.{Derived}
-use Rattle.pieces.proofs.DerivationAnswers.{press-first, book-second, sheet-third, derivation-packs}
+use Rattle.pieces.proofs.DerivationAnswers.{refused-first, derivation-packs}
 use Rattle.pieces.proofs.Endings.{derivation-ends}
 use Rattle.plain.specs.Outcome.{plainAnswer}
 use Rattle.plain.proofs.Demand1.{plain-answer-packs}
@@ -35,9 +33,7 @@ module _ (press : ℕ) (book sheet entries numbers : List ℕ) (room : Roomy (pi
   says fine a none some =
       derivation-ends press book sheet entries numbers (λ (x : Derivation). a ≡ x .answer)
       (record {
-        no-press = λ none. absurd (none (accepted-press fine));
-        in-book = λ _ n. absurd (n (fine .book-fine));
-        in-sheet = λ _ z n. absurd (n (fine .sheet-fine));
+        refused = λ a r. absurd (refusal-bad r fine);
         short-work = λ _ short. absurd (omega (arith, room .work-long));
         short-tree = λ _ _ short. absurd (omega (arith, room .tree-long));
         declined = λ _ _ x. none x;
@@ -48,9 +44,7 @@ module _ (press : ℕ) (book sheet entries numbers : List ℕ) (room : Roomy (pi
   as-derived =
       plain-ends press book sheet (λ (a : Answer). (a .number ≡ 20 → ⊥) → a ≡ d .answer)
       (record {
-        no-press = λ none _. sym (ap (λ (x : Derivation). x .answer) (press-first press book sheet entries numbers none));
-        in-book = λ is n _. sym (ap (λ (x : Derivation). x .answer) (book-second press book sheet entries numbers is n) ∙ blamed-is 1 (bookOf book .fault) n);
-        in-sheet = λ is z n _. sym (ap (λ (x : Derivation). x .answer) (sheet-third press book sheet entries numbers is z n) ∙ blamed-is 2 (sheetOf press sheet .fault) n);
+        refused = λ a r _. sym (ap (λ (x : Derivation). x .answer) (refused-first press book sheet entries numbers r));
         too-many = λ _ _ taken. absurd (taken refl);
         declined = λ fine _ none _. says fine (plain 11) (λ _. refl) (λ has. absurd (none has));
         derived = λ fine _ has _. says fine (plain 0) (λ none. absurd (none has)) (λ _. refl);

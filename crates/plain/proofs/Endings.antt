@@ -1,22 +1,18 @@
--- The six ways in which the call ends: what holds of each holds of every call.
+-- The four ways in which the call ends: what holds of each holds of every call.
 use Prim.Native.Nat.{ℕ, _≤_, _<_}
-use mathlib.Core.Path.{_≡_}
 use mathlib.Core.List.{List}
 use borrow.Author.Tests.{ltb-true, ltb-false}
 use lib.Dec.{ltb}
 use Rattle.names.proofs.Picking.{pick-ind}
-use Rattle.books.specs.Answer.{answer, plain}
-use Rattle.books.specs.Book.{bookOf}
+use Rattle.books.specs.Answer.{plain}
 use Rattle.books.specs.Contents.{Contents}
 use Rattle.books.specs.Decide.{derives?}
 use Rattle.books.specs.Derives.{Member}
 use Rattle.books.specs.Lent.{contentsOf, pictureOf, Accepted}
 use Rattle.books.specs.Picture.{Picture}
-use Rattle.books.specs.Press.{IsPress}
-use Rattle.books.specs.Sheet.{sheetOf}
 use Rattle.books.specs.declared.answer.Answer.{Answer}
-use Rattle.books.proofs.Deciding.{decided, refused}
-use Rattle.books.proofs.LentEnds.{both-end}
+use Rattle.books.proofs.Deciding.{decided, refused as not-derived}
+use Rattle.books.proofs.LentEnds.{Refusal, both-end}
 use Rattle.plain.specs.Outcome.{mostCells, cells, searched, plainAnswer}
 
 module _ (press : ℕ) (book sheet : List ℕ) where
@@ -27,10 +23,7 @@ module _ (press : ℕ) (book sheet : List ℕ) where
   p = pictureOf press sheet
 
   pub record Cases (P : Answer → Type 0) : Type 0 where
-    pub no-press : (IsPress press → ⊥) → P (plain 21)
-    pub in-book : IsPress press → (bookOf book .fault .number ≡ 0 → ⊥) → P (answer (bookOf book .fault .number) 1 (bookOf book .fault .place))
-    pub in-sheet : IsPress press → bookOf book .fault .number ≡ 0 → (sheetOf press sheet .fault .number ≡ 0 → ⊥)
-        → P (answer (sheetOf press sheet .fault .number) 2 (sheetOf press sheet .fault .place))
+    pub refused : (a : Answer) → Refusal press book sheet a → P a
     pub too-many : Accepted press book sheet → mostCells < cells p → P (plain 20)
     pub declined : Accepted press book sheet → cells p ≤ mostCells → (Member b p → ⊥) → P (plain 11)
     pub derived : Accepted press book sheet → cells p ≤ mostCells → Member b p → P (plain 0)
@@ -44,10 +37,10 @@ module _ (press : ℕ) (book sheet : List ℕ) where
         (λ e. let few = ltb-false mostCells (cells p) e in
         pick-ind P (derives? b (b .start) p) _ _
         (λ d. cases .derived fine few (decided b (b .start) p .0 d))
-        (λ d. cases .declined fine few (refused b (b .start) p .0 d)))
+        (λ d. cases .declined fine few (not-derived b (b .start) p .0 d)))
 
     pub plain-ends : P (plainAnswer press book sheet)
     unfolding plainAnswer
     plain-ends =
         both-end P (λ a. a) press book sheet searched
-        (record { no-press = cases .no-press; in-book = cases .in-book; in-sheet = cases .in-sheet; in-neither = by-searching })
+        (cases .refused) by-searching

@@ -3,14 +3,12 @@ use Prim.Native.Nat.{ℕ, _+_, _*_, _/_, _%_, _^_, _≤_, _<_}
 use mathlib.Core.Path.{_≡_, refl, ap, _∙_}
 use mathlib.Core.List.{List}
 use native.Mathlib.Omega.{arith}
-use borrow.Author.Tests.{ne-eqb}
 use Rattle.books.specs.Answer.{Packs}
-use Rattle.books.specs.Book.{bookOf}
 use Rattle.books.specs.Contents.{Contents}
 use Rattle.books.specs.Picture.{Picture}
-use Rattle.books.specs.Sheet.{sheetOf}
 use Rattle.books.specs.Press.{widest}
-use Rattle.books.proofs.Packing.{plain-packs, book-placed, sheet-placed}
+use Rattle.books.proofs.Packing.{plain-packs}
+use Rattle.books.proofs.Refusals.{refusal-packs}
 use Rattle.books.proofs.Presses.{greatest-few}
 use Rattle.books.proofs.ReadingSheets.{sheet-lies}
 use Rattle.books.proofs.SizesWithin.{within-more}
@@ -100,9 +98,7 @@ pub why-not-packs : (press : ℕ) (book sheet entries : List ℕ) → Packable (
 why-not-packs press book sheet entries =
     why-not-ends press book sheet entries Packable
     (record {
-      no-press = λ none. record { fits = no-values; packs = plain-packs 21 0 (omega arith) (omega arith) };
-      in-book = λ is n. record { fits = no-values; packs = rw (ne-eqb (bookOf book .fault .number) 0 n) at (book-placed book 1 (omega arith) .packs) };
-      in-sheet = λ is z n. record { fits = no-values; packs = rw (ne-eqb (sheetOf press sheet .fault .number) 0 n) at (sheet-placed press sheet 2 (omega arith) .packs) };
+      refusing = λ a r. record { fits = no-values; packs = refusal-packs r };
       short-work = λ fine short. record { fits = no-values; packs = plain-packs 9 0 (omega arith) (omega arith) };
       in-family = λ fine room x. record { fits = no-values; packs = plain-packs 15 0 (omega arith) (omega arith) };
       explained = λ fine room other first.

@@ -5,7 +5,6 @@ use mathlib.Core.Path.{_≡_, refl, sym, ap, ap₂, _∙_}
 use mathlib.Core.Bool.{Bool}
 use mathlib.Core.List.{List}
 use native.Mathlib.Omega.{arith}
-use borrow.Author.Tests.{ne-eqb}
 use lib.ListN.{length}
 use Rattle.names.specs.declared.number.Fault.{Fault}
 use Rattle.names.specs.Bytes.{Bytes}
@@ -18,9 +17,10 @@ use Rattle.books.specs.Sheet.{sheetOf}
 use Rattle.books.specs.Press.{greatestOf, IsPress}
 use Rattle.books.specs.Size.{Within}
 use Rattle.books.proofs.ReadingBooks.{book-accepted}
-use Rattle.books.proofs.LentEnds.{no-press-first, book-refused-next}
+use Rattle.books.proofs.LentEnds.{Refusal, no-press, in-book, in-sheet, refused-so}
+use Rattle.books.proofs.Refusals.{refusal-other}
 use Rattle.books.proofs.Presses.{greatest-few}
-use Rattle.books.proofs.ReadingSheets.{sheet-lies, sheet-refused}
+use Rattle.books.proofs.ReadingSheets.{sheet-lies}
 use Rattle.books.proofs.SizesWithin.{within-more}
 use Rattle.pieces.specs.Asking.{Asking, asking, SplitFrom, Asks}
 use Rattle.pieces.specs.Derivation.{entriesNeeded, filled}
@@ -68,11 +68,7 @@ module _ (press : ℕ) (book sheet entries : List ℕ) where
   follows is book-fine =
       why-not-ends press book sheet entries (λ o. Follows o (asking press book sheet entries))
       (record {
-        no-press = λ none. absurd (none is);
-        in-book = λ _ n. absurd (n book-fine);
-        in-sheet = λ _ z n. let f = sheet-refused press sheet n .blamed in
-            rw (sheet-first press book sheet entries n, ne-eqb (sheetOf press sheet .fault .number) 0 n)
-            (record { zero = λ e. absurd (n e); eleven = λ e. absurd (omega (arith, f .known)); other = λ _ _. refl });
+        refusing = λ a r. out r;
         short-work = λ fine short.
             rw (room-second press book sheet entries (fine .sheet-fine) short)
             (record { zero = λ e. absurd (omega arith); eleven = λ e. absurd (omega arith); other = λ _ _. refl });
@@ -87,27 +83,30 @@ module _ (press : ℕ) (book sheet entries : List ℕ) where
               other = λ _ n. absurd (n refl);
             });
       })
+    where
+      out : {a : Answer} → Refusal press book sheet a → Follows (refused a entries) (asking press book sheet entries)
+      out (no-press none) = absurd (none is)
+      out (in-book _ n) = absurd (n book-fine)
+      out (in-sheet on z n) =
+          let other = refusal-other (in-sheet on z n) in
+          rw (sheet-first press book sheet entries n)
+          (record { zero = λ e. absurd (other 0 refl e); eleven = λ e. absurd (other 11 refl e); other = λ _ _. refl })
 
 -- ── What is told ──
 
-press-first : (press : ℕ) (book sheet entries : List ℕ) → (IsPress press → ⊥) → whyNot press book sheet entries ≡ refused (plain 21) entries
+refused-first : (press : ℕ) (book sheet entries : List ℕ) {a : Answer} → Refusal press book sheet a → whyNot press book sheet entries ≡ refused a entries
 unfolding whyNot
-press-first press book sheet entries n = no-press-first press (λ a. refused a entries) _ n
-
-book-second : (press : ℕ) (book sheet entries : List ℕ) → IsPress press → (bookOf book .fault .number ≡ 0 → ⊥)
-    → whyNot press book sheet entries ≡ refused (blaming 1 (bookOf book .fault)) entries
-unfolding whyNot
-book-second press book sheet entries is n = book-refused-next press (λ a. refused a entries) book sheet (λ b p. roomed b p entries) is n
+refused-first press book sheet entries r = refused-so press (λ a. refused a entries) book sheet (λ b p. roomed b p entries) r
 
 module _ (press : ℕ) (book sheet entries : List ℕ) (w : WhyNot) (a : Answer) (told : w ≡ unexplained a) where
   pub told-no-press : (IsPress press → ⊥) → a ≡ plain 21 → Answers (whyNot press book sheet entries) w entries
   told-no-press n e =
-      rw (press-first press book sheet entries n)
+      rw (refused-first press book sheet entries (no-press n))
       (record { answers = ap (λ (x : WhyNot). x .answer) told ∙ e; reasons = ap (λ (x : WhyNot). x .reason) told; leaves = refl })
 
   pub told-faulty : IsPress press → (f : Fault) → f ≡ bookOf book .fault → (f .number ≡ 0 → ⊥) → a ≡ blaming 1 f → Answers (whyNot press book sheet entries) w entries
   told-faulty is f read n e =
-      rw (book-second press book sheet entries is (λ z. n (ap (λ (x : Fault). x .number) read ∙ z)))
+      rw (refused-first press book sheet entries (in-book is (λ z. n (ap (λ (x : Fault). x .number) read ∙ z))))
       (record { answers = ap (λ (x : WhyNot). x .answer) told ∙ e ∙ ap (blaming 1) read; reasons = ap (λ (x : WhyNot). x .reason) told; leaves = refl })
 
   module _ (left : List ℕ) (r : Asked) {before cells : List ℕ} (asks : Asks press book sheet before entries r cells left) (is : IsPress press) (book-fine : bookOf book .fault .number ≡ 0) where

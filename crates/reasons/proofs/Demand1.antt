@@ -1,7 +1,7 @@
 -- What the call answers, from any bytes and any slice: which number and exactly when, which input it blames and where, what the work slice then holds, and that with 0 the reason is
 -- the first that holds of the lent book and sheet. Stated on the parts of the answer, and for the C host on the number taken apart as the header does.
 use Prim.Native.Nat.{ℕ, _/_, _%_, _^_, _≤_, _<_}
-use mathlib.Core.Path.{_≡_, refl, ap, _∙_, subst}
+use mathlib.Core.Path.{_≡_, refl, ap, _∙_}
 use mathlib.Core.List.{List, _++_}
 use mathlib.Core.Logic.{_↔_, _⊎_, inl, inr, ⊎-elim}
 use native.Mathlib.Omega.{arith}
@@ -10,15 +10,11 @@ use Rattle.names.proofs.Tests.{together, neither}
 use Rattle.books.specs.Answer.{InputsNumber}
 use Rattle.books.specs.Contents.{Contents}
 use Rattle.books.specs.Picture.{Picture}
-use Rattle.books.specs.Press.{IsPress}
 use Rattle.books.specs.Derives.{Member}
-use Rattle.books.proofs.LentEnds.{accepted-press}
 use Rattle.books.proofs.Packing.{apart}
-use Rattle.books.proofs.ReadingBooks.{book-refused}
-use Rattle.books.proofs.ReadingSheets.{sheet-refused}
+use Rattle.books.proofs.Refusals.{Blames, own-blames, refusal-bad, refusal-listed, refusal-blames, refusal-other}
 use Rattle.pieces.specs.Derivation.{entriesNeeded}
 use Rattle.pieces.specs.Table.{table}
-use Rattle.pieces.proofs.Demand1.{InBook, InSheet, not-input}
 use Rattle.books.specs.Lent.{contentsOf, pictureOf, Accepted}
 use Rattle.reasons.specs.declared.calls.WhyNot.{WhyNot}
 use Rattle.reasons.specs.declared.reason.Reason.{Reason}
@@ -28,13 +24,6 @@ use Rattle.reasons.specs.Holds.{First}
 use Rattle.reasons.specs.Why.{Outcome, whyNot, Answers, Leaves}
 use Rattle.reasons.proofs.Apart.{values-read, reason-read, Packable, why-not-packs}
 use Rattle.reasons.proofs.Endings.{why-not-ends}
-
--- a number on which nothing is written
-unread : (n : ℕ) → 1 ≤ n → InputsNumber n ⊎ (n ≡ 9) ⊎ (n ≡ 21) → (n ≡ 0) ⊎ (n ≡ 15) → ⊥
-unread n h g (inl e) = omega arith
-unread n h (inl g) (inr e) = not-input 15 (subst InputsNumber e g) (omega arith) (λ u. omega arith)
-unread n h (inr (inl g)) (inr e) = omega arith
-unread n h (inr (inr g)) (inr e) = omega arith
 
 module _ (press : ℕ) (book sheet work : List ℕ) where
   abbrev b : Contents
@@ -53,108 +42,71 @@ module _ (press : ℕ) (book sheet work : List ℕ) where
 
   -- A call that was lent a book, a sheet and a work slice answers so, with this reason, and leaves the slice so.
   pub record Answered (number blamed place : ℕ) (reason : Reason) (left : List ℕ) : Type 0 where
-    pub listed : InputsNumber number ⊎ (number ≡ 9) ⊎ (number ≡ 15) ⊎ (number ≡ 21)
-    pub no-press : (number ≡ 21) ↔ (IsPress press → ⊥)
-    pub faulty : ((1 ≤ number) × InputsNumber number) ↔ (IsPress press × (Accepted press book sheet → ⊥))
+    pub listed : InputsNumber number ⊎ ((number ≡ 21) ⊎ (number ≡ 9) ⊎ (number ≡ 15))
+    pub blames : Blames press book sheet number blamed place
     pub nine : (number ≡ 9) ↔ (Accepted press book sheet × (length work < entriesNeeded p))
     pub fifteen : (number ≡ 15) ↔ (Ready × Member b p)
     pub zero : (number ≡ 0) ↔ (Ready × (Member b p → ⊥))
-    pub faults : 1 ≤ number → InputsNumber number → InBook book number blamed place ⊎ InSheet press book sheet number blamed place
-    pub others : (number ≡ 0) ⊎ (InputsNumber number → ⊥) → (blamed ≡ 0) × (place ≡ 0)
     pub first : number ≡ 0 → First b p reason
     pub no-reason : (number ≡ 0 → ⊥) → reason ≡ NoReason
-    pub unwritten : 1 ≤ number → InputsNumber number ⊎ (number ≡ 9) ⊎ (number ≡ 21) → left ≡ work
+    pub unwritten : ((number ≡ 0) ⊎ (number ≡ 15) → ⊥) → left ≡ work
     pub written : (number ≡ 0) ⊎ (number ≡ 15) → left ≡ tabled
 
   abbrev Obeys : Outcome → Type 0
   Obeys o = Answered (o .answer .number) (o .answer .blamed) (o .answer .place) (o .reason) (o .entries)
 
-  faulty-input : (n blamed place : ℕ) → IsPress press → 1 ≤ n → InputsNumber n → (Accepted press book sheet → ⊥) → InBook book n blamed place ⊎ InSheet press book sheet n blamed place
-      → Answered n blamed place NoReason work
-  faulty-input n blamed place is h g bad where-it-is =
-      record {
-        listed = inl g;
-        no-press = neither (λ e. not-input 21 (subst InputsNumber e g) (omega arith) (λ u. omega arith)) (λ none. none is);
-        faulty = together (h, g) (is, bad);
-        nine = neither (λ e. not-input 9 (subst InputsNumber e g) (omega arith) (λ u. omega arith)) (λ x. bad (x .0));
-        fifteen = neither (λ e. not-input 15 (subst InputsNumber e g) (omega arith) (λ u. omega arith)) (λ x. bad (x .0 .0));
-        zero = neither (λ e. omega arith) (λ x. bad (x .0 .0));
-        faults = λ _ _. where-it-is;
-        others = λ o. absurd (⊎-elim (λ e. omega arith) (λ other. other g) o);
-        first = λ z. absurd (omega arith);
-        no-reason = λ _. refl;
-        unwritten = λ _ _. refl;
-        written = λ o. absurd (unread n h (inl g) o);
-      }
-
   pub obeys : Obeys (whyNot press book sheet work)
   obeys =
       why-not-ends press book sheet work Obeys
       (record {
-        no-press = λ none.
+        refusing = λ a r.
+            let other = refusal-other r in
+            let bad = refusal-bad r in
             record {
-              listed = inr (inr (inr refl));
-              no-press = together refl none;
-              faulty = neither (λ e. not-input 21 (e .1) (omega arith) (λ u. omega arith)) (λ x. none (x .0));
-              nine = neither (λ e. omega arith) (λ x. none (accepted-press (x .0)));
-              fifteen = neither (λ e. omega arith) (λ x. none (accepted-press (x .0 .0)));
-              zero = neither (λ e. omega arith) (λ x. none (accepted-press (x .0 .0)));
-              faults = λ h g. absurd (not-input 21 g (omega arith) (λ u. omega arith));
-              others = λ o. (refl, refl);
-              first = λ e. absurd (omega arith);
+              listed = refusal-listed r;
+              blames = refusal-blames r;
+              nine = neither (other 9 refl) (λ x. bad (x .0));
+              fifteen = neither (other 15 refl) (λ x. bad (x .0 .0));
+              zero = neither (other 0 refl) (λ x. bad (x .0 .0));
+              first = λ e. absurd (other 0 refl e);
               no-reason = λ _. refl;
-              unwritten = λ _ _. refl;
-              written = λ o. absurd (unread 21 (omega arith) (inr (inr refl)) o);
+              unwritten = λ _. refl;
+              written = λ o. absurd (⊎-elim (other 0 refl) (other 15 refl) o);
             };
-        in-book = λ is n. let f = book-refused book n .blamed in
-            faulty-input _ _ _ is (f .some) (f .known) (λ fine. n (fine .book-fine))
-            (inl (record { number-is = refl; place-is = refl; first = refl; inside = f .inside }));
-        in-sheet = λ is z n. let f = sheet-refused press sheet n .blamed in
-            faulty-input _ _ _ is (f .some) (inl (f .known)) (λ fine. n (fine .sheet-fine))
-            (inr (record { book-fine = z; number-is = refl; place-is = refl; second = refl; inside = f .inside }));
         short-work = λ fine short.
             record {
-              listed = inr (inl refl);
-              no-press = neither (λ e. omega arith) (λ none. none (accepted-press fine));
-              faulty = neither (λ e. not-input 9 (e .1) (omega arith) (λ u. omega arith)) (λ x. x .1 fine);
+              listed = inr (inr (inl refl));
+              blames = own-blames fine 9 0 refl (λ _. refl);
               nine = together refl (fine, short);
               fifteen = neither (λ e. omega arith) (λ x. omega (arith, x .0 .1));
               zero = neither (λ e. omega arith) (λ x. omega (arith, x .0 .1));
-              faults = λ h g. absurd (not-input 9 g (omega arith) (λ u. omega arith));
-              others = λ o. (refl, refl);
               first = λ e. absurd (omega arith);
               no-reason = λ _. refl;
-              unwritten = λ _ _. refl;
-              written = λ o. absurd (unread 9 (omega arith) (inr (inl refl)) o);
+              unwritten = λ _. refl;
+              written = λ o. absurd (⊎-elim (λ e. omega arith) (λ e. omega arith) o);
             };
         in-family = λ fine room x.
             record {
-              listed = inr (inr (inl refl));
-              no-press = neither (λ e. omega arith) (λ none. none (accepted-press fine));
-              faulty = neither (λ e. not-input 15 (e .1) (omega arith) (λ u. omega arith)) (λ x. x .1 fine);
+              listed = inr (inr (inr refl));
+              blames = own-blames fine 15 0 refl (λ _. refl);
               nine = neither (λ e. omega arith) (λ y. omega (arith, y .1));
               fifteen = together refl ((fine, room), x);
               zero = neither (λ e. omega arith) (λ y. y .1 x);
-              faults = λ h g. absurd (not-input 15 g (omega arith) (λ u. omega arith));
-              others = λ o. (refl, refl);
               first = λ e. absurd (omega arith);
               no-reason = λ _. refl;
-              unwritten = λ h g. absurd (unread 15 h g (inr refl));
+              unwritten = λ out. absurd (out (inr refl));
               written = λ _. refl;
             };
         explained = λ fine room other first.
             record {
               listed = inl (inl (omega arith));
-              no-press = neither (λ e. omega arith) (λ none. none (accepted-press fine));
-              faulty = neither (λ e. omega (arith, e .0)) (λ x. x .1 fine);
+              blames = own-blames fine 0 0 refl (λ _. refl);
               nine = neither (λ e. omega arith) (λ y. omega (arith, y .1));
               fifteen = neither (λ e. omega arith) (λ y. other (y .1));
               zero = together refl ((fine, room), other);
-              faults = λ h g. absurd (omega arith);
-              others = λ o. (refl, refl);
               first = λ _. first;
               no-reason = λ n. absurd (n refl);
-              unwritten = λ h g. absurd (omega arith);
+              unwritten = λ out. absurd (out (inl refl));
               written = λ _. refl;
             };
       })

@@ -1,6 +1,5 @@
--- The six ways in which the call ends: what holds of each holds of every call.
+-- The four ways in which the call ends: what holds of each holds of every call.
 use Prim.Native.Nat.{ℕ, _≤_, _<_}
-use mathlib.Core.Path.{_≡_}
 use mathlib.Core.List.{List}
 use borrow.Author.Tests.{ltb-true, ltb-false}
 use lib.Dec.{ltb}
@@ -8,14 +7,12 @@ use lib.ListN.{length}
 use Rattle.names.proofs.Picking.{pick-ind}
 use Rattle.books.specs.Contents.{Contents}
 use Rattle.books.specs.Picture.{Picture}
-use Rattle.books.specs.Press.{IsPress}
 use Rattle.books.specs.Derives.{Member}
 use Rattle.books.specs.Decide.{derives?}
-use Rattle.books.specs.Book.{bookOf}
-use Rattle.books.specs.Sheet.{sheetOf}
-use Rattle.books.specs.Answer.{answer, plain}
+use Rattle.books.specs.Answer.{plain}
+use Rattle.books.specs.declared.answer.Answer.{Answer}
 use Rattle.books.proofs.Deciding.{decided, refused as not-derived}
-use Rattle.books.proofs.LentEnds.{both-end}
+use Rattle.books.proofs.LentEnds.{Refusal, both-end}
 use Rattle.books.proofs.ReadingSheets.{sheet-lies}
 use Rattle.pieces.specs.Derivation.{entriesNeeded, filled}
 use Rattle.books.specs.Lent.{contentsOf, pictureOf, Accepted}
@@ -31,10 +28,7 @@ module _ (press : ℕ) (book sheet entries : List ℕ) where
   p = pictureOf press sheet
 
   pub record Cases (P : Outcome → Type 0) : Type 0 where
-    pub no-press : (IsPress press → ⊥) → P (refused (plain 21) entries)
-    pub in-book : IsPress press → (bookOf book .fault .number ≡ 0 → ⊥) → P (refused (answer (bookOf book .fault .number) 1 (bookOf book .fault .place)) entries)
-    pub in-sheet : IsPress press → bookOf book .fault .number ≡ 0 → (sheetOf press sheet .fault .number ≡ 0 → ⊥)
-        → P (refused (answer (sheetOf press sheet .fault .number) 2 (sheetOf press sheet .fault .place)) entries)
+    pub refusing : (a : Answer) → Refusal press book sheet a → P (refused a entries)
     pub short-work : Accepted press book sheet → length entries < entriesNeeded p → P (refused (plain 9) entries)
     pub in-family : Accepted press book sheet → entriesNeeded p ≤ length entries → Member b p → P (refused (plain 15) (filled b p entries))
     pub explained : Accepted press book sheet → entriesNeeded p ≤ length entries → (Member b p → ⊥) → First b p (reasonOf b p)
@@ -60,4 +54,4 @@ module _ (press : ℕ) (book sheet entries : List ℕ) where
     unfolding whyNot
     why-not-ends =
         both-end P (λ a. refused a entries) press book sheet (λ b p. roomed b p entries)
-        (record { no-press = cases .no-press; in-book = cases .in-book; in-sheet = cases .in-sheet; in-neither = by-room })
+        (cases .refusing) by-room

@@ -18,7 +18,8 @@ use Rattle.books.specs.Derives.{Member}
 use Rattle.books.specs.Lent.{contentsOf, pictureOf, Accepted}
 use Rattle.books.specs.Press.{IsPress}
 use Rattle.books.specs.Sheet.{sheetOf}
-use Rattle.books.proofs.LentEnds.{accepted-press}
+use Rattle.books.specs.declared.answer.Answer.{Answer}
+use Rattle.books.proofs.LentEnds.{blamed-is, accepted-press, Refusal, no-press, in-book, in-sheet}
 use Rattle.books.proofs.Area.{within-area}
 use Rattle.books.proofs.ReadingSheets.{sheet-refused, sheet-lies}
 use Rattle.pieces.specs.Derivation.{Derivation, entriesNeeded, numbersNeeded}
@@ -66,14 +67,17 @@ module _ (press : ℕ) (book sheet : List ℕ) where
   answer-ends P ways =
       derivation-ends press book sheet (replicate (workRoom press) 0) (replicate (treeRoom press) 0) (λ (d : Derivation). P (d .answer .number))
       (record {
-        no-press = ways .no-press;
-        in-book = λ _. ways .in-book;
-        in-sheet = λ _. ways .in-sheet;
+        refused = λ a r. out r;
         short-work = λ fine short. absurd (omega (arith, short, length-replicate {A = ℕ} (workRoom press) 0, table-fits press sheet (fine .sheet-fine)));
         short-tree = λ fine enough short. absurd (omega (arith, short, length-replicate {A = ℕ} (treeRoom press) 0, tree-fits press sheet));
         declined = λ fine room none. ways .declined fine none;
         derived = λ fine room x nodes given. ways .derived fine x;
       })
+    where
+      out : {a : Answer} → Refusal press book sheet a → P (a .number)
+      out (no-press none) = ways .no-press none
+      out (in-book is n) = rw (blamed-is 1 (bookOf book .fault) n) (ways .in-book n)
+      out (in-sheet is z n) = rw (blamed-is 2 (sheetOf press sheet .fault) n) (ways .in-sheet z n)
 
   pub answer-listed : IsPress press → bookOf book .fault .number ≡ 0 → Listed (answerOf press book sheet)
   answer-listed is fine =

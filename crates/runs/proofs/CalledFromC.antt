@@ -12,7 +12,7 @@ use Rattle.books.specs.Press.{presses, IsPress}
 use Rattle.books.specs.declared.answer.Answer.{Answer}
 use Rattle.books.proofs.LentEnds.{blamed-is}
 use Rattle.books.proofs.Packing.{apart, plain-packs}
-use Rattle.pieces.proofs.Demand1.{not-input}
+use Rattle.books.proofs.Refusals.{not-input}
 use Rattle.runs.specs.Figures.{figuresLong, inARow}
 use Rattle.runs.specs.Outcome.{Outcome, report, Answers, told, runReport, Leaves}
 use Rattle.runs.specs.declared.calls.RunReport.{RunReport}

@@ -16,7 +16,7 @@ use Rattle.books.specs.Lent.{Fine}
 use Rattle.books.specs.Press.{IsPress}
 use Rattle.books.proofs.Packing.{apart, plain-packs, book-placed, fault-placed}
 use Rattle.books.proofs.ReadingBooks.{book-refused}
-use Rattle.pieces.proofs.Demand1.{not-input}
+use Rattle.books.proofs.Refusals.{not-input}
 use Rattle.runs.specs.Run.{mostBytes, framing, sheetsOf}
 use Rattle.runs.specs.Figures.{workRoom, figuresOf, noFigures}
 use Rattle.runs.specs.Outcome.{Outcome, refused, reported, report, Answers, told}

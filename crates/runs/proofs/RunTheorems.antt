@@ -12,14 +12,14 @@ use Rattle.names.specs.Number.{numberAt}
 use Rattle.names.specs.Pick.{fault}
 use Rattle.names.specs.declared.number.Read.the-variants.{Value}
 use Rattle.names.proofs.Tests.{lt-or-le}
-use Rattle.books.specs.Answer.{plain, blaming}
 use Rattle.books.specs.Book.{bookOf}
 use Rattle.books.specs.Calls.{ticketOf}
 use Rattle.books.specs.Press.{presses, IsPress}
 use Rattle.books.specs.declared.answer.Answer.{Answer}
-use Rattle.pieces.specs.Derivation.{Derivation, leaving, derivation}
+use Rattle.pieces.specs.Derivation.{Derivation, derivation}
 use Rattle.pieces.proofs.AskingAnswers.{as-derived}
-use Rattle.pieces.proofs.DerivationAnswers.{press-first, book-second}
+use Rattle.books.proofs.LentEnds.{Refusal, no-press, in-book}
+use Rattle.pieces.proofs.DerivationAnswers.{refused-first}
 use Rattle.names.specs.Counted.{each}
 use Rattle.runs.specs.Run.{frameAt, sheetIn, walkFrom, framing, sheetsOf}
 use Rattle.runs.specs.Figures.{workRoom, treeRoom, answerOf, answering, accepted, got, cellsOf, tickets, answersGiven, figuresOf, noFigures}
@@ -41,7 +41,7 @@ pub any-room : (press : ℕ) (book sheet work tree : List ℕ) → workRoom pres
 unfolding answerOf
 any-room press book sheet work tree enough long =
     ⊎-elim (λ is. go is (ℕ-discrete (bookOf book .fault .number) 0))
-    (λ h. refused (plain 21) (λ w t. press-first press book sheet w t (λ is. omega arith)))
+    (λ h. refused (no-press (λ is. omega arith)))
     (lt-or-le press presses)
   where
     Same : Type 0
@@ -50,14 +50,16 @@ any-room press book sheet work tree enough long =
     number : Derivation → ℕ
     number d = d .answer .number
 
-    refused : (a : Answer) → ((w t : List ℕ) → derivation press book sheet w t ≡ leaving a w t) → Same
-    refused a whatever = ap number (whatever work tree) ∙ sym (ap number (whatever (replicate (workRoom press) 0) (replicate (treeRoom press) 0)))
+    refused : {a : Answer} → Refusal press book sheet a → Same
+    refused r =
+        ap number (refused-first press book sheet work tree r)
+        ∙ sym (ap number (refused-first press book sheet (replicate (workRoom press) 0) (replicate (treeRoom press) 0) r))
 
     go : IsPress press → Dec (bookOf book .fault .number ≡ 0) → Same
     go is (yes z) =
         ap (λ (a : Answer). a .number) (as-derived press book sheet work tree z (omega (arith, tree-fits press sheet)) is .same-answer)
         ∙ asked-number press is book sheet work z enough
-    go is (no n) = refused (blaming 1 (bookOf book .fault)) (λ w t. book-second press book sheet w t is n)
+    go is (no n) = refused (in-book is n)
 
 -- ── The counts add up ──
 

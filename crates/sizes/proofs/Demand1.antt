@@ -15,7 +15,7 @@ use Rattle.books.specs.Lent.{Fine}
 use Rattle.books.specs.Press.{greatestOf, presses, IsPress}
 use Rattle.books.proofs.Packing.{apart}
 use Rattle.books.proofs.ReadingBooks.{book-refused}
-use Rattle.pieces.proofs.Demand1.{not-input}
+use Rattle.books.proofs.Refusals.{not-input}
 use Rattle.sizes.specs.declared.calls.CardAnswer.{CardAnswer}
 use Rattle.sizes.specs.Outcome.{Outcome, sizeCard, Answers, Leaves}
 use Rattle.sizes.proofs.Answering.{press-first, book-second, no-room, with-room, card-packs}

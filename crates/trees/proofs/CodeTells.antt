@@ -24,7 +24,7 @@ use Rattle.books.specs.Sheet.{sheetOf}
 use Rattle.books.specs.declared.family.Family.{Family}
 use Rattle.books.specs.declared.sheet.Sheet.{Sheet}
 use Rattle.books.proofs.Deciding.{pictures-lessen}
-use Rattle.books.proofs.LentEnds.{book-refused-next, sheet-refused-last}
+use Rattle.books.proofs.LentEnds.{in-book, in-sheet, refused-so}
 use Rattle.books.proofs.NumberedCells.{numbers-for}
 use Rattle.books.proofs.ReadingBooks.{book-places}
 use Rattle.books.proofs.ReadingSheets.{sheet-lies}
@@ -120,13 +120,13 @@ module _ (press : ℕ) (book sheet : List ℕ) (bytes-book : Bytes book) (bytes-
           sym (far press book sheet bytes-book bytes-sheet fine ns ∙ told press book sheet bytes-book bytes-sheet fine some)
       by-sheet z (no n) =
           sheet-second (heldTo press book sheet) some z n
-          ∙ sym (sheet-refused-last press (λ a. a) book sheet (λ b p. blaming 0 (checked b p ns)) is z n)
+          ∙ sym (refused-so press (λ a. a) book sheet (λ b p. blaming 0 (checked b p ns)) (in-sheet is z n))
 
       by-book : Dec (bookOf book .fault .number ≡ 0) → heldAnswer (heldTo press book sheet) some ≡ treeAnswer press book sheet ns
       by-book (yes z) = by-sheet z (ℕ-discrete (sheetOf press sheet .fault .number) 0)
       by-book (no n) =
           book-first (heldTo press book sheet) some n
-          ∙ sym (book-refused-next press (λ a. a) book sheet (λ b p. blaming 0 (checked b p ns)) is n)
+          ∙ sym (refused-so press (λ a. a) book sheet (λ b p. blaming 0 (checked b p ns)) (in-book is n))
 
   pub holds : {o : Held} → o ≡ heldTo press book sheet → Holds press book sheet o
   holds e = rw e (record { small = held-size press book sheet; fine = held-fine press book sheet; tells = tells })

@@ -1,18 +1,15 @@
--- The six ways in which the call ends: what holds of each holds of every call.
+-- The four ways in which the call ends: what holds of each holds of every call.
 use Prim.Native.Nat.{ℕ}
 use mathlib.Core.Path.{_≡_, refl, ap, _∙_}
 use mathlib.Core.List.{List, _∷_, _++_}
 use lib.ListN.{length}
 use Rattle.names.specs.declared.number.Fault.{Fault}
 use Rattle.books.specs.Answer.{answer, plain, blaming}
-use Rattle.books.specs.Book.{bookOf}
 use Rattle.books.specs.Contents.{Contents}
 use Rattle.books.specs.Lent.{contentsOf, pictureOf, Accepted}
 use Rattle.books.specs.Picture.{Picture}
-use Rattle.books.specs.Press.{IsPress}
-use Rattle.books.specs.Sheet.{sheetOf}
 use Rattle.books.specs.declared.answer.Answer.{Answer}
-use Rattle.books.proofs.LentEnds.{both-end, both-go-on}
+use Rattle.books.proofs.LentEnds.{Refusal, both-end, both-go-on}
 use Rattle.trees.specs.declared.node.Node.{Node}
 use Rattle.trees.specs.Trees.{TreeOf, FailsAt, Ends, a-tree, fails, left-over}
 use Rattle.trees.specs.Judge.{checked}
@@ -27,10 +24,7 @@ module _ (press : ℕ) (book sheet : List ℕ) (nodes : List Node) where
   p = pictureOf press sheet
 
   pub record Cases (P : Answer → Type 0) : Type 0 where
-    pub no-press : (IsPress press → ⊥) → P (plain 21)
-    pub in-book : IsPress press → (bookOf book .fault .number ≡ 0 → ⊥) → P (answer (bookOf book .fault .number) 1 (bookOf book .fault .place))
-    pub in-sheet : IsPress press → bookOf book .fault .number ≡ 0 → (sheetOf press sheet .fault .number ≡ 0 → ⊥)
-        → P (answer (sheetOf press sheet .fault .number) 2 (sheetOf press sheet .fault .place))
+    pub refused : (a : Answer) → Refusal press book sheet a → P a
     pub failing : Accepted press book sheet → (i : ℕ) → FailsAt b (b .start) p nodes i → P (answer 16 0 i)
     pub over : Accepted press book sheet → (xs : List Node) (v : Node) (vs : List Node) → nodes ≡ xs ++ (v ∷ vs) → TreeOf b (b .start) p xs → P (answer 16 0 (length xs))
     pub derived : Accepted press book sheet → TreeOf b (b .start) p nodes → P (plain 0)
@@ -45,12 +39,7 @@ module _ (press : ℕ) (book sheet : List ℕ) (nodes : List Node) where
     unfolding treeAnswer
     tree-ends =
         both-end P (λ a. a) press book sheet (λ b p. blaming 0 (checked b p nodes))
-        (record {
-          no-press = cases .no-press;
-          in-book = cases .in-book;
-          in-sheet = cases .in-sheet;
-          in-neither = λ fine. by-end fine nodes (checked b p nodes) refl (ends b p nodes);
-        })
+        (cases .refused) (λ fine. by-end fine nodes (checked b p nodes) refl (ends b p nodes))
 
   -- Where both inputs are accepted, the answer is that of the one way in which the row ends.
   pub answered : Accepted press book sheet → {f : Fault} → Ends b p nodes f → treeAnswer press book sheet nodes ≡ blaming 0 f

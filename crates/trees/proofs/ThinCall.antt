@@ -7,10 +7,9 @@ use native.Mathlib.Omega.{arith}
 use lib.ListN.{length, take, length-take}
 use lib.Seq.{take-take}
 use Rattle.books.specs.Answer.{plain, blaming}
-use Rattle.books.specs.Lent.{lentBook, lentSheet}
 use Rattle.books.specs.Press.{IsPress}
 use Rattle.books.specs.declared.answer.Answer.{Answer}
-use Rattle.books.proofs.LentEnds.{no-press-first}
+use Rattle.books.proofs.LentEnds.{no-press, refused-so}
 use Rattle.trees.specs.declared.held.Held.{Held}
 use Rattle.trees.specs.declared.node.Node.{Node}
 use Rattle.trees.specs.Judge.{checked}
@@ -42,4 +41,4 @@ told-of-first {o = o} holds is ys count n all copied told few =
 -- where there is no such press, nothing is read
 pub no-press-told : (press : ℕ) (book sheet : List ℕ) (ys : List Node) → (IsPress press → ⊥) → plain 21 ≡ treeAnswer press book sheet ys
 unfolding treeAnswer
-no-press-told press book sheet ys n = sym (no-press-first press (λ a. a) (lentBook 1 book (λ a. a) (λ b. lentSheet press 2 sheet (λ a. a) (λ p. blaming 0 (checked b p ys)))) n)
+no-press-told press book sheet ys n = sym (refused-so press (λ a. a) book sheet (λ b p. blaming 0 (checked b p ys)) (no-press n))

@@ -2,29 +2,23 @@
 -- where they are accepted and it is none, with the place of the first node that fails; and some row is accepted exactly where the family has the sheet. Stated on the parts of the
 -- answer, and for the C host on the number taken apart as the header does.
 use Prim.Native.Nat.{ℕ, _*_, _/_, _%_, _^_, _≤_, _<_}
-use mathlib.Core.Path.{_≡_, refl, ap, subst}
+use mathlib.Core.Path.{_≡_, refl, ap}
 use mathlib.Core.List.{List, _∷_, _++_}
-use mathlib.Core.Logic.{_↔_, _⊎_, inl, inr, ⊎-elim}
+use mathlib.Core.Logic.{_↔_, _⊎_, inl, inr}
 use native.Mathlib.Omega.{arith}
-use borrow.Author.Tests.{ne-eqb}
 use lib.ListN.{length}
 use Rattle.names.specs.declared.number.Fault.{Fault}
 use Rattle.names.proofs.Tests.{together, neither}
 use Rattle.books.specs.Answer.{InputsNumber, answer, packed, Packs}
-use Rattle.books.specs.Book.{bookOf}
 use Rattle.books.specs.Contents.{Contents}
 use Rattle.books.specs.Derives.{Member}
 use Rattle.books.specs.Lent.{contentsOf, pictureOf, Accepted}
 use Rattle.books.specs.Picture.{Picture}
-use Rattle.books.specs.Press.{IsPress}
 use Rattle.books.specs.Size.{room}
-use Rattle.books.specs.Sheet.{sheetOf}
 use Rattle.books.specs.declared.answer.Answer.{Answer}
-use Rattle.books.proofs.LentEnds.{accepted-press}
-use Rattle.books.proofs.Packing.{apart, plain-packs, book-placed, sheet-placed}
-use Rattle.books.proofs.ReadingBooks.{book-refused}
-use Rattle.books.proofs.ReadingSheets.{sheet-refused, sheet-lies}
-use Rattle.pieces.proofs.Demand1.{InBook, InSheet, not-input}
+use Rattle.books.proofs.Packing.{apart, plain-packs}
+use Rattle.books.proofs.ReadingSheets.{sheet-lies}
+use Rattle.books.proofs.Refusals.{Blames, own-blames, refusal-bad, refusal-listed, refusal-blames, refusal-other, refusal-packs}
 use Rattle.trees.specs.declared.node.Node.{Node}
 use Rattle.trees.specs.Due.{RightAt, WrongAt}
 use Rattle.trees.specs.Trees.{TreeOf, Ends, a-tree, fails, left-over}
@@ -57,14 +51,10 @@ module _ (press : ℕ) (book sheet : List ℕ) (nodes : List Node) where
 
   -- A call that was lent a book, a sheet and a row of nodes answers so.
   pub record Answered (number blamed place : ℕ) : Type 0 where
-    pub listed : InputsNumber number ⊎ (number ≡ 16) ⊎ (number ≡ 21)
-    pub twenty-one : (number ≡ 21) ↔ (IsPress press → ⊥)
-    pub faulty : ((1 ≤ number) × InputsNumber number) ↔ (IsPress press × (Accepted press book sheet → ⊥))
+    pub listed : InputsNumber number ⊎ ((number ≡ 21) ⊎ (number ≡ 16))
+    pub blames : Blames press book sheet number blamed place
     pub sixteen : (number ≡ 16) ↔ (Accepted press book sheet × (IsTree → ⊥))
     pub zero : (number ≡ 0) ↔ (Accepted press book sheet × IsTree)
-    pub faults : 1 ≤ number → InputsNumber number → InBook book number blamed place ⊎ InSheet press book sheet number blamed place
-    pub unblamed : (number ≡ 0) ⊎ (number ≡ 16) ⊎ (number ≡ 21) → blamed ≡ 0
-    pub at-start : (number ≡ 0) ⊎ (number ≡ 21) → place ≡ 0
     -- 16 stands at the first node that fails or is missing, or after the tree where nodes are left over: every node before it is right for what it is due for
     pub before : number ≡ 16 → (i : ℕ) → i < place → RightAt b (b .start) p nodes i
     pub there : number ≡ 16 → WrongAt b (b .start) p nodes place ⊎ LeftOver b p nodes place
@@ -72,40 +62,15 @@ module _ (press : ℕ) (book sheet : List ℕ) (nodes : List Node) where
   abbrev Obeys : Answer → Type 0
   Obeys a = Answered (a .number) (a .blamed) (a .place)
 
-  in-input : (n blamed place : ℕ) → IsPress press → 1 ≤ n → InputsNumber n → (Accepted press book sheet → ⊥)
-      → InBook book n blamed place ⊎ InSheet press book sheet n blamed place → Answered n blamed place
-  in-input n blamed place is h g bad which =
-      record {
-        listed = inl g;
-        twenty-one = neither (λ e. unlisted (inr (inr e))) (λ none. none is);
-        faulty = together (h, g) (is, bad);
-        sixteen = neither (λ e. unlisted (inr (inl e))) (λ x. bad (x .0));
-        zero = neither (λ e. omega arith) (λ x. bad (x .0));
-        faults = λ _ _. which;
-        unblamed = λ o. absurd (unlisted o);
-        at-start = λ o. absurd (⊎-elim (λ e. omega arith) (λ e. unlisted (inr (inr e))) o);
-        before = λ e. absurd (unlisted (inr (inl e)));
-        there = λ e. absurd (unlisted (inr (inl e)));
-      }
-    where
-      unlisted : (n ≡ 0) ⊎ (n ≡ 16) ⊎ (n ≡ 21) → ⊥
-      unlisted (inl e) = omega arith
-      unlisted (inr (inl e)) = not-input 16 (subst InputsNumber e g) (omega arith) (λ u. omega arith)
-      unlisted (inr (inr e)) = not-input 21 (subst InputsNumber e g) (omega arith) (λ u. omega arith)
-
   no-tree : (place : ℕ) → Accepted press book sheet → Ends b p nodes (record { number = 16; place = place }) → ((i : ℕ) → i < place → RightAt b (b .start) p nodes i)
       → WrongAt b (b .start) p nodes place ⊎ LeftOver b p nodes place → Answered 16 0 place
   no-tree place fine end right found =
       let none : IsTree → ⊥ = λ t. omega (arith, ap (λ (f : Fault). f .number) (one-end b p end (a-tree t))) in
       record {
-        listed = inr (inl refl);
-        twenty-one = neither (λ e. omega arith) (λ none. none (accepted-press fine));
-        faulty = neither (λ e. not-input 16 (e .1) (omega arith) (λ u. omega arith)) (λ x. x .1 fine);
+        listed = inr (inr refl);
+        blames = own-blames fine 16 place refl (λ n. absurd (n refl));
         sixteen = together refl (fine, none);
         zero = neither (λ e. omega arith) (λ x. none (x .1));
-        faults = λ h g. absurd (not-input 16 g (omega arith) (λ u. omega arith));
-        unblamed = λ _. refl;
-        at-start = λ o. absurd (⊎-elim (λ e. omega arith) (λ e. omega arith) o);
         before = λ _. right;
         there = λ _. found;
       }
@@ -114,23 +79,17 @@ module _ (press : ℕ) (book sheet : List ℕ) (nodes : List Node) where
   obeys =
       tree-ends press book sheet nodes Obeys
       (record {
-        no-press = λ none.
+        refused = λ a r.
+            let other = refusal-other r in
+            let bad = refusal-bad r in
             record {
-              listed = inr (inr refl);
-              twenty-one = together refl none;
-              faulty = neither (λ e. not-input 21 (e .1) (omega arith) (λ u. omega arith)) (λ x. none (x .0));
-              sixteen = neither (λ e. omega arith) (λ x. none (accepted-press (x .0)));
-              zero = neither (λ e. omega arith) (λ x. none (accepted-press (x .0)));
-              faults = λ h g. absurd (not-input 21 g (omega arith) (λ u. omega arith));
-              unblamed = λ _. refl;
-              at-start = λ _. refl;
-              before = λ e. absurd (omega arith);
-              there = λ e. absurd (omega arith);
+              listed = refusal-listed r;
+              blames = refusal-blames r;
+              sixteen = neither (other 16 refl) (λ x. bad (x .0));
+              zero = neither (other 0 refl) (λ x. bad (x .0));
+              before = λ e. absurd (other 16 refl e);
+              there = λ e. absurd (other 16 refl e);
             };
-        in-book = λ is n. let f = book-refused book n .blamed in
-            in-input _ _ _ is (f .some) (f .known) (λ fine. n (fine .book-fine)) (inl (record { number-is = refl; place-is = refl; first = refl; inside = f .inside }));
-        in-sheet = λ is z n. let f = sheet-refused press sheet n .blamed in
-            in-input _ _ _ is (f .some) (inl (f .known)) (λ fine. n (fine .sheet-fine)) (inr (record { book-fine = z; number-is = refl; place-is = refl; second = refl; inside = f .inside }));
         failing = λ fine i x. no-tree i fine (fails x) (right-before b x) (inl (wrong-there b x));
         over = λ fine xs v vs e t.
             no-tree (length xs) fine (rw e (left-over v vs t)) (λ i h. rw e (tree-right b t (v ∷ vs) i h))
@@ -138,13 +97,9 @@ module _ (press : ℕ) (book sheet : List ℕ) (nodes : List Node) where
         derived = λ fine t.
             record {
               listed = inl (inl (omega arith));
-              twenty-one = neither (λ e. omega arith) (λ none. none (accepted-press fine));
-              faulty = neither (λ e. omega (arith, e .0)) (λ x. x .1 fine);
+              blames = own-blames fine 0 0 refl (λ _. refl);
               sixteen = neither (λ e. omega arith) (λ x. x .1 t);
               zero = together refl (fine, t);
-              faults = λ h g. absurd (omega arith);
-              unblamed = λ _. refl;
-              at-start = λ _. refl;
               before = λ e. absurd (omega arith);
               there = λ e. absurd (omega arith);
             };
@@ -162,9 +117,7 @@ module _ (press : ℕ) (book sheet : List ℕ) (nodes : List Node) where
   tree-packs =
       tree-ends press book sheet nodes (λ a. Packs a 0)
       (record {
-        no-press = λ none. plain-packs 21 0 (omega arith) (omega arith);
-        in-book = λ is n. rw (ne-eqb (bookOf book .fault .number) 0 n) at (book-placed book 1 (omega arith) .packs);
-        in-sheet = λ is z n. rw (ne-eqb (sheetOf press sheet .fault .number) 0 n) at (sheet-placed press sheet 2 (omega arith) .packs);
+        refused = λ a r. refusal-packs r;
         failing = λ fine i x. at-place i (omega (arith, fails-count x (some fine .0), some fine .1));
         over = λ fine xs v vs e t. at-place (length xs) (omega (arith, tree-count t, some fine .1));
         derived = λ fine t. plain-packs 0 0 (omega arith) (omega arith);

@@ -1,5 +1,5 @@
 -- 21 where there is no such press, with no ticket; else the fault of the sheet's figures, blamed on input 1, packed with the ticket.
-use mathlib.Core.Path.{_≡_, sym, ap, _∙_}
+use mathlib.Core.Path.{sym, ap, _∙_}
 use native.Mathlib.Omega.{arith}
 use denote.Ref.{now}
 use Rattle.books.specs.Answer.{packed}

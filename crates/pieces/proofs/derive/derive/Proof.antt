@@ -18,8 +18,9 @@ use Rattle.pieces.specs.Derivation.{telling}
 use Rattle.pieces.specs.declared.derive.Derived.{Derived}
 use Rattle.pieces.specs.inner.ForTable.{Shows}
 use Rattle.pieces.specs.inner.Verdict.{lacking}
+use Rattle.books.proofs.LentEnds.{no-press}
 use Rattle.pieces.proofs.AskingSheets.{read-shows}
-use Rattle.pieces.proofs.DerivationAnswers.{press-first}
+use Rattle.pieces.proofs.DerivationAnswers.{refused-first}
 use Rattle.pieces.proofs.Deriving.{book-blamed, rows-small, masks-fit, sheet-blamed, room-lacks, nodes-fit, derived-as}
 use Rattle.pieces.proofs.Lacking.{nothing-lacks}
 use borrow.Author.Needs.{needs}
@@ -86,7 +87,7 @@ returns : tie.Need-returns
 returns c =
     let f = c .before in
     let a = f .before .before .before .before .before .before .args in
-    rw (press-first (a .press) (now (a .book)) (now (a .sheet)) (now (a .work)) (now (a .tree)) (λ h. omega (arith, f .before .if1 .taken)))
+    rw (refused-first (a .press) (now (a .book)) (now (a .sheet)) (now (a .work)) (now (a .tree)) (no-press (λ h. omega (arith, f .before .if1 .taken))))
     (record { answers = untried (c .untried .ensures) (f .unblamed .ensures); leaves-work = refl; leaves-tree = refl })
 
 returns-2 : tie.Need-returns-2

@@ -8,8 +8,9 @@ use Rattle.names.specs.declared.number.Fault.{Fault}
 use Rattle.books.specs.Answer.{plain, blaming}
 use Rattle.books.specs.Book.{bookOf}
 use Rattle.books.specs.Press.{IsPress}
+use Rattle.books.proofs.LentEnds.{no-press, in-book}
 use Rattle.pieces.proofs.AskingSheets.{kept-fault}
-use Rattle.pieces.proofs.Recolouring.{press-first, book-second, read-blamed, read-lacks, read-within}
+use Rattle.pieces.proofs.Recolouring.{refused-first, read-blamed, read-lacks, read-within}
 use Rattle.pieces.proofs.Recasting.{Known, cell-due, table-due, row-on, column-on, painters-due, recast-as}
 use borrow.Author.Needs.{needs}
 use Rattle.pieces.proofs.recolour.recolour.Statement.{statement}
@@ -53,7 +54,7 @@ book-fine f =
 returns : tie.Need-returns
 returns c =
     let a = c .before .before .before .before .before .args in
-    rw (press-first (a .press) (now (a .book)) (now (a .sheet)) (now (a .work)) (a .row) (a .column) (a .colour) (λ h. omega (arith, c .before .if1 .taken)))
+    rw (refused-first (a .press) (now (a .book)) (now (a .sheet)) (now (a .work)) (a .row) (a .column) (a .colour) (no-press (λ h. omega (arith, c .before .if1 .taken))))
     (record { answers = c .unblamed .ensures; leaves-sheet = refl; leaves-work = refl })
 
 returns-2 : tie.Need-returns-2
@@ -61,7 +62,7 @@ returns-2 c =
     let k = c .before .before .before .before in
     let a = began k .args in
     let same = kept-fault (now (a .book)) _ (k .split-book .ensures) in
-    rw (book-second (a .press) (now (a .book)) (now (a .sheet)) (now (a .work)) (a .row) (a .column) (a .colour) (on-press k) (λ z. c .before .if2 .taken (ap (λ (x : Fault). x .number) same ∙ z)))
+    rw (refused-first (a .press) (now (a .book)) (now (a .sheet)) (now (a .work)) (a .row) (a .column) (a .colour) (in-book (on-press k) (λ z. c .before .if2 .taken (ap (λ (x : Fault). x .number) same ∙ z))))
     (record { answers = c .blame .ensures ∙ ap (blaming 1) same; leaves-sheet = refl; leaves-work = refl })
 
 returns-3 : tie.Need-returns-3

@@ -19,7 +19,8 @@ use Rattle.books.proofs.LentRules.{rows-held}
 use Rattle.pieces.specs.Area.{whole}
 use Rattle.plain.specs.Outcome.{plainAnswer}
 use Rattle.plain.specs.inner.Search.{Lies}
-use Rattle.plain.proofs.Answering.{press-first, book-blamed, sheet-blamed, cells-room, whole-lies, too-many, told}
+use Rattle.books.proofs.LentEnds.{no-press}
+use Rattle.plain.proofs.Answering.{refused-first, book-blamed, sheet-blamed, cells-room, whole-lies, too-many, told}
 use Rattle.plain.proofs.calls.plain.Statement.{statement}
 use Rattle.plain.proofs.calls.plain.Tie as tie
 
@@ -66,7 +67,7 @@ held e = let r = book-read (sheet-read e) in rows-held (now (began r .args .book
 returns : tie.Need-returns
 returns c =
     let a = c .before .before .before .before .args in
-    c .unblamed .ensures ∙ sym (press-first (a .press) (now (a .book)) (now (a .sheet)) (λ h. omega (arith, c .before .if1 .taken)))
+    c .unblamed .ensures ∙ sym (refused-first (a .press) (now (a .book)) (now (a .sheet)) (no-press (λ h. omega (arith, c .before .if1 .taken))))
 
 returns-2 : tie.Need-returns-2
 returns-2 c =
