@@ -18,11 +18,11 @@ use Rattle.books.specs.Picture.{Picture}
 use Rattle.books.specs.Answer.{blaming}
 use Rattle.books.specs.Book.{bookOf}
 use Rattle.books.specs.Decide.{derives?}
-use Rattle.books.specs.Lookups.{sizeOf}
+use Rattle.books.specs.Calls.{sizeOf}
 use Rattle.books.specs.Sheet.{sheetOf}
 use Rattle.books.proofs.Deciding.{decided}
 use Rattle.books.proofs.Area.{area}
-use Rattle.books.proofs.LookingUp.{size-few}
+use Rattle.books.proofs.ReadingSheets.{size-few}
 use Rattle.pieces.specs.Given.{Given}
 use Rattle.pieces.specs.Tree.{tree}
 use Rattle.pieces.specs.Derivation.{Derivation, leaving, entriesNeeded, numbersNeeded, filled, judged, roomed, derivation}

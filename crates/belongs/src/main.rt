@@ -1,7 +1,7 @@
 // Asks whether the sheet in sheet.bin belongs to the family of the book in book.bin, both in the working directory, and prints the answer:
 // number, blamed input and place on one line, then on 0 one line for each node of the derivation, rule and cut.
 use books::answer::Answer;
-use books::lookups::sheet_size;
+use books::sheet::sheet_size;
 use libc::STDOUT_FILENO;
 ghost use mathlib.Core.Path.{_≡_};
 ghost use Prim.Native.Nat.{_*_, _≤_};

@@ -12,13 +12,12 @@ use lib.Seq.{split-at, drop-cons, getD-take, getD-at, take-at, length-take-le}
 use Rattle.names.specs.Pick.{orElse}
 use Rattle.names.proofs.Tests.{both-ways, or-right}
 use Rattle.books.specs.Keeps.{mostRules}
-use Rattle.books.specs.Lookups.{packedRule}
 use Rattle.books.specs.Rules.{noRule}
 use Rattle.books.specs.declared.rule.Rule.{Rule}
-use Rattle.books.proofs.LookingUp.{RuleApart, rule-apart, one-rule}
+use Rattle.books.proofs.RulesApart.{RuleApart, rule-apart, one-rule}
 use Rattle.books.proofs.StandingRules.{there-length, there-stands}
 use Rattle.books.specs.Equal.{sameRule, stands}
-use Rattle.books.specs.RuleNumbers.{ruleNumber, FitsBytes, AllFit, numbersOf, among}
+use Rattle.books.specs.RuleNumbers.{ruleNumber, packedRule, FitsBytes, AllFit, numbersOf, among}
 use Rattle.books.proofs.EqualRules.{rule-same}
 
 -- ── Rules and their numbers ──

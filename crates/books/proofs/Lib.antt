@@ -2,6 +2,7 @@ pub mod Plainly
 pub mod EqualRules
 pub mod Firsts
 pub mod LeavingOut
+pub mod RulesApart
 pub mod EqualNumbers
 pub mod LentRules
 pub mod SamePictures
@@ -51,14 +52,10 @@ pub mod Tickets
 pub mod Outcomes
 pub mod NewBooks
 pub mod Demand1
-pub mod Showing
 pub mod Settled
 pub mod SheetInParts
 pub mod CellsOver
 pub mod NumberedCells
-pub mod LookingUp
-pub mod BookCounts
-pub mod SheetLookups
 pub mod FarBooks
 pub mod FarSheets
 pub mod FarBytes

@@ -4,6 +4,7 @@ use Prim.Native.Nat.{ℕ, _+_, _*_, _<_, _≤_}
 use mathlib.Core.Path.{_≡_, refl, ap, _∙_}
 use mathlib.Core.List.{List}
 use mathlib.Core.Logic.{_⊎_, inl, inr, ⊎-elim}
+use native.Mathlib.Nat.{eq-zero-or-pos}
 use native.Mathlib.Omega.{arith}
 use borrow.Author.Tests.{eqb-true, eqb-false, ltb-false}
 use lib.Dec.{eqb, ltb}
@@ -19,6 +20,7 @@ use Rattle.names.proofs.Tests.{true-or-false}
 use Rattle.names.proofs.Onwards.{onward-ind}
 use Rattle.names.proofs.ReadingNumbers.{Blamed, blamed-later, number-lies, number-most, number-refused}
 use Rattle.names.proofs.ReadingColours.{listSpan, Places, places-none, ListLies, colours-lie, colours-refused}
+use Rattle.books.specs.Calls.{sizeOf}
 use Rattle.books.specs.Press.{greatestOf, IsPress}
 use Rattle.books.specs.Size.{room, Within, sizeAt}
 use Rattle.books.specs.Cells.{CellsRead, noCells, cellsAt}
@@ -167,6 +169,14 @@ sheet-places press s =
 pub sheet-ticket : (press : ℕ) (s : List ℕ) → sheetOf press s .sheet .ticket ≤ greatestNumber
 sheet-ticket press s =
     ⊎-elim (λ t. number-most s _ _ _ (t .ticketed)) (λ r. rw (r .none) (omega arith)) (sheet-ended press s)
+
+-- refused or not, the size is within the greatest of the press
+pub size-few : (press : ℕ) (s : List ℕ) → (sizeOf press s .rows ≤ greatestOf press) × (sizeOf press s .cols ≤ greatestOf press)
+size-few press s =
+    ⊎-elim
+    (λ z. let lies = sheet-lies press s z in (lies .within .rows-few, lies .within .cols-few))
+    (λ p. rw (sheet-refused press s (λ z. omega arith) .none) (omega arith, omega arith))
+    (eq-zero-or-pos (sheetOf press s .fault .number))
 
 -- ── The press ──
 

@@ -2,11 +2,9 @@
 use Prim.Native.Nat.{ℕ}
 use mathlib.Core.Path.{_≡_}
 use mathlib.Core.List.{List}
-use denote.Ref.{RefT, now}
-use Rattle.names.specs.Part.{Part}
 use Rattle.names.specs.declared.colours.Colours.{Colours}
 use Rattle.names.specs.declared.number.Fault.{Fault}
-use Rattle.names.proofs.Settled.{Settles, settles, SettlesPart, part-settles}
+use Rattle.names.proofs.Settled.{Settles, settles}
 pub use Rattle.names.proofs.Settled.{settled}
 use Rattle.books.specs.Book.{noFamily, bookOf}
 use Rattle.books.specs.Size.{within?}
@@ -14,7 +12,7 @@ use Rattle.books.specs.Sheet.{sheetOf, over, sheetFigures, SheetInto}
 use Rattle.books.specs.Numbering.{Numbers}
 use Rattle.books.specs.RuleBytes.{lentRules, BookInto, kindDir}
 use Rattle.books.specs.Answer.{plain, blaming, packed}
-use Rattle.books.specs.Calls.{bookAnswer, sheetAnswer, ticketOf, shown, shownStart, shownPlace}
+use Rattle.books.specs.Calls.{bookAnswer, sheetAnswer, ticketOf, sizeOf}
 use Rattle.books.specs.Draft.{WroteDraft}
 use Rattle.books.specs.declared.answer.Answer.{Answer}
 use Rattle.books.specs.declared.draft.Draft.{Draft}
@@ -52,6 +50,9 @@ read-sheet-settled press s = settles _
 pub sheet-figures-settled : (press : ℕ) (s : List ℕ) → Settles (sheetFigures (sheetOf press s))
 sheet-figures-settled press s = settles _
 
+pub sheet-size-settled : (press : ℕ) (s : List ℕ) → Settles (sizeOf press s)
+sheet-size-settled press s = settles _
+
 pub read-sheet-into-settled : (press : ℕ) (s before : List ℕ) (r q : SheetFigures) (starts lens cells places sizes numbers : List ℕ)
     → SheetInto (over before (sheetOf press s)) r starts lens cells → SheetInto (over before (sheetOf press s)) q places sizes numbers
     → (r ≡ q) × (starts ≡ places) × (lens ≡ sizes) × (cells ≡ numbers)
@@ -78,12 +79,6 @@ dv-read-book-settled s = settles _
 
 pub dv-read-sheet-settled : (press : ℕ) (s : List ℕ) → Settles (packed (sheetAnswer press s) (ticketOf press s))
 dv-read-sheet-settled press s = settles _
-
-pub colour-settled : (book : RefT (List ℕ)) (k : ℕ) → SettlesPart (Part book (shownStart (now book) k) (shown (now book) k))
-colour-settled book k = part-settles book _ _
-
-pub dv-colour-settled : (s : List ℕ) (k : ℕ) → Settles (shownPlace s k)
-dv-colour-settled s k = settles _
 
 -- ── The writer: its answer and the slice ──
 

@@ -1,18 +1,15 @@
--- What the calls on one book or one sheet of a press answer.
-use Prim.Native.Nat.{ℕ, _+_, _*_, _^_}
-use mathlib.Core.List.{List, []}
-use lib.Dec.{ltb}
-use lib.ListN.{length, getD}
-use Rattle.names.specs.Pick.{pick}
-use Rattle.names.specs.Name.{Name}
-use Rattle.names.specs.Colours.{namesIn}
-use Rattle.names.specs.declared.colours.Colours.{Colours}
-use Rattle.books.specs.Contents.{name}
-use Rattle.books.specs.Lent.{contentsOf, onPress}
-use Rattle.books.specs.Book.{bookOf}
-use Rattle.books.specs.Sheet.{sheetOf}
+-- What the calls on one book or one sheet of a press answer, and the size of a sheet.
+use Prim.Native.Nat.{ℕ}
+use mathlib.Core.List.{List}
 use Rattle.books.specs.Answer.{blaming}
+use Rattle.books.specs.Book.{bookOf}
+use Rattle.books.specs.ContentsIn.{gridIn}
+use Rattle.books.specs.Grid.{Grid}
+use Rattle.books.specs.Lent.{onPress}
+use Rattle.books.specs.Sheet.{sheetOf}
+use Rattle.books.specs.Size.{sizeBy}
 use Rattle.books.specs.declared.answer.Answer.{Answer}
+use Rattle.books.specs.declared.size.Size.{Size}
 
 abbrev pub bookAnswer : List ℕ → Answer
 bookAnswer s = blaming 1 (bookOf s .fault)
@@ -25,26 +22,10 @@ sheetAnswer press s = onPress press (λ a. a) (blaming 1 (sheetOf press s .fault
 abbrev pub ticketOf : ℕ → List ℕ → ℕ
 ticketOf press s = sheetOf press s .sheet .ticket
 
--- ── A colour's name, by its number in a colour list that was read ──
+-- rows and columns, of the contents of a sheet
+abbrev pub sizeIn : Grid → Size
+sizeIn g = sizeBy (g .rows) (g .cols)
 
--- the name, and nothing where there is no such colour
-abbrev pub nameWith : List ℕ → Colours → ℕ → Name
-nameWith s c k = getD (namesIn s c) k []
-
--- where that name starts in the input, 0 where there is none
-abbrev pub startWith : Colours → ℕ → ℕ
-startWith c k = pick (ltb k (c .count)) (getD (c .starts) k 0) 0
-
--- where it starts, and how long it is above 2 ^ 32
-abbrev pub placeWith : List ℕ → Colours → ℕ → ℕ
-placeWith s c k = startWith c k + 2 ^ 32 * length (nameWith s c k)
-
--- the same of a book: a refused one has no colours
-abbrev pub shown : List ℕ → ℕ → Name
-shown s k = name (contentsOf s) k
-
-abbrev pub shownStart : List ℕ → ℕ → ℕ
-shownStart s k = startWith (bookOf s .family .colours) k
-
-abbrev pub shownPlace : List ℕ → ℕ → ℕ
-shownPlace s k = placeWith s (bookOf s .family .colours) k
+-- those of a lent sheet of a press; a refused one has no rows and no columns, and so has every one where there is no such press
+abbrev pub sizeOf : ℕ → List ℕ → Size
+sizeOf press s = sizeIn (gridIn s (sheetOf press s .sheet))

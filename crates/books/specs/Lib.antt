@@ -27,8 +27,6 @@ pub mod SpellSheet
 pub mod Answer
 pub mod Lent
 pub mod Calls
-pub mod Lookups
-pub mod SheetLookups
 pub mod Numbering
 pub mod Draft
 pub mod Outcome

@@ -30,6 +30,10 @@ secondHeld (Down u v) = v
 abbrev pub ruleNumber : Rule → ℕ
 ruleNumber r = r .head + 2 ^ 8 * kindOf (r .body) + 2 ^ 16 * firstHeld (r .body) + 2 ^ 24 * secondHeld (r .body)
 
+-- the rule's number, and 1 above it, so that no rule is 0
+abbrev pub packedRule : Rule → ℕ
+packedRule r = ruleNumber r + 2 ^ 32
+
 -- each part of a rule fits a byte, and so of every rule of a list
 abbrev pub FitsBytes : Rule → Type 0
 FitsBytes = RuleFits (2 ^ 8) (2 ^ 8)

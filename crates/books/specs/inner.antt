@@ -1,4 +1,3 @@
 pub mod Wrote
 pub mod Key
 pub mod Parts
-pub mod Places

@@ -16,6 +16,7 @@ ghost use mathlib.Core.Path.{_≡_};
 ghost use Prim.Native.Nat.{_*_};
 ghost use lib.ListN.{length};
 ghost use Rattle.names.specs.Colours.{listOf};
+ghost use Rattle.books.specs.Calls.{sizeOf};
 ghost use Rattle.books.specs.Cells.{cellsAt};
 ghost use Rattle.books.specs.Size.{room};
 ghost use Rattle.books.specs.Sheet.{refusedSheet, filledAt, sheetOf, over, sheetFigures, SheetInto};
@@ -171,4 +172,12 @@ pub fn read_sheet(press: usize, s: &[u8]) -> SheetRead
             cells,
         },
     }
+}
+
+// Rows and columns of a sheet of a press. A refused one has none.
+pub fn sheet_size(press: usize, sheet: &[u8]) -> Size
+    ensures { λ r. ⌜ r ≡ sizeOf press (now (sheet .entry)) ⌝ }
+{
+    let g = sheet_figures(press, sheet);
+    g.size
 }

@@ -17,7 +17,7 @@ fn sheet(press: usize, bytes: &[u8]) {
 
 // The rows and the columns of a sheet of a press.
 fn grid(press: usize, bytes: &[u8]) {
-    let size = books::lookups::dv_sheet_size(press, bytes);
+    let size = lookups::sheet::dv_sheet_size(press, bytes);
     printing::group(b':', size % 4294967296);
     printing::also(size / 4294967296);
     printing::end();
@@ -25,7 +25,7 @@ fn grid(press: usize, bytes: &[u8]) {
 
 // The name of a colour of the book, or nothing.
 fn ink(book: &[u8], number: &[u8]) {
-    printing::text(books::calls::colour(book, lent::byte_at(number, 0) as usize));
+    printing::text(lookups::colour::colour(book, lent::byte_at(number, 0) as usize));
     printing::text(b"\"\n");
 }
 

@@ -21,7 +21,7 @@ use Rattle.books.specs.Derives.{Derives}
 use Rattle.books.specs.Grid.{Grid, GridKeeps, picture}
 use Rattle.books.specs.Keeps.{Keeps}
 use Rattle.books.specs.Lent.{contentsOf, pictureOf}
-use Rattle.books.specs.Lookups.{sizeOf}
+use Rattle.books.specs.Calls.{sizeOf}
 use Rattle.books.specs.Picture.{Picture, Same}
 use Rattle.books.specs.Press.{greatestOf}
 use Rattle.books.specs.SpellSheet.{spellSheet}

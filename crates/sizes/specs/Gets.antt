@@ -4,7 +4,7 @@ use mathlib.Core.Path.{_≡_}
 use mathlib.Core.List.{List}
 use lib.ListN.{length}
 use Rattle.names.specs.Bytes.{Bytes}
-use Rattle.books.specs.Lookups.{sizeOf}
+use Rattle.books.specs.Calls.{sizeOf}
 use Rattle.pieces.specs.Area.{whole, treeSize}
 use Rattle.pieces.specs.Derivation.{derivation, LeavesPacked}
 use Rattle.pieces.specs.Pieces.{total}

@@ -3,7 +3,7 @@ use Prim.Native.Nat.{_*_, _≤_}
 use mathlib.Core.Path.{_≡_, ap}
 use native.Mathlib.Omega.{arith}
 use denote.Ref.{now}
-use Rattle.books.specs.Lookups.{sizeOf}
+use Rattle.books.specs.Calls.{sizeOf}
 use Rattle.books.specs.Size.{room}
 use Rattle.books.specs.declared.size.Size.{Size}
 use Rattle.books.proofs.Area.{room-enough}

@@ -1,0 +1,4 @@
+pub mod Colour
+pub mod Book
+pub mod Sheet
+pub mod inner
