@@ -41,16 +41,11 @@ pub mod ReadingSheets
 pub mod SpellingSheets
 pub mod SheetExactly
 pub mod LongestSheet
-pub mod InARow
-pub mod SpellingOn
-pub mod SpellingDrafts
 pub mod Packing
 pub mod LentEnds
 pub mod Refusals
 pub mod TwoPresses
 pub mod Tickets
-pub mod Outcomes
-pub mod NewBooks
 pub mod Demand1
 pub mod Settled
 pub mod SheetInParts

@@ -13,14 +13,11 @@ use Rattle.books.specs.Numbering.{Numbers}
 use Rattle.books.specs.RuleBytes.{lentRules, BookInto, kindDir}
 use Rattle.books.specs.Answer.{plain, blaming, packed}
 use Rattle.books.specs.Calls.{bookAnswer, sheetAnswer, ticketOf, sizeOf}
-use Rattle.books.specs.Draft.{WroteDraft}
 use Rattle.books.specs.declared.answer.Answer.{Answer}
-use Rattle.books.specs.declared.draft.Draft.{Draft}
 use Rattle.books.specs.declared.lent.BookFigures.{BookFigures}
 use Rattle.books.specs.declared.rule.Rule.{Rule}
 use Rattle.books.specs.declared.sheet.SheetFigures.{SheetFigures}
 use Rattle.books.specs.declared.size.Size.{Size}
-use Rattle.books.specs.declared.writing.Written.{Written}
 
 -- ── Answers ──
 
@@ -79,9 +76,3 @@ dv-read-book-settled s = settles _
 
 pub dv-read-sheet-settled : (press : ℕ) (s : List ℕ) → Settles (packed (sheetAnswer press s) (ticketOf press s))
 dv-read-sheet-settled press s = settles _
-
--- ── The writer: its answer and the slice ──
-
-pub write-book-settled : (first second out o p : List ℕ) (d : Draft) (r q : Written)
-    → WroteDraft first second d out r o → WroteDraft first second d out q p → (r ≡ q) × (o ≡ p)
-write-book-settled first second out o p d r q x y = (settled (x .answers) (y .answers), settled (x .leaves) (y .leaves))

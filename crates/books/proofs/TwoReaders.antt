@@ -15,10 +15,9 @@ use Rattle.names.specs.declared.number.Fault.{Fault}
 use Rattle.names.specs.declared.colours.Colours.{Colours}
 use Rattle.names.proofs.Picking.{pick-ind}
 use Rattle.names.proofs.Tests.{true-or-false}
-use Rattle.books.specs.Book.{refusedBook, figuresAt, afterFigures, ruledAt, figuredAt, bookBy, bookOf, untidyOf}
+use Rattle.books.specs.Book.{refusedBook, figuresAt, afterFigures, ruledAt, figuredAt, bookBy, bookOf, untidyOf, IsBook}
 use Rattle.books.specs.ContentsIn.{contentsIn}
 use Rattle.books.specs.Lent.{contentsBy, contentsOf}
-use Rattle.books.specs.NewBook.{IsBook}
 use Rattle.books.specs.Rules.{ruleAt, afterRule, refusedRules, repeats, rulesFrom, rulesAt}
 use Rattle.books.specs.declared.rule.Rule.{Rule}
 use Rattle.books.specs.declared.rules.RuleRead.{RuleRead}

@@ -1,5 +1,6 @@
 -- What reading a book finds: a colour list; the motif count, the start motif and the rule count; the rules; and nothing after them.
 use Prim.Native.Nat.{ℕ}
+use mathlib.Core.Path.{_≡_}
 use mathlib.Core.Bool.{Bool, true, false}
 use mathlib.Core.List.{List}
 use Rattle.names.specs.Pick.{fault}
@@ -63,3 +64,14 @@ bookOf = bookBy true
 
 abbrev pub untidyOf : List ℕ → BookRead
 untidyOf = bookBy false
+
+-- these bytes are a book, ...
+abbrev pub IsBookBy : Bool → List ℕ → Type 0
+IsBookBy strict s = bookBy strict s .fault ≡ fault 0 0
+
+abbrev pub IsBook : List ℕ → Type 0
+IsBook = IsBookBy true
+
+-- ... and these are one but that equal rules may stand in it
+abbrev pub IsUntidy : List ℕ → Type 0
+IsUntidy = IsBookBy false

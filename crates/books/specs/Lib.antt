@@ -28,8 +28,5 @@ pub mod Answer
 pub mod Lent
 pub mod Calls
 pub mod Numbering
-pub mod Draft
-pub mod Outcome
-pub mod NewBook
 pub mod inner
 pub mod Tickets

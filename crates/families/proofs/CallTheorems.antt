@@ -7,6 +7,7 @@ use mathlib.Core.List.{List}
 use mathlib.Core.Logic.{_↔_, _⊎_}
 use lib.ListN.{length, take}
 use Rattle.names.specs.Bytes.{Bytes}
+use Rattle.books.specs.Book.{IsBook}
 use Rattle.books.specs.Contents.{Contents}
 use Rattle.books.specs.Derives.{Member}
 use Rattle.books.specs.Keeps.{Sound, Keeps}
@@ -17,15 +18,15 @@ use Rattle.books.proofs.LongestBook.{spelling-bytes}
 use Rattle.families.specs.Joined.{Both, Run}
 use Rattle.families.specs.Images.{reversed, transpose, Image}
 use Rattle.families.specs.Combine.{either-of, beside, above, run, stack, mirrored, flipped, transposed}
-use Rattle.books.specs.Outcome.{Outcome, Leaves}
+use Rattle.drafts.specs.Outcome.{Outcome, Leaves}
 use Rattle.families.specs.Outcome.{made, onOne, onSecond, onTwo}
 use Rattle.books.specs.Lent.{contentsOf}
-use Rattle.books.specs.NewBook.{IsBook, Held, NewBook}
 use Rattle.books.specs.Answer.{answerIn, countIn}
+use Rattle.drafts.specs.NewBook.{Held, NewBook}
 use Rattle.families.specs.declared.asked.Change.the-variants.{Mirrored, Flipped, Transposed}
 use Rattle.families.proofs.Keeping.{KeptTwo, KeptOne, joined-keeps, either-of-keeps, repeated-keeps, changed-keeps, keeps-within}
-use Rattle.books.proofs.Outcomes.{lent-ends}
-use Rattle.books.proofs.NewBooks.{accepted-spelled, Spelled, spelled-accepted, spelled-contents, new-book}
+use Rattle.drafts.proofs.Outcomes.{lent-ends}
+use Rattle.drafts.proofs.NewBooks.{accepted-spelled, Spelled, spelled-accepted, spelled-contents, new-book}
 use Rattle.families.proofs.ReadingOff.{one-read, two-read}
 use Rattle.families.proofs.Refusing.{one-verdict}
 use Rattle.families.proofs.NewBooks.{made-spelled}

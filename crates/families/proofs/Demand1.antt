@@ -7,18 +7,18 @@ use mathlib.Core.List.{List}
 use mathlib.Core.Logic.{_⊎_, inl, inr, ⊎-elim}
 use native.Mathlib.Omega.{arith}
 use Rattle.names.specs.Bytes.{Bytes}
+use Rattle.books.specs.Book.{IsBook}
 use Rattle.books.specs.Contents.{Contents}
 use Rattle.books.specs.declared.answer.Answer.{Answer}
 use Rattle.books.proofs.ReadingBooks.{book-refused}
-use Rattle.books.specs.Outcome.{Outcome, lent, Leaves}
+use Rattle.drafts.specs.Outcome.{Outcome, lent, Leaves}
 use Rattle.families.specs.Outcome.{made, onOne, onSecond, onTwo}
 use Rattle.books.specs.Lent.{contentsOf}
-use Rattle.books.specs.NewBook.{IsBook}
 use Rattle.books.specs.Answer.{answerIn, countIn}
 use Rattle.families.specs.Answers.{Blames, Answered}
 use Rattle.families.specs.EachCall.{EachCall}
 use Rattle.families.proofs.Keeping.{KeptTwo, KeptOne, each-call}
-use Rattle.books.proofs.Outcomes.{lent-ends}
+use Rattle.drafts.proofs.Outcomes.{lent-ends}
 use Rattle.families.proofs.Outcomes.{made-ends}
 use Rattle.families.proofs.ReadingOff.{one-read, two-read}
 

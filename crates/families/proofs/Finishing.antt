@@ -8,7 +8,7 @@ use Rattle.names.proofs.Tests.{true-or-false}
 use Rattle.books.specs.Contents.{Contents}
 use Rattle.families.specs.Limits.{withinLimits?}
 use Rattle.families.specs.inner.Made.{Makes}
-use Rattle.books.specs.Outcome.{Outcome, Leaves}
+use Rattle.drafts.specs.Outcome.{Outcome, Leaves}
 use Rattle.families.specs.Outcome.{made}
 use Rattle.families.specs.inner.Finished.{finished}
 use Rattle.families.specs.declared.making.Made.{Made}

@@ -5,8 +5,8 @@ use mathlib.Core.List.{List}
 use native.Mathlib.Omega.{arith}
 use Rattle.books.specs.Contents.{Contents}
 use Rattle.books.specs.Keeps.{Keeps}
-use Rattle.books.specs.Outcome.{Outcome}
-use Rattle.books.proofs.NewBooks.{Spelled, spelled-so}
+use Rattle.drafts.specs.Outcome.{Outcome}
+use Rattle.drafts.proofs.NewBooks.{Spelled, spelled-so}
 use Rattle.families.specs.Limits.{WithinLimits}
 use Rattle.families.specs.Outcome.{made}
 use Rattle.families.proofs.Outcomes.{made-ends}

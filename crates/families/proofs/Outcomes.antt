@@ -11,9 +11,9 @@ use Rattle.names.proofs.Picking.{pick-ind}
 use Rattle.books.specs.Answer.{plain}
 use Rattle.books.specs.Contents.{Contents}
 use Rattle.books.specs.Keeps.{Keeps}
-use Rattle.books.specs.Outcome.{Outcome, refused, spelled, written}
 use Rattle.books.specs.SpellBook.{spellBook}
-use Rattle.books.proofs.Outcomes.{written-ends, Packed, spelled-packs, refused-packs}
+use Rattle.drafts.specs.Outcome.{Outcome, refused, spelled, written}
+use Rattle.drafts.proofs.Outcomes.{written-ends, Packed, spelled-packs, refused-packs}
 use Rattle.families.specs.Limits.{WithinLimits, withinLimits?}
 use Rattle.families.specs.Outcome.{made}
 use Rattle.families.proofs.Testing.{within-limits}

@@ -6,11 +6,11 @@ use mathlib.Core.List.{List}
 use native.Mathlib.Omega.{arith}
 use Rattle.names.specs.Bytes.{Bytes}
 use Rattle.books.specs.Contents.{Contents}
-use Rattle.books.specs.Outcome.{Leaves}
+use Rattle.drafts.specs.Outcome.{Leaves}
 use Rattle.families.specs.Outcome.{onOne, onTwo}
 use Rattle.families.proofs.Keeping.{KeptTwo, KeptOne}
-use Rattle.books.proofs.Outcomes.{lent-packs, readOf, read-off}
-use Rattle.books.proofs.NewBooks.{accepted-spelled}
+use Rattle.drafts.proofs.Outcomes.{lent-packs, readOf, read-off}
+use Rattle.drafts.proofs.NewBooks.{accepted-spelled}
 use Rattle.families.proofs.Outcomes.{made-packs}
 
 -- of a call on one book, ...

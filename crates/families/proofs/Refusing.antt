@@ -9,17 +9,16 @@ use Rattle.names.specs.declared.number.Fault.{Fault}
 use Rattle.names.specs.Bytes.{Bytes}
 use Rattle.names.proofs.Tests.{together, neither}
 use Rattle.books.specs.Contents.{Contents}
-use Rattle.books.specs.Book.{bookOf}
-use Rattle.books.specs.Outcome.{Outcome, lent, Leaves}
+use Rattle.books.specs.Book.{bookOf, IsBook}
+use Rattle.drafts.specs.Outcome.{Outcome, lent, Leaves}
 use Rattle.families.specs.Outcome.{made, onOne, onSecond, onTwo}
 use Rattle.books.specs.Lent.{contentsOf}
-use Rattle.books.specs.NewBook.{IsBook}
 use Rattle.books.specs.Answer.{answerIn, countIn}
 use Rattle.families.specs.Answers.{WhichNumber}
 use Rattle.families.specs.EachCall.{EachCall}
 use Rattle.families.proofs.Keeping.{KeptTwo, KeptOne, each-call}
 use Rattle.families.proofs.Outcomes.{made-ends}
-use Rattle.books.proofs.Outcomes.{read-accepted}
+use Rattle.drafts.proofs.Outcomes.{read-accepted}
 use Rattle.families.proofs.ReadingOff.{one-read, two-read}
 
 -- The number and the count of an outcome.

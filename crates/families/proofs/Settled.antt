@@ -4,7 +4,7 @@ use mathlib.Core.Path.{_≡_}
 use mathlib.Core.List.{List}
 use Rattle.books.specs.Contents.{Contents}
 use Rattle.books.proofs.Settled.{settled}
-use Rattle.books.specs.Outcome.{Outcome, Leaves}
+use Rattle.drafts.specs.Outcome.{Outcome, Leaves}
 use Rattle.families.specs.Outcome.{onOne, onTwo}
 use Rattle.families.specs.EachCall.{EachCall}
 use Rattle.families.proofs.Keeping.{each-call}

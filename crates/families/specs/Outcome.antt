@@ -4,7 +4,7 @@ use Prim.Native.Nat.{ℕ}
 use Rattle.names.specs.Pick.{pick}
 use Rattle.books.specs.Answer.{plain}
 use Rattle.books.specs.Contents.{Contents}
-use Rattle.books.specs.Outcome.{Outcome, refused, written, lent}
+use Rattle.drafts.specs.Outcome.{Outcome, refused, written, lent}
 use Rattle.families.specs.Limits.{withinLimits?}
 
 -- the book of these contents, or 13; 12 where they exceed the limits

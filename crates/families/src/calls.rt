@@ -5,7 +5,7 @@ use crate::asked::Pairing;
 use crate::asked::Single;
 use books::rule::Dir;
 ghost use Rattle.families.specs.Combine.{either-of, beside, above, run, stack, mirrored, flipped, transposed};
-ghost use Rattle.books.specs.Outcome.{Leaves};
+ghost use Rattle.drafts.specs.Outcome.{Leaves};
 ghost use Rattle.families.specs.Outcome.{onOne, onTwo};
 
 // What the first or the second book holds.

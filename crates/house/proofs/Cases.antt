@@ -31,7 +31,7 @@ use Rattle.pieces.specs.Derivation.{judged, roomed, derivation}
 use Rattle.families.specs.Merged.{without, merged}
 use Rattle.families.specs.Combine.{copies, joined, repeated, either-of, beside, run, transposed}
 use Rattle.families.specs.Limits.{countsWithin?, withinLimits?}
-use Rattle.books.specs.Outcome.{written, lentBy}
+use Rattle.drafts.specs.Outcome.{written, lentBy}
 use Rattle.families.specs.Outcome.{made}
 use Rattle.books.specs.House.{houseBook, houseContents}
 use Rattle.house.specs.Bytes.{sheetA, sheetAReordered, sheetASlate, oneCell, oneColumn, oneRow, transposedBook, besideBook, runBook, eitherOfBook}

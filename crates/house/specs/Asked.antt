@@ -5,7 +5,7 @@ use lib.ListN.{length, replicate}
 use Rattle.books.specs.Contents.{Contents}
 use Rattle.books.specs.Answer.{plain}
 use Rattle.pieces.specs.Derivation.{Derivation, derivation}
-use Rattle.books.specs.Outcome.{Outcome}
+use Rattle.drafts.specs.Outcome.{Outcome}
 use Rattle.families.specs.Outcome.{onOne, onTwo}
 
 -- the outcome of `derive`; the slices are just long enough for sheet A

@@ -9,17 +9,18 @@ use native.Mathlib.Omega.{arith}
 use lib.ListN.{length, take}
 use Rattle.names.specs.Bytes.{Bytes}
 use Rattle.books.specs.Answer.{answerIn, countIn}
+use Rattle.books.specs.Book.{IsBook, IsUntidy}
 use Rattle.books.specs.Contents.{Contents}
 use Rattle.books.specs.Derives.{Member}
 use Rattle.books.specs.Keeps.{KeepsBy}
 use Rattle.books.specs.Lent.{contentsBy, contentsOf}
-use Rattle.books.specs.NewBook.{IsBook, IsUntidy, NewBook}
-use Rattle.books.specs.Outcome.{Outcome, Leaves}
 use Rattle.books.specs.SpellBook.{spellBook}
 use Rattle.books.specs.declared.book.BookRead.{BookRead}
 use Rattle.books.proofs.TwoReaders.{accepted-alike, contents-alike}
 use Rattle.books.proofs.LongestBook.{spelling-bytes}
-use Rattle.books.proofs.NewBooks.{Spelled, spelled-so, spelled-accepted, spelled-contents, new-book}
+use Rattle.drafts.specs.NewBook.{NewBook}
+use Rattle.drafts.specs.Outcome.{Outcome, Leaves}
+use Rattle.drafts.proofs.NewBooks.{Spelled, spelled-so, spelled-accepted, spelled-contents, new-book}
 use Rattle.tidy.specs.Kept.{Kept}
 use Rattle.tidy.specs.Outcome.{tidying}
 use Rattle.names.specs.Spelling.{Distinct}

@@ -15,14 +15,14 @@ use Rattle.books.specs.Answer.{plain}
 use Rattle.books.specs.Book.{untidyOf}
 use Rattle.books.specs.Contents.{Contents}
 use Rattle.books.specs.ContentsIn.{contentsIn}
-use Rattle.books.specs.Draft.{draftIn, DraftFits}
 use Rattle.books.specs.Keeps.{mostMotifs}
-use Rattle.books.specs.Outcome.{refused, written}
 use Rattle.books.specs.declared.book.BookRead.{BookRead}
 use Rattle.books.specs.declared.family.Family.{Family}
 use Rattle.books.proofs.GreaterCounts.{rule-more}
 use Rattle.books.proofs.ReadingBooks.{book-lies-by, book-accepted-by}
 use Rattle.books.proofs.StandingRules.{there-length}
+use Rattle.drafts.specs.Draft.{draftIn, DraftFits}
+use Rattle.drafts.specs.Outcome.{refused, written}
 use Rattle.tidy.specs.Marking.{rewritten, reached}
 use Rattle.tidy.specs.Outcome.{tidiedOut}
 use Rattle.tidy.specs.Tidied.{leaving, tidied}

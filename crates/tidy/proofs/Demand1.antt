@@ -11,14 +11,13 @@ use Rattle.names.specs.Bytes.{Bytes}
 use Rattle.names.specs.Pick.{ReadersNumber}
 use Rattle.names.specs.declared.number.Fault.{Fault}
 use Rattle.books.specs.Answer.{answer, answerIn, countIn}
-use Rattle.books.specs.Book.{untidyOf}
+use Rattle.books.specs.Book.{untidyOf, IsUntidy}
 use Rattle.books.specs.Lent.{contentsBy}
-use Rattle.books.specs.NewBook.{IsUntidy}
-use Rattle.books.specs.Outcome.{Outcome, Leaves}
 use Rattle.books.specs.SpellBook.{spellBook}
 use Rattle.books.specs.declared.answer.Answer.{Answer}
-use Rattle.books.proofs.Outcomes.{Packed, spelled-packs, refused-packs, blamed-packs, readOf, read-off}
 use Rattle.books.proofs.ReadingBooks.{book-refused-by}
+use Rattle.drafts.specs.Outcome.{Outcome, Leaves}
+use Rattle.drafts.proofs.Outcomes.{Packed, spelled-packs, refused-packs, blamed-packs, readOf, read-off}
 use Rattle.tidy.specs.Outcome.{tidying}
 use Rattle.tidy.specs.Tidied.{tidied}
 use Rattle.tidy.proofs.Endings.{untidy-keeps, StartRewrites, ends}

@@ -9,15 +9,14 @@ use Rattle.names.proofs.Picking.{pick-ind}
 use Rattle.names.specs.Bytes.{Bytes}
 use Rattle.names.specs.declared.number.Fault.{Fault}
 use Rattle.books.specs.Answer.{plain}
-use Rattle.books.specs.Book.{untidyOf}
+use Rattle.books.specs.Book.{untidyOf, IsUntidy}
 use Rattle.books.specs.Contents.{Contents}
 use Rattle.books.specs.Keeps.{KeepsBy}
 use Rattle.books.specs.Lent.{contentsBy}
-use Rattle.books.specs.NewBook.{IsUntidy}
-use Rattle.books.specs.Outcome.{Outcome, refused, spelled, written}
 use Rattle.books.specs.SpellBook.{spellBook}
 use Rattle.books.proofs.ReadingBooks.{book-accepted-by}
-use Rattle.books.proofs.Outcomes.{blamedBy, written-ends, lent-ends}
+use Rattle.drafts.specs.Outcome.{Outcome, refused, spelled, written}
+use Rattle.drafts.proofs.Outcomes.{blamedBy, written-ends, lent-ends}
 use Rattle.tidy.specs.Kept.{Rewrites}
 use Rattle.tidy.specs.Marking.{rewrites?}
 use Rattle.tidy.specs.Outcome.{tidiedOut, tidying}

@@ -2,8 +2,8 @@
 use Prim.Native.Nat.{ℕ}
 use mathlib.Core.Path.{_≡_}
 use mathlib.Core.List.{List}
-use Rattle.books.specs.Outcome.{Leaves}
 use Rattle.books.proofs.Settled.{settled}
+use Rattle.drafts.specs.Outcome.{Leaves}
 use Rattle.tidy.specs.Outcome.{tidying}
 
 pub dv-tidy-settled : (book out x y : List ℕ) (r q : ℕ) → Leaves (tidying book out) r x → Leaves (tidying book out) q y → (r ≡ q) × (x ≡ y)

@@ -5,7 +5,7 @@ use mathlib.Core.List.{List}
 use Rattle.names.specs.Pick.{pick}
 use Rattle.books.specs.Answer.{plain}
 use Rattle.books.specs.Contents.{Contents}
-use Rattle.books.specs.Outcome.{Outcome, refused, written, lentBy}
+use Rattle.drafts.specs.Outcome.{Outcome, refused, written, lentBy}
 use Rattle.tidy.specs.Marking.{rewrites?}
 use Rattle.tidy.specs.Tidied.{tidied}
 

@@ -2,9 +2,9 @@
 use Prim.Native.Nat.{ℕ}
 use mathlib.Core.List.{List}
 use Rattle.names.specs.Pick.{pick}
-use Rattle.books.specs.Draft.{draftIn}
 use Rattle.books.specs.Answer.{plain}
-use Rattle.books.specs.Outcome.{Outcome, refused, written}
+use Rattle.drafts.specs.Draft.{draftIn}
+use Rattle.drafts.specs.Outcome.{Outcome, refused, written}
 use Rattle.families.specs.declared.making.Made.{Made}
 
 -- what exceeds the limits is refused, and any other draft is written

@@ -8,7 +8,7 @@ use Rattle.names.specs.declared.colours.Colours.{Colours}
 use Rattle.books.specs.declared.family.Family.{Family}
 use Rattle.books.specs.Contents.{Contents}
 use Rattle.books.specs.ContentsIn.{contentsIn}
-use Rattle.books.specs.Draft.{draftIn, DraftFits}
+use Rattle.drafts.specs.Draft.{draftIn, DraftFits}
 use Rattle.families.specs.Limits.{withinLimits?}
 use Rattle.families.specs.inner.Asked.{paired, alone}
 use Rattle.families.specs.declared.asked.Pairing.{Pairing}

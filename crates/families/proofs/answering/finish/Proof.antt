@@ -1,7 +1,7 @@
 -- A draft within the limits is written, and the writer answers; what exceeds the limits is answered 12 and written nowhere.
 use mathlib.Core.Path.{refl}
-use Rattle.books.proofs.SpellingDrafts.{draft-wrote}
-use Rattle.books.proofs.NewBooks.{written-by}
+use Rattle.drafts.proofs.SpellingDrafts.{draft-wrote}
+use Rattle.drafts.proofs.NewBooks.{written-by}
 use borrow.Author.Needs.{needs}
 use Rattle.families.proofs.answering.finish.Statement.{statement}
 use Rattle.families.proofs.answering.finish.Tie as tie

@@ -5,7 +5,7 @@ use mathlib.Core.List.{List}
 use denote.Ref.{now}
 use Rattle.families.specs.Outcome.{onSecond}
 use Rattle.families.specs.inner.Asked.{paired}
-use Rattle.books.proofs.Outcomes.{read-accepted, blamed-leaves}
+use Rattle.drafts.proofs.Outcomes.{read-accepted, blamed-leaves}
 use Rattle.families.proofs.Reading.{read-lent}
 use borrow.Author.Needs.{needs}
 use Rattle.families.proofs.answering.on_two.Statement.{statement}

@@ -3,7 +3,7 @@ use Prim.Native.Nat.{ℕ}
 use mathlib.Core.Bool.{false}
 use mathlib.Core.List.{List}
 use denote.Ref.{now}
-use Rattle.books.proofs.Outcomes.{read-accepted, blamed-leaves}
+use Rattle.drafts.proofs.Outcomes.{read-accepted, blamed-leaves}
 use Rattle.tidy.specs.Outcome.{tidiedOut, tidying}
 use Rattle.tidy.proofs.Calling.{read-fitted}
 use borrow.Author.Needs.{needs}

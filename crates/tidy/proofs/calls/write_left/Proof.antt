@@ -1,6 +1,6 @@
 -- What is left of the family is a draft that fits, and the writer answers.
-use Rattle.books.proofs.NewBooks.{written-by}
-use Rattle.books.proofs.SpellingDrafts.{draft-wrote}
+use Rattle.drafts.proofs.NewBooks.{written-by}
+use Rattle.drafts.proofs.SpellingDrafts.{draft-wrote}
 use Rattle.tidy.proofs.Calling.{drafted-fits, drafted-is}
 use denote.Ref.{now}
 use borrow.Author.Needs.{needs}

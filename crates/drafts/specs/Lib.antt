@@ -1,0 +1,4 @@
+pub mod Draft
+pub mod Outcome
+pub mod NewBook
+pub mod inner
