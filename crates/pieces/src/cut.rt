@@ -4,20 +4,9 @@ use crate::part::Part;
 use crate::part::Parts;
 use crate::piece::slot;
 use books::size::Size;
+use names::word::is_set;
 ghost use mathlib.Core.Path.{_≡_};
-ghost use Rattle.names.specs.Bits.{isSet};
 ghost use Rattle.pieces.specs.inner.Seen.{TabledAt, hasBit, bothHave};
-
-// Whether an entry has a motif's bit set. It has 32 bits.
-pub(crate) fn has_bit(entry: u32, motif: u8) -> bool
-    ensures { λ r. ⌜ r ≡ isSet entry motif ⌝ }
-{
-    if motif < 32 {
-        (entry >> (motif as u32)) % 2 == 1
-    } else {
-        false
-    }
-}
 
 // Whether a motif has its bit set at a piece.
 pub(crate) fn has(work: &[u32], size: Size, x: Part) -> bool
@@ -25,7 +14,7 @@ pub(crate) fn has(work: &[u32], size: Size, x: Part) -> bool
     ensures { λ r. ⌜ r ≡ hasBit size (now (work .entry)) (x .motif) (x .piece) ⌝ }
 {
     let at = slot(size.rows, size.cols, x.piece);
-    has_bit(work[at], x.motif)
+    is_set(work[at], x.motif)
 }
 
 // Whether both parts of a cut have their bits.

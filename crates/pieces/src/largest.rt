@@ -1,10 +1,10 @@
 // The largest piece of a sheet at which a motif has its bit: of greatest area, and of the same area the earliest in the table.
-use crate::cut::has_bit;
 use crate::piece;
 use crate::piece::MOST;
 use crate::piece::Piece;
 use books::size;
 use books::size::Size;
+use names::word::is_set;
 ghost use mathlib.Core.Path.{_≡_};
 ghost use Prim.Native.Nat.{_≤_};
 ghost use Rattle.names.specs.Bits.{isSet};
@@ -18,7 +18,7 @@ fn area_with(entry: u32, motif: u8, p: Piece) -> usize
     requires { ⌜ (p .height ≤ most) × (p .width ≤ most) ⌝ }
     ensures { λ r. ⌜ r ≡ areaIf (isSet entry motif) p ⌝ }
 {
-    if has_bit(entry, motif) {
+    if is_set(entry, motif) {
         return piece::times(p.height, p.width);
     }
     0

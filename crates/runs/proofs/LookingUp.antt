@@ -17,7 +17,7 @@ use Rattle.names.proofs.Settled.{Settles, settles}
 use Rattle.names.proofs.SpellingNumbers.{number-spelled}
 use Rattle.names.proofs.Tests.{lt-or-le}
 use Rattle.runs.specs.Run.{frameAt, sheetIn, left, faults, sheets, framing, sheetsOf, spellRun}
-use Rattle.runs.specs.Lookups.{sheetWith, startWith, placeWith, runSheetShown}
+use Rattle.runs.specs.Numbered.{sheetWith, startWith, placeWith, runSheetShown}
 use Rattle.runs.specs.declared.framing.Frame.{Frame}
 use Rattle.runs.proofs.SpelledRuns.{run-spelled}
 use Rattle.runs.proofs.WalkingRuns.{FrameLies, frame-whole, frame-lies, sheet-framed, left-end, left-stop, left-more, framing-left, run-few}

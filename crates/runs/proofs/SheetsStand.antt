@@ -11,7 +11,7 @@ use Rattle.names.specs.Number.{greatestNumber, spellNumber}
 use Rattle.names.proofs.SpellingNumbers.{spell-short, spell-long}
 use Rattle.names.proofs.Tests.{lt-or-le}
 use Rattle.runs.specs.Run.{sheets, spellRun}
-use Rattle.runs.specs.Lookups.{sheetWith, startWith, placeWith}
+use Rattle.runs.specs.Numbered.{sheetWith, startWith, placeWith}
 
 pub none-long : length (spellRun []) ≡ 0
 unfolding spellRun

@@ -1,7 +1,7 @@
 pub mod Lists
 pub mod Run
 pub mod ReadsRun
-pub mod Lookups
+pub mod Numbered
 pub mod Figures
 pub mod Outcome
 pub mod inner

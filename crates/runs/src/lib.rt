@@ -3,5 +3,5 @@ pub mod calls;
 mod counting;
 pub mod figures;
 mod framing;
-pub mod lookups;
+pub mod numbered;
 mod report;

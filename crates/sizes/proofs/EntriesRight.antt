@@ -26,6 +26,11 @@ use Rattle.sizes.specs.inner.Entries.{entry, OfTable, RightBefore}
 use Rattle.sizes.proofs.Slots.{first-within, rest-within, first-before, rest-before, size-at-slot}
 use Rattle.sizes.proofs.Testing.{size-decided}
 
+pub entries-length : (fire : Dir → ℕ → ℕ → ℕ) (n k : ℕ) (t : List ℕ) → length (withEntries fire n k t) ≡ length t
+unfolding withEntries
+entries-length fire n zero t = refl
+entries-length fire n (suc k) t = length-set (withEntries fire n k t) (suc k) _ ∙ entries-length fire n k t
+
 -- ── One entry ──
 
 -- 1 by 1 stands first, and nothing else does
@@ -64,16 +69,11 @@ module _ (b : Contents) (sound : Sound b) (fire : Dir → ℕ → ℕ → ℕ) (
           go-large (yes g) = g
           go-large (no g) = absurd (omega (arith, first-slot n s (omega arith) w))
 
-  pub entries-length : (k : ℕ) (t : List ℕ) → length (withEntries fire n k t) ≡ length t
-  unfolding withEntries
-  entries-length zero t = refl
-  entries-length (suc k) t = length-set (withEntries fire n k t) (suc k) _ ∙ entries-length k t
-
   entries-right : (k : ℕ) (t : List ℕ) → k < length t → getD t 0 0 ≡ entry b (by 1 1) → RightBefore b n (suc k) (withEntries fire n k t)
   unfolding withEntries
   entries-right zero t low begins = λ s w h. let z : slot n s ≡ 0 = omega arith in rw (z, at-first n s w z) begins
   entries-right (suc k) t low begins =
-      one-more (suc k) (withEntries fire n k t) (omega arith) (omega (arith, entries-length k t)) (entries-right k t (omega arith) begins)
+      one-more (suc k) (withEntries fire n k t) (omega arith) (omega (arith, entries-length fire n k t)) (entries-right k t (omega arith) begins)
 
 -- one entry more, as the code writes it
 pub one-written : (fire : Dir → ℕ → ℕ → ℕ) (n due : ℕ) (before t : List ℕ) (e : ℕ) → 1 ≤ due → t ≡ withEntries fire n (due - 1) before

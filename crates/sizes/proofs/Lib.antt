@@ -7,6 +7,7 @@ pub mod SizesListed
 pub mod Slots
 pub mod AlongCuts
 pub mod EntriesRight
+pub mod AnyRoom
 pub mod CardRows
 pub mod Answering
 pub mod Demand1

@@ -9,14 +9,14 @@ use native.Mathlib.Nat.{le-refl, mul-le-mul}
 use native.Mathlib.Omega.{arith}
 use borrow.Author.Tests.{lt-ltb}
 use lib.Dec.{eqb, ltb}
-use lib.ListN.{getD}
-use Rattle.names.specs.Bits.{bit}
+use lib.ListN.{getD, replicate}
+use Rattle.names.specs.Bits.{bit, isSet}
 use Rattle.names.specs.Bytes.{Bytes}
 use Rattle.names.proofs.Tests.{true-or-false, and-on, and-off}
 use Rattle.books.specs.Contents.{Contents}
 use Rattle.books.specs.Keeps.{Keeps, mostMotifs}
 use Rattle.books.specs.Press.{greatestOf}
-use Rattle.books.specs.Size.{Within, within?, sizeBy as by}
+use Rattle.books.specs.Size.{room, Within, within?, sizeBy as by}
 use Rattle.books.proofs.ReadingBooks.{book-accepted}
 use Rattle.books.proofs.Area.{within-room}
 use Rattle.books.proofs.SizesWithin.{within-exactly}
@@ -27,7 +27,7 @@ use Rattle.pieces.specs.declared.masks.Joins.{Joins}
 use Rattle.pieces.proofs.AskingSheets.{kept-start, book-serves}
 use Rattle.sizes.specs.Promise.{Sized}
 use Rattle.sizes.specs.Card.{sized?, card, hasOn}
-use Rattle.sizes.specs.Table.{slot, tableBy, hasSizeBy}
+use Rattle.sizes.specs.Table.{slot, lastBy, hasSizeBy}
 use Rattle.sizes.specs.inner.Entries.{OfTable}
 use Rattle.sizes.proofs.CardRight.{sized-decided, card-right}
 use Rattle.sizes.proofs.CardRows.{entry-tells}
@@ -44,8 +44,8 @@ last-slot m n hm hn =
     omega (arith, row-more (m - 1) n, ap (λ (k : ℕ). k * n) e)
 
 module _ (b : Contents) (keeps : Keeps b) (masks : List ℕ) (j : Joins) (serves : Serves (b .rules) masks j) (press m n : ℕ) where
-  told : Within (greatestOf press) m n → eqb (bit (getD (tableBy masks j n (m * n)) (m * n - 1) 0) (b .start)) 1 ≡ sized? b (m - 1) (n - 1)
-  unfolding sized?
+  told : Within (greatestOf press) m n → lastBy masks j (b .start) n (m * n) (replicate room 0) ≡ sized? b (m - 1) (n - 1)
+  unfolding sized? lastBy isSet
   told p =
       let er : suc (m - 1) ≡ m = omega (arith, p) in
       let ec : suc (n - 1) ≡ n = omega (arith, p) in

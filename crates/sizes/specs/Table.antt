@@ -3,9 +3,9 @@ use Prim.Native.Nat.{ℕ, zero, suc, _+_, _-_, _*_, _/_, _%_}
 use mathlib.Core.Bool.{Bool}
 use mathlib.Core.List.{List}
 use lib.Bits.{bitOr}
-use lib.Dec.{eqb, ltb}
+use lib.Dec.{ltb}
 use lib.ListN.{getD, set, replicate}
-use Rattle.names.specs.Bits.{bit}
+use Rattle.names.specs.Bits.{isSet}
 use Rattle.names.specs.Pick.{andThen}
 use Rattle.books.specs.Keeps.{mostMotifs}
 use Rattle.books.specs.Press.{greatestOf}
@@ -55,8 +55,12 @@ sizesBy fire painted n end t = withEntries fire n (end - 1) (set t 0 painted)
 abbrev pub tableBy : List ℕ → Joins → ℕ → ℕ → List ℕ
 tableBy masks j n end = sizesBy (fireOf masks j) (paintedOf masks) n end (replicate room 0)
 
+-- whether a motif has its bit in the last entry before a slot
+unfoldable pub lastBy : List ℕ → Joins → ℕ → ℕ → ℕ → List ℕ → Bool
+lastBy masks j a n end t = isSet (getD (sizesBy (fireOf masks j) (paintedOf masks) n end t) (end - 1) 0) a
+
 -- whether a motif has the size of m rows and n columns: its bit in the last entry of a table that is no larger. No size beyond the card of the
 -- press is had, and none by a motif beyond the last.
 unfoldable pub hasSizeBy : ℕ → List ℕ → Joins → ℕ → ℕ → ℕ → Bool
 hasSizeBy press masks j a m n =
-    andThen (ltb a mostMotifs) (λ _. andThen (within? (greatestOf press) m n) (λ _. eqb (bit (getD (tableBy masks j n (m * n)) (m * n - 1) 0) a) 1))
+    andThen (ltb a mostMotifs) (λ _. andThen (within? (greatestOf press) m n) (λ _. lastBy masks j a n (m * n) (replicate room 0)))

@@ -5,7 +5,6 @@ use pieces::masks::Joins;
 ghost use mathlib.Core.Path.{_≡_};
 ghost use Prim.Native.Nat.{_+_, _*_, _≤_, _<_};
 ghost use lib.ListN.{length};
-ghost use Rattle.books.specs.Size.{room};
 ghost use Rattle.pieces.specs.Firing.{fireOf, paintedOf};
 ghost use Rattle.sizes.specs.Table.{slotSize, entryOf, sizesBy};
 ghost use Rattle.sizes.specs.inner.Along.{along};
@@ -49,7 +48,7 @@ fn entry_at(sizes: &[u32], masks: &[u32], joins: Joins, cols: usize, due: usize)
 
 // The entries before a slot: 1 by 1 has the painters, and every other size what the joins make of the entries before it.
 pub(crate) fn fill(sizes: &mut [u32], masks: &[u32], joins: Joins, cols: usize, end: usize)
-    requires { ⌜ (length (now sizes) ≡ room) × (1 ≤ cols) × (1 ≤ end) × (end ≤ room) ⌝ }
+    requires { ⌜ (1 ≤ cols) × (1 ≤ end) × (end ≤ length (now sizes)) ⌝ }
     ensures { λ _. ⌜ now (sizes .exit) ≡ sizesBy (fireOf (now (masks .entry)) joins) (paintedOf (now (masks .entry))) cols end (now (sizes .entry)) ⌝ }
 {
     sizes[0] = masks::painted(masks);

@@ -7,7 +7,7 @@ use books::rule::Rule;
 ghost use mathlib.Core.Path.{_≡_};
 ghost use Prim.Native.Nat.{_<_, _≤_};
 ghost use Rattle.names.specs.Spelling.{mostColours};
-ghost use Rattle.books.specs.Keeps.{mostMotifs, mostRules, RuleFits};
+ghost use Rattle.books.specs.Keeps.{mostMotifs, RuleFits};
 ghost use Rattle.tidy.specs.Marks.{rank};
 ghost use Rattle.tidy.specs.Tidied.{uses, renumbered};
 ghost use Rattle.tidy.specs.inner.Steps.{RulesKept};

@@ -19,7 +19,7 @@ pub(crate) enum Step {
     Motifs(u32),
 }
 
-// Whether a motif is marked.
+// Whether a motif is marked. It is below 32, so that `names::word::is_set` need not test it: with that test a tidying takes a tenth longer.
 pub(crate) fn is_marked(marks: u32, motif: u8) -> bool
     requires { ⌜ motif < mostMotifs ⌝ }
     ensures { λ r. ⌜ r ≡ isSet marks motif ⌝ }

@@ -7,7 +7,7 @@ use Rattle.pieces.proofs.cut.has.Tie as tie
 
 returns : tie.Need-returns
 unfolding hasBit marked
-returns c = rw (← c .before .before .slot .ensures .0) (c .has-bit .ensures)
+returns c = rw (← c .before .before .slot .ensures .0) (c .is-set .ensures)
 
 pub has-spec : {M : Type 1} → statement M
 has-spec =

@@ -17,7 +17,7 @@ entries : (s : tie.Start) → let m = s .args .most in (1 ≤ m * m) × (m * m �
 entries s = (mul-le-mul (s .pre .0) (s .pre .0), s .pre .1 .entries-all)
 
 fill-requires : tie.Need-fill-requires
-fill-requires c κs = let s = c .before .before .before in (omega arith, s .pre .0, entries s .0, entries s .1)
+fill-requires c κs = let s = c .before .before .before in (s .pre .0, entries s .0, omega (arith, entries s .1))
 
 write-rows-requires : tie.Need-write-rows-requires
 write-rows-requires c κs =

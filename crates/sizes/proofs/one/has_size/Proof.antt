@@ -1,26 +1,25 @@
--- No motif beyond the last has a size and no card a size beyond it; else the size's entry is the last that is filled.
-use Prim.Native.Nat.{ℕ, _-_, _*_, _≤_, _<_}
-use mathlib.Core.Path.{_≡_, sym, ap, _∙_}
+-- No motif beyond the last has a size and no card a size beyond it; else it is told in an array that has room for the sizes up to it.
+use Prim.Native.Nat.{_*_, _≤_, _<_}
+use mathlib.Core.Path.{_≡_, sym, _∙_}
 use mathlib.Core.Bool.{true}
-use mathlib.Core.List.{List}
 use native.Mathlib.Nat.{mul-le-mul}
 use native.Mathlib.Omega.{arith}
 use borrow.Author.Tests.{lt-ltb, le-ltb}
-use lib.Dec.{eqb}
-use lib.ListN.{getD}
-use Rattle.names.specs.Bits.{bit}
+use denote.Ref.{now}
+use lib.ListN.{replicate}
 use Rattle.names.proofs.Tests.{and-on, and-off}
 use Rattle.books.specs.Keeps.{mostMotifs}
 use Rattle.books.specs.Press.{greatestOf}
 use Rattle.books.specs.Size.{room, Within, within?}
 use Rattle.books.proofs.Area.{within-room}
 use Rattle.books.proofs.SizesWithin.{within-exactly}
-use Rattle.sizes.specs.Table.{hasSizeBy}
+use Rattle.sizes.specs.Table.{lastBy, hasSizeBy}
+use Rattle.sizes.proofs.AnyRoom.{last-alike}
 use borrow.Author.Needs.{needs}
 use Rattle.sizes.proofs.one.has_size.Statement.{statement}
 use Rattle.sizes.proofs.one.has_size.Tie as tie
 
--- Where the card has a place for the size: where the call began, and how many entries there are before the size's own.
+-- Where the card has a place for the size: where the call began, and how many entries there are up to the size's own.
 abbrev began : tie.Then2 → tie.Start
 began t = t .before .before .before .before .before
 
@@ -36,34 +35,40 @@ some t = mul-le-mul (place t .rows-some) (place t .cols-some)
 few : (t : tie.Then2) → began t .args .size .rows * began t .args .size .cols ≤ room
 few t = within-room (began t .args .press) (place t)
 
+-- what is told where the card has it
+told : (t : tie.Then2) → let a = began t .args in
+    lastBy (now (a .masks)) (a .joins) (a .motif) (a .size .cols) (a .size .rows * a .size .cols) (replicate room 0)
+    ≡ hasSizeBy (a .press) (now (a .masks)) (a .joins) (a .motif) (a .size .rows) (a .size .cols)
+unfolding hasSizeBy
+told t =
+    let a = began t .args in
+    let low : a .motif < mostMotifs = omega (arith, t .before .before .before .if1 .left) in
+    sym (and-on _ _ (lt-ltb (a .motif) mostMotifs low) ∙ and-on _ _ (on-card t))
+
 returns : tie.Need-returns
 unfolding hasSizeBy
 returns c = let a = c .before .before .args in sym (and-off _ _ (le-ltb (a .motif) mostMotifs (omega (arith, c .if1 .taken))))
 
-fill-requires : tie.Need-fill-requires
-fill-requires c κs = let t = c .before .before in (omega arith, omega (arith, place t), some t, few t)
-
-sub-result : tie.Need-sub-result
-sub-result c = some (c .before .before .before .before)
-
-mul-result : tie.Need-mul-result
-mul-result c = omega (arith, few (c .before .before .before .before))
-
-array-read-result : tie.Need-array-read-result
-array-read-result c = let t = c .before .before .before .before in omega (arith, few t, some t)
+last-has-requires : tie.Need-last-has-requires
+last-has-requires c κs = let t = c .before .before .before in (omega (arith, place t), some t, omega (arith, c .before .if3 .taken))
 
 returns-2 : tie.Need-returns-2
-unfolding hasSizeBy bit
 returns-2 c =
-    let t = c .before .before .before .before in
+    let t = c .before .before .before .before .before in
     let a = began t .args in
-    let low : a .motif < mostMotifs = omega (arith, t .before .before .before .if1 .left) in
-    ap (λ (l : List ℕ). eqb (bit (getD l (a .size .rows * a .size .cols - 1) 0) (a .motif)) 1) (c .before .fill .ensures)
-    ∙ sym (and-on _ _ (lt-ltb (a .motif) mostMotifs low) ∙ and-on _ _ (on-card t))
+    c .before .last-has .ensures
+    ∙ last-alike (now (a .masks)) (a .joins) (a .motif) (a .size .cols) _ _ (replicate room 0) (omega (arith, place t)) (some t) (omega (arith, c .before .before .before .if3 .taken)) (omega (arith, few t))
+    ∙ told t
+
+last-has-requires-2 : tie.Need-last-has-requires-2
+last-has-requires-2 c κs = let t = c .before .before .before in (omega (arith, place t), some t, omega (arith, few t))
 
 returns-3 : tie.Need-returns-3
+returns-3 c = c .before .last-has2 .ensures ∙ told (c .before .before .before .before .before)
+
+returns-4 : tie.Need-returns-4
 unfolding hasSizeBy
-returns-3 c =
+returns-4 c =
     let a = c .before .before .before .before .before .args in
     let low : a .motif < mostMotifs = omega (arith, c .before .before .before .if1 .left) in
     sym (and-on _ _ (lt-ltb (a .motif) mostMotifs low) ∙ and-off _ _ (rw (c .before .before .greatest .ensures) at (sym (c .before .within .ensures) ∙ c .if2 .left)))
@@ -77,10 +82,9 @@ has-size-spec =
     (λ c κs. search needs)
     (λ c. omega (arith, few (c .before)))
     (λ c. search needs)
-    fill-requires
-    sub-result
-    mul-result
-    array-read-result
-    (λ c. search needs)
+    last-has-requires
     returns-2
-    returns-3)
+    (λ c. search needs)
+    last-has-requires-2
+    returns-3
+    returns-4)

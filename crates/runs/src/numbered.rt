@@ -1,8 +1,8 @@
-// What a C host looks up in a run, without reading the lengths itself: where a sheet stands.
+// A sheet of a run by its number: where it stands, for a C host that does not read the lengths itself.
 use crate::framing::frame_at;
 use crate::framing::framing;
 ghost use mathlib.Core.Path.{_≡_};
-ghost use Rattle.runs.specs.Lookups.{runSheetShown};
+ghost use Rattle.runs.specs.Numbered.{runSheetShown};
 
 // Where the sheet with a number starts in the lent run and how long it is, or 0. A refused run has no sheets.
 #[no_mangle]

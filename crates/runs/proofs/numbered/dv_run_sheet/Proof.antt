@@ -9,8 +9,8 @@ use Rattle.runs.specs.Run.{framing}
 use Rattle.runs.proofs.LookingUp.{Passed, refused-none, begins, frame-there, sheet-found, sheet-passed, none-left}
 use Rattle.runs.proofs.WalkingRuns.{FrameLies, run-few}
 use borrow.Author.Needs.{needs}
-use Rattle.runs.proofs.lookups.dv_run_sheet.Statement.{statement}
-use Rattle.runs.proofs.lookups.dv_run_sheet.Tie as tie
+use Rattle.runs.proofs.numbered.dv_run_sheet.Statement.{statement}
+use Rattle.runs.proofs.numbered.dv_run_sheet.Tie as tie
 
 abbrev Inv-loop : tie.InvT-loop
 Inv-loop run number at₀ before₀ at before = Passed run number at before
