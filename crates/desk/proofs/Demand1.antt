@@ -10,7 +10,7 @@ use Rattle.books.specs.Answer.{InputsNumber, Packs}
 use Rattle.books.specs.Lent.{Accepted}
 use Rattle.books.proofs.Packing.{apart, plain-packs}
 use Rattle.books.proofs.Refusals.{Blames, own-blames, refusal-bad, refusal-listed, refusal-blames, refusal-other, refusal-packs}
-use Rattle.pieces.specs.Recolour.{Recolouring, recolouring, RecoloursPacked}
+use Rattle.desk.specs.Recolour.{Recolouring, recolouring, RecoloursPacked}
 use Rattle.desk.proofs.Endings as ways
 
 module _ (press : ℕ) (book sheet entries : List ℕ) (row column colour : ℕ) where

@@ -20,8 +20,8 @@ use Rattle.pieces.specs.Asking.{startAnswer}
 use Rattle.pieces.specs.Derivation.{entriesNeeded}
 use Rattle.pieces.specs.Largest.{marked}
 use Rattle.pieces.specs.Area.{whole}
-use Rattle.pieces.specs.Recolour.{has?, sheetWith, ruled, refilled, Recolouring, untouched, recast, recolouring}
-use Rattle.pieces.proofs.Recolouring.{Has, has-it, it-has}
+use Rattle.desk.specs.Recolour.{has?, sheetWith, Recolouring, untouched, recast, recolouring}
+use Rattle.desk.proofs.Recolouring.{Has, has-it, it-has}
 
 module _ (press : ℕ) (book sheet entries : List ℕ) (row column colour : ℕ) where
   -- the sheet has the cell and the colour
@@ -50,10 +50,8 @@ module _ (press : ℕ) (book sheet entries : List ℕ) (row column colour : ℕ)
         pick-ind P (ltb (length entries) (entriesNeeded (pictureOf press sheet))) (untouched (plain 9) sheet entries) (recast press b (sheetWith press sheet row column colour) row column entries)
         (λ e. cases .short-work fine found (ltb-true _ _ e))
         (λ e.
-        let p = pictureOf press (sheetWith press sheet row column colour) in
-        let work = refilled (ruled b p) (p .rows) (p .cols) row column entries in
         cases .recoloured fine found (λ s. let long = ltb-false (length entries) (entriesNeeded (pictureOf press sheet)) e in omega arith)
-        (startAnswer (p .rows) (p .cols) work (b .start)) (zero-or-eleven (p .rows) (p .cols) work (b .start)) (sheetWith press sheet row column colour) work)
+        _ (zero-or-eleven _ _ _ _) _ _)
 
     pub recolouring-ends : P (recolouring press book sheet entries row column colour)
     unfolding recolouring

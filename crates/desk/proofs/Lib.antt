@@ -1,3 +1,8 @@
+pub mod Ruled
+pub mod OneCell
+pub mod Recolouring
+pub mod MadeAnew
+pub mod Recasting
 pub mod Recast
 pub mod TableKept
 pub mod Theorems

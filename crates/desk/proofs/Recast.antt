@@ -20,14 +20,15 @@ use Rattle.pieces.specs.Asking.{startAnswer}
 use Rattle.pieces.specs.Derivation.{entriesNeeded}
 use Rattle.pieces.specs.Filling.{at}
 use Rattle.pieces.specs.Pieces.{Inside, slotOf}
-use Rattle.pieces.specs.Recolour.{cellPlace, sheetWith, HasCell, ruled, refilled, Recolouring, judgedSheet, recast, recolouring}
+use Rattle.pieces.specs.Refill.{HasCell, refilled}
 use Rattle.pieces.specs.declared.piece.Piece.{Piece}
-use Rattle.pieces.proofs.OneCell.{gridWith, contents-with}
-use Rattle.pieces.proofs.MadeAnew.{left-fine, same-rows, same-cols}
-use Rattle.pieces.proofs.Recolouring.{Has, it-has, recast-last}
 use Rattle.pieces.proofs.Refilled.{RefilledUpTo, refilled-ends}
-use Rattle.pieces.proofs.Ruled.{ruled-local}
 use Rattle.pieces.proofs.Slots.{slot-lt, slot-inj}
+use Rattle.desk.specs.Recolour.{cellPlace, sheetWith, ruled, Recolouring, judgedSheet, recast, recolouring}
+use Rattle.desk.proofs.OneCell.{gridWith, contents-with}
+use Rattle.desk.proofs.MadeAnew.{left-fine, same-rows, same-cols}
+use Rattle.desk.proofs.Recolouring.{Has, it-has, recast-last}
+use Rattle.desk.proofs.Ruled.{ruled-local}
 
 -- the book and the sheet are accepted, the sheet has the cell and the colour, and the slice is long enough
 pub record Taken (press : ℕ) (book sheet entries : List ℕ) (row column colour : ℕ) : Type 0 where

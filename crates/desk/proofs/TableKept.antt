@@ -20,19 +20,20 @@ use Rattle.pieces.specs.Filling.{at}
 use Rattle.pieces.specs.Firing.{joinsFired}
 use Rattle.pieces.specs.Masks.{allMasks, splitOf}
 use Rattle.pieces.specs.Pieces.{Inside, slotOf}
-use Rattle.pieces.specs.Recolour.{sheetWith, HasCell, hasCell?}
+use Rattle.pieces.specs.Refill.{HasCell, hasCell?}
 use Rattle.pieces.specs.Rights.{Fires}
 use Rattle.pieces.specs.Table.{cut, entry, table}
 use Rattle.pieces.specs.declared.piece.Piece.{Piece}
 use Rattle.pieces.proofs.AcceptedInputs.{rules-read}
 use Rattle.pieces.proofs.CellsFirst.{cell-or-larger}
 use Rattle.pieces.proofs.Judging.{Holds, held-entry}
-use Rattle.pieces.proofs.OneCell.{same-elsewhere}
 use Rattle.pieces.proofs.Refilled.{has-cell}
-use Rattle.pieces.proofs.Ruled.{large-right, cell-ruled}
 use Rattle.pieces.proofs.ServingMasks.{split-serves}
 use Rattle.pieces.proofs.Slots.{slot-onto}
 use Rattle.pieces.proofs.TableEntries.{table-length, table-at}
+use Rattle.desk.specs.Recolour.{sheetWith}
+use Rattle.desk.proofs.OneCell.{same-elsewhere}
+use Rattle.desk.proofs.Ruled.{large-right, cell-ruled}
 use Rattle.desk.proofs.Recast.{Taken, left, sound, rows-same, cols-same, each-refilled, piece-kept, as-many-entries}
 
 -- the same pictures have the same entry

@@ -25,11 +25,11 @@ use Rattle.pieces.specs.Area.{whole}
 use Rattle.pieces.specs.Asking.{startAnswer}
 use Rattle.pieces.specs.Derivation.{entriesNeeded}
 use Rattle.pieces.specs.Largest.{marked}
-use Rattle.pieces.specs.Recolour.{cellPlace, sheetWith, Recolouring, LeftBy}
 use Rattle.pieces.specs.Table.{table}
 use Rattle.pieces.proofs.Cutting.{whole-inside, cut-whole}
 use Rattle.pieces.proofs.Entries.{entry-tests}
 use Rattle.pieces.proofs.Judging.{Holds, held-entry}
+use Rattle.desk.specs.Recolour.{cellPlace, sheetWith, Recolouring, LeftBy}
 use Rattle.desk.proofs.Recast.{Taken, left, sound, sheet-left, still-accepted, beyond-kept, answered-by-bit}
 use Rattle.desk.proofs.TableKept.{table-kept}
 

@@ -1,1 +1,2 @@
--- Nothing of its own: what the call says is told in `pieces`.
+pub mod Recolour
+pub mod inner

@@ -1,10 +1,12 @@
 // The call of the proofing desk for the C host. It stands apart from the calls of `pieces`, so that each archive has one loop over pieces, and the compiler
 // makes it as fast as it can be.
-use books::answer;
-use pieces::recolour::recolour;
-ghost use Rattle.pieces.specs.Recolour.{recolouring, RecoloursPacked};
+pub mod recolour;
 
-// Recolours one cell of a sheet, as `pieces::recolour::recolour` does.
+use crate::recolour::recolour;
+use books::answer;
+ghost use Rattle.desk.specs.Recolour.{recolouring, RecoloursPacked};
+
+// Recolours one cell of a sheet, as `recolour::recolour` does.
 #[no_mangle]
 pub extern "C" fn dv_recolour(
     press: usize,

@@ -24,7 +24,7 @@ use Rattle.books.specs.Rules.{noRule}
 use Rattle.pieces.specs.View.{View}
 use Rattle.pieces.specs.Choice.{works, cutOf, covers, fits, takes, taken, lowest, chosen, choose}
 use Rattle.names.specs.Counted.{least}
-use Rattle.pieces.specs.inner.Fitted.{BothSet, Suits, SomeFits}
+use Rattle.pieces.specs.Suiting.{BothSet, Suits, SomeFits}
 use Rattle.names.proofs.Least.{Least, least-is}
 use Rattle.pieces.proofs.Fitting.{covers-cell}
 

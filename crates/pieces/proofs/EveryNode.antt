@@ -20,7 +20,8 @@ use Rattle.pieces.specs.Table.{cut}
 use Rattle.pieces.specs.View.{View}
 use Rattle.pieces.specs.Given.{At, Works, Able}
 use Rattle.pieces.specs.Choice.{choose}
-use Rattle.pieces.specs.inner.Fitted.{BothSet, Suits, SomeFits, NodeOf, own, in-first, in-rest, Fitted}
+use Rattle.pieces.specs.Suiting.{BothSet, Suits, SomeFits}
+use Rattle.pieces.specs.inner.Fitted.{NodeOf, own, in-first, in-rest, Fitted}
 use Rattle.pieces.proofs.Cutting.{cut-reach, cut-first, cut-rest}
 use Rattle.pieces.proofs.PartsOfPieces.{first-inside, rest-inside}
 use Rattle.pieces.proofs.Choosing.{Right, cut-set, choose-right}

@@ -28,6 +28,7 @@ pub mod TableEntries
 pub mod Searching
 pub mod LargestPiece
 pub mod LookedThrough
+pub mod RefilledBy
 pub mod Cutting
 pub mod Fitting
 pub mod Choosing
@@ -44,16 +45,11 @@ pub mod ComingApart
 pub mod PiecesAlike
 pub mod Endings
 pub mod Judging
-pub mod Ruled
-pub mod OneCell
 pub mod Lacking
 pub mod DerivationAnswers
 pub mod Deriving
 pub mod AskingAnswers
 pub mod AskingSheets
-pub mod Recolouring
-pub mod MadeAnew
-pub mod Recasting
 pub mod Tickets
 pub mod TrialsTold
 pub mod Demand1

@@ -10,7 +10,7 @@ use native.Mathlib.Decide.{decLt}
 use borrow.Author.Tests.{ltb-true, lt-ltb}
 use Rattle.names.proofs.Tests.{lt-or-le, and-both, and-make}
 use Rattle.pieces.specs.Pieces.{piece, Inside, total, slotAt, slotOf}
-use Rattle.pieces.specs.Recolour.{HasCell}
+use Rattle.pieces.specs.Refill.{HasCell}
 use Rattle.pieces.specs.inner.Refill.{further?, NextWith}
 use Rattle.pieces.specs.declared.piece.Piece.{Piece}
 use Rattle.pieces.proofs.InOrder.{After, taller, wider, lower, righter, after-later, later-after}

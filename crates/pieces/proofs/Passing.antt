@@ -5,7 +5,7 @@ use Prim.Native.Nat.{ℕ, _+_, _-_, _<_}
 use native.Mathlib.Omega.{arith}
 use lib.ListN.{drop, set}
 use Rattle.pieces.specs.Pieces.{piece, Inside, pieces, slotOf}
-use Rattle.pieces.specs.Recolour.{HasCell, hasCell?, refilledFrom, refilled}
+use Rattle.pieces.specs.Refill.{HasCell, hasCell?, refilledFrom, refilled}
 use Rattle.pieces.specs.inner.Refill.{NextWith}
 use Rattle.pieces.specs.declared.piece.Piece.{Piece}
 use Rattle.pieces.proofs.InOrder.{After, taller, wider, lower, righter, later-after}

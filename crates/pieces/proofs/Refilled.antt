@@ -4,7 +4,7 @@ use mathlib.Core.Path.{_≡_, refl, sym, ap, _∙_, subst}
 use mathlib.Core.Bool.{Bool, true, false, true≢false}
 use mathlib.Core.List.{List, _∷_}
 use mathlib.Core.Logic.{_↔_, ⊎-elim}
-use Prim.Native.Nat.{ℕ, zero, suc, _+_, _-_, _≤_, _<_}
+use Prim.Native.Nat.{ℕ, zero, suc, _+_, _≤_, _<_}
 use native.Mathlib.Numerals.{add-one}
 use native.Mathlib.Omega.{arith}
 use native.Mathlib.Decide.{decLt}
@@ -15,7 +15,7 @@ use Rattle.names.specs.Pick.{pick}
 use Rattle.names.proofs.Tests.{true-or-false, lt-or-le, not-true-false, and-both, and-make}
 use Rattle.pieces.specs.Pieces.{Inside, pieces, total, slotOf}
 use Rattle.pieces.specs.Filling.{at}
-use Rattle.pieces.specs.Recolour.{HasCell, spans?, hasCell?, refilledFrom, refilled}
+use Rattle.pieces.specs.Refill.{HasCell, spans?, hasCell?, refilledFrom, refilled}
 use Rattle.pieces.specs.declared.piece.Piece.{Piece}
 use Rattle.pieces.proofs.Slots.{length-pieces, slot-lt, getD-slot, slot-inj, slot-onto}
 

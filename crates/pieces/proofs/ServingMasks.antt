@@ -44,6 +44,9 @@ fitting-fit masks j =
     (λ _ z. absurd (false≢true z)))
     (λ _ z. absurd (false≢true z))
 
+pub fitting-all : (masks : ℕ) (j : Joins) → fitting masks j ≡ true → masks ≡ allMasks
+fitting-all masks j e = fitting-fit masks j e .all
+
 fit-fitting : (masks : ℕ) (j : Joins) → MasksFit masks j → fitting masks j ≡ true
 unfolding fitting
 fit-fitting masks j h = rw (eq-eqb masks allMasks (h .all), le-leb (j .across) mostRules (h .across-few), le-leb (j .down) mostRules (h .down-few))

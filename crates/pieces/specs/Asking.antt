@@ -23,7 +23,7 @@ use Rattle.pieces.specs.Derivation.{entriesNeeded, filled}
 use Rattle.pieces.specs.Masks.{allMasks, Masked, laid}
 use Rattle.pieces.specs.Firing.{fitting}
 use Rattle.pieces.specs.Filling.{filledBy}
-use Rattle.pieces.specs.Largest.{marked}
+use Rattle.pieces.specs.Largest.{marked, fitsTable}
 use Rattle.pieces.specs.declared.asking.Asked.{Asked}
 use Rattle.pieces.specs.declared.asking.Split.{Split}
 use Rattle.pieces.specs.declared.masks.Joins.{Joins}
@@ -57,6 +57,10 @@ unwritten a entries = record { answer = a; entries = entries }
 -- 0 where a motif has its bit at the whole sheet, and else 11
 unfoldable pub startAnswer : ℕ → ℕ → List ℕ → ℕ → ℕ
 startAnswer m n entries start = pick (marked m n entries start (whole m n)) 0 11
+
+-- the same of any slice: 11 where it has no room for the table
+unfoldable pub wholeAnswer : ℕ → ℕ → List ℕ → ℕ → ℕ
+wholeAnswer m n entries start = pick (fitsTable m n (length entries)) (startAnswer m n entries start) 11
 
 abbrev pub judgedBy : ℕ → ℕ → ℕ → List ℕ → Asking
 judgedBy m n start entries = record { answer = plain (startAnswer m n entries start); entries = entries }

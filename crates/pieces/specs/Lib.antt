@@ -5,6 +5,7 @@ pub mod Table
 pub mod Area
 pub mod View
 pub mod Given
+pub mod Suiting
 pub mod Choice
 pub mod Tree
 pub mod Trials
@@ -16,5 +17,5 @@ pub mod Rights
 pub mod Largest
 pub mod OnSheet
 pub mod Asking
-pub mod Recolour
+pub mod Refill
 pub mod inner

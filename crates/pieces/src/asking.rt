@@ -1,5 +1,6 @@
 // One book asked for one sheet after another: the book is read and split into masks once, and each sheet gets its table and an answer, with no tree.
 use crate::cut;
+use crate::largest::fits_table;
 use crate::masks;
 use crate::masks::ALL_MASKS;
 use crate::masks::Joins;
@@ -20,7 +21,7 @@ use names::number::Fault;
 ghost use mathlib.Core.Path.{_≡_};
 ghost use Rattle.books.specs.RuleBytes.{rulesIn};
 ghost use Rattle.pieces.specs.Masks.{masked, laid};
-ghost use Rattle.pieces.specs.Asking.{keptWith, splitBook, startAnswer, unwritten, toldBy, askedWith, askSheet};
+ghost use Rattle.pieces.specs.Asking.{keptWith, splitBook, startAnswer, wholeAnswer, unwritten, toldBy, askedWith, askSheet};
 ghost use Rattle.pieces.specs.inner.Seen.{Tabled};
 ghost use Rattle.pieces.specs.inner.Small.{SmallRules};
 ghost use Rattle.pieces.specs.inner.ForTable.{Shows};
@@ -73,7 +74,7 @@ pub fn split_book(book: &[u8], masks: &mut [u32]) -> Split
 }
 
 // 0 where a motif has its bit at the whole sheet, and else 11.
-pub(crate) fn whole_sheet(work: &[u32], size: Size, motif: u8) -> u8
+fn whole_in_table(work: &[u32], size: Size, motif: u8) -> u8
     requires { ⌜ Tabled size (now work) ⌝ }
     ensures { λ r. ⌜ r ≡ startAnswer (size .rows) (size .cols) (now (work .entry)) motif ⌝ }
 {
@@ -87,6 +88,16 @@ pub(crate) fn whole_sheet(work: &[u32], size: Size, motif: u8) -> u8
         motif,
     };
     if cut::has(work, size, sheet) { 0 } else { 11 }
+}
+
+// The same of any slice: 11 where it has no room for the table of such a sheet.
+pub fn whole_sheet(work: &[u32], size: Size, motif: u8) -> u8
+    ensures { λ r. ⌜ r ≡ wholeAnswer (size .rows) (size .cols) (now (work .entry)) motif ⌝ }
+{
+    if fits_table(size, work.len()) {
+        return whole_in_table(work, size, motif);
+    }
+    11
 }
 
 // The answer of a sheet whose cells were numbered, with its table written. Masks that can be no book's have no sheet.
@@ -109,7 +120,7 @@ fn tell(
     }
     if masks::fits(masks.len(), joins) {
         table::fill_from(masks, joins, cells, s.size, work);
-        return answer::unblamed(whole_sheet(work, s.size, start));
+        return answer::unblamed(whole_in_table(work, s.size, start));
     }
     answer::unblamed(11)
 }

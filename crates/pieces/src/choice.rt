@@ -11,7 +11,7 @@ use books::rule::Dir;
 use books::size::Size;
 ghost use mathlib.Core.Path.{_≡_};
 ghost use Rattle.pieces.specs.Choice.{covers, cutOf, choose};
-ghost use Rattle.pieces.specs.inner.Fitted.{SomeFits};
+ghost use Rattle.pieces.specs.Suiting.{SomeFits};
 ghost use Rattle.books.specs.RuleBytes.{ruleIn, rulesIn};
 ghost use Rattle.pieces.specs.inner.Tried.{tried};
 ghost use Rattle.pieces.specs.inner.Seen.{Coloured, TabledAt, ReadyAt, hasBit, hasColour, seen};

@@ -58,7 +58,7 @@ fn search(work: &[u32], motif: u8, size: Size) -> Piece
 }
 
 // Whether a slice of so many entries has room for the table of a sheet that the code's numbers have room for.
-fn fits_table(size: Size, entries: usize) -> bool
+pub fn fits_table(size: Size, entries: usize) -> bool
     ensures { λ r. ⌜ r ≡ fitsTable (size .rows) (size .cols) entries ⌝ }
 {
     if size::within(MOST, size) {

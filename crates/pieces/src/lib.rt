@@ -10,6 +10,6 @@ pub mod masks;
 pub mod on_sheet;
 pub mod part;
 pub mod piece;
-pub mod recolour;
+pub mod refill;
 mod table;
 mod tree;

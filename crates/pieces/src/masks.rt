@@ -20,7 +20,7 @@ const SECONDS_FROM: usize = MOST_RULES;
 
 const HEADS_FROM: usize = 2 * MOST_RULES;
 
-pub(crate) const PAINTERS_FROM: usize = 3 * MOST_RULES;
+pub const PAINTERS_FROM: usize = 3 * MOST_RULES;
 
 const COLOUR_MASKS: usize = MOST_COLOURS + 1;
 

@@ -51,8 +51,8 @@ fill-from-requires c κs =
     let s = shows t in
     (record { tabled = record { sizes = s .sizes; entries = enough t }; fit = fitting-fit _ _ (sym (t .fits2 .ensures) ∙ y .if3 .taken) }, s .painted)
 
-whole-sheet-requires : tie.Need-whole-sheet-requires
-whole-sheet-requires c κs =
+whole-in-table-requires : tie.Need-whole-in-table-requires
+whole-in-table-requires c κs =
     let w = c .before .before .before in
     record { sizes = shows (tested w) .sizes; entries = le-trans (enough (tested w)) (le-of-eq (sym (w .fill-from .kept .1 .1 .1 .1 .0))) }
 
@@ -64,7 +64,7 @@ returns-3 c =
     let a = began t .args in
     rw (
       c .unblamed2 .ensures,
-      c .before .whole-sheet .ensures,
+      c .before .whole-in-table .ensures,
       eq-eqb (a .s .fault .number) 0 (t .before .before .before .if1 .left),
       le-ltb (length (now (a .work))) (total (a .s .size .rows) (a .s .size .cols)) (enough t),
       sym (t .fits2 .ensures) ∙ w .before .before .before .if3 .taken,
@@ -94,7 +94,7 @@ tell-spec =
     returns-2
     (λ c κs. search needs)
     fill-from-requires
-    whole-sheet-requires
+    whole-in-table-requires
     (λ c κs. search needs)
     (λ c. search needs)
     returns-3

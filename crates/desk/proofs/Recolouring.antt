@@ -26,10 +26,10 @@ use Rattle.books.proofs.LentEnds.{Refusal, in-sheet, refused-so, both-go-on}
 use Rattle.books.proofs.Presses.{greatest-few}
 use Rattle.books.proofs.ReadingSheets.{sheet-lies}
 use Rattle.books.proofs.SizesWithin.{within-more}
 use Rattle.pieces.specs.Derivation.{entriesNeeded}
 use Rattle.pieces.specs.Most.{most}
-use Rattle.pieces.specs.Recolour.{has?, sheetWith, Recolouring, untouched, recast, recolouring}
-use Rattle.pieces.specs.inner.Refill.{lackingFor}
+use Rattle.desk.specs.Recolour.{has?, sheetWith, Recolouring, untouched, recast, recolouring}
+use Rattle.desk.specs.inner.ForCell.{lackingFor}
 
 -- ── What the sheet has ──
 

@@ -4,8 +4,8 @@ use borrow.Author.Tests.{lt-ltb, le-ltb}
 use Rattle.names.specs.Pick.{andThen}
 use Rattle.pieces.specs.inner.Refill.{further?}
 use borrow.Author.Needs.{needs}
-use Rattle.pieces.proofs.recolour.further.Statement.{statement}
-use Rattle.pieces.proofs.recolour.further.Tie as tie
+use Rattle.pieces.proofs.refill.further.Statement.{statement}
+use Rattle.pieces.proofs.refill.further.Tie as tie
 
 returns : tie.Need-returns
 unfolding further? andThen

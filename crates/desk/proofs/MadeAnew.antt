@@ -3,7 +3,7 @@
 use Prim.Native.Nat.{ℕ, _+_, _*_, _<_}
 use mathlib.Core.Path.{_≡_, sym, ap, ap₂, _∙_}
 use mathlib.Core.List.{List}
-use mathlib.Core.Logic.{_⊎_, ⊎-elim}
+use mathlib.Core.Logic.{⊎-elim}
 use native.Mathlib.Omega.{arith}
 use borrow.Author.Tests.{eqb-true, eqb-false}
 use lib.Dec.{eqb}
@@ -20,24 +20,25 @@ use Rattle.books.specs.Picture.{Picture}
 use Rattle.books.specs.Sheet.{sheetOf}
 use Rattle.books.proofs.NumberedCells.{numbers-for}
 use Rattle.books.proofs.ReadingBooks.{book-places}
 use Rattle.pieces.specs.Asking.{SplitFrom}
 use Rattle.pieces.specs.Firing.{joinsFired}
 use Rattle.pieces.specs.Filling.{entryOf}
 use Rattle.pieces.specs.Masks.{paintersFrom}
 use Rattle.pieces.specs.Pieces.{piece, Inside}
 use Rattle.pieces.specs.Rights.{Serves}
-use Rattle.pieces.specs.Recolour.{sheetWith, HasCell, ruled, refilled}
+use Rattle.pieces.specs.Refill.{HasCell, refilled, dueBy}
 use Rattle.pieces.specs.Table.{cut, entry}
 use Rattle.pieces.specs.declared.asking.Split.{Split}
 use Rattle.pieces.specs.declared.piece.Piece.{Piece}
-use Rattle.pieces.specs.inner.Refill.{dueBy, paintersOf}
 use Rattle.pieces.proofs.AcceptedInputs.{as-read, cells-numbered}
 use Rattle.pieces.proofs.AskingSheets.{book-serves}
-use Rattle.pieces.proofs.OneCell.{still-bytes, still-fine, contents-with}
 use Rattle.pieces.proofs.Refilled.{refilled-same}
-use Rattle.pieces.proofs.Ruled.{joined-ruled, cell-ruled}
 use Rattle.pieces.proofs.WholeTable.{AsRead, painted-entry}
-use Rattle.pieces.proofs.Recolouring.{Has}
+use Rattle.desk.specs.Recolour.{sheetWith, ruled}
+use Rattle.desk.specs.inner.ForCell.{paintersOf}
+use Rattle.desk.proofs.OneCell.{still-bytes, still-fine, contents-with}
+use Rattle.desk.proofs.Ruled.{joined-ruled, cell-ruled}
+use Rattle.desk.proofs.Recolouring.{Has}
 
 module _ (press : ℕ) (book sheet : List ℕ) (bytes-book : Bytes book) (bytes-sheet : Bytes sheet) (book-fine : bookOf book .fault .number ≡ 0)
     (sheet-fine : sheetOf press sheet .fault .number ≡ 0) (row column colour : ℕ)

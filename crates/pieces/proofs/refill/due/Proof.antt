@@ -3,12 +3,12 @@ use Prim.Native.Nat.{_+_}
 use mathlib.Core.Path.{ap}
 use native.Mathlib.Omega.{arith}
 use borrow.Author.Tests.{eq-eqb, ne-eqb}
-use Rattle.pieces.specs.inner.Refill.{dueBy}
+use Rattle.pieces.specs.Refill.{dueBy}
 use Rattle.pieces.specs.declared.masks.Joined.{Joined}
 use Rattle.pieces.proofs.AllCuts.{few-tried}
 use borrow.Author.Needs.{needs}
-use Rattle.pieces.proofs.recolour.due.Statement.{statement}
-use Rattle.pieces.proofs.recolour.due.Tie as tie
+use Rattle.pieces.proofs.refill.due.Statement.{statement}
+use Rattle.pieces.proofs.refill.due.Tie as tie
 
 returns : tie.Need-returns
 unfolding dueBy

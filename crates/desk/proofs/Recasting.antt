@@ -2,7 +2,9 @@
 -- what each call ensures is taken as it is.
 use Prim.Native.Nat.{ℕ, _+_, _*_, _≤_, _<_}
 use mathlib.Core.Path.{_≡_, refl, sym, ap, ap₂, _∙_}
+use mathlib.Core.Bool.{true}
 use mathlib.Core.List.{List}
+use native.Mathlib.Nat.{le-trans, le-of-eq}
 use native.Mathlib.Omega.{arith}
 use borrow.Author.Tests.{le-ltb}
 use lib.ListN.{length, replicate}
@@ -18,22 +20,24 @@ use Rattle.books.specs.declared.sheet.SheetFigures.{SheetFigures}
 use Rattle.books.proofs.Presses.{greatest-few}
 use Rattle.books.proofs.ReadingSheets.{sheet-lies}
 use Rattle.books.proofs.SizesWithin.{within-more}
-use Rattle.pieces.specs.Asking.{keptWith, splitBook, startAnswer, SplitFrom}
+use Rattle.pieces.specs.Asking.{keptWith, splitBook, startAnswer, wholeAnswer, SplitFrom}
 use Rattle.pieces.specs.Derivation.{entriesNeeded}
-use Rattle.pieces.specs.Firing.{joinsFired}
+use Rattle.pieces.specs.Firing.{joinsFired, fitting}
 use Rattle.pieces.specs.Masks.{allMasks}
 use Rattle.pieces.specs.Most.{most}
 use Rattle.pieces.specs.Pieces.{total}
-use Rattle.pieces.specs.Recolour.{withCell, sheetWith, refilled, recast, recolouring, Recolours}
+use Rattle.pieces.specs.Refill.{refilled, dueBy, refills?, refilledBy}
 use Rattle.pieces.specs.declared.asking.Split.{Split}
-use Rattle.pieces.specs.inner.ForTable.{MasksFit, TableDue}
-use Rattle.pieces.specs.inner.Refill.{dueBy, paintersOf, lackingFor, CellDue, PaintersDue}
 use Rattle.pieces.proofs.AskingSheets.{kept-fault, kept-start, kept-colours, kept-from, book-serves}
 use Rattle.pieces.proofs.CellsFirst.{cell-before}
-use Rattle.pieces.proofs.OneCell.{cells-inside}
-use Rattle.pieces.proofs.MadeAnew.{left-fine, same-rows, same-cols, made}
-use Rattle.pieces.proofs.Recolouring.{Has, it-has, nothing-lacks, recast-last}
-use Rattle.pieces.proofs.ServingMasks.{fitting-fit}
+use Rattle.pieces.proofs.LookedThrough.{room-fits, whole-in}
+use Rattle.pieces.proofs.RefilledBy.{refills-exactly, all-made}
+use Rattle.pieces.proofs.ServingMasks.{fitting-all}
+use Rattle.desk.specs.Recolour.{withCell, sheetWith, recast, recolouring, Recolours}
+use Rattle.desk.specs.inner.ForCell.{paintersOf, lackingFor, CellDue, PaintersDue}
+use Rattle.desk.proofs.OneCell.{cells-inside}
+use Rattle.desk.proofs.MadeAnew.{left-fine, same-rows, same-cols, made}
+use Rattle.desk.proofs.Recolouring.{Has, it-has, nothing-lacks, recast-last}
 
 -- what is known where the book was split and the sheet read, and nothing lacks
 pub record Known (press : ℕ) (book sheet entries : List ℕ) (row column colour : ℕ) (split : Split) (masks : List ℕ) (g : SheetFigures) : Type 0 where
@@ -64,20 +68,20 @@ module _ {press : ℕ} {book sheet entries : List ℕ} {row column colour : ℕ}
   from : SplitFrom book split masks
   from = kept-from book _ (known .kept) (known .book-ok) refl
 
-  pub sizes : Within most (g .size .rows) (g .size .cols)
+  sizes : Within most (g .size .rows) (g .size .cols)
   sizes = rw is (within-more (greatest-few press) (sheet-lies press sheet sheet-fine .within))
 
-  pub row-on : row < g .size .rows
+  row-on : row < g .size .rows
   row-on = rw is (enough .0 .row-on)
 
-  pub column-on : column < g .size .cols
+  column-on : column < g .size .cols
   column-on = rw is (enough .0 .column-on)
 
-  pub room : total (g .size .rows) (g .size .cols) ≤ length entries
+  room : total (g .size .rows) (g .size .cols) ≤ length entries
   room = rw is (enough .1)
 
-  pub fit : MasksFit (length masks) (split .joins)
-  fit = fitting-fit _ _ (book-serves book split masks from .fits)
+  fits : fitting (length masks) (split .joins) ≡ true
+  fits = book-serves book split masks from .fits
 
   pub cell-due : CellDue (g .size) (length sheet) row column colour
   cell-due =
@@ -90,8 +94,8 @@ module _ {press : ℕ} {book sheet entries : List ℕ} {row column colour : ℕ}
         byte = omega (arith, few, enough .0 .colour-in);
       }
 
-  pub table-due : TableDue (g .size) entries (length masks) (split .joins)
-  table-due = record { tabled = record { sizes = sizes; entries = room }; fit = fit }
+  all-fit : refills? (g .size) (length entries) (length masks) (split .joins) row column ≡ true
+  all-fit = refills-exactly _ _ _ _ _ _ .1 (record { sizes = sizes; room = room; fits = fits; row-on = row-on; column-on = column-on })
 
   module _ {changed : List ℕ} (put : changed ≡ withCell sheet (g .size) row column colour) {at : ℕ} (placed : at ≡ row * g .size .cols + column) where
     is-left : changed ≡ sheetWith press sheet row column colour
@@ -105,23 +109,23 @@ module _ {press : ℕ} {book sheet entries : List ℕ} {row column colour : ℕ}
         rw (is-left, placed, is)
         (record {
           accepted = fine;
-          fit = fit .all;
+          fit = fitting-all _ _ fits;
           cell = rw (rows, cols) (cell-before (sheetOf press sheet .sheet .size .rows) (sheetOf press sheet .sheet .size .cols) row column (enough .0 .row-on) (enough .0 .column-on));
         })
 
     pub recast-as : {x : ℕ} → x ≡ paintersOf press book (split .colours) masks changed at
-        → {t : List ℕ} → t ≡ refilled (dueBy (joinsFired masks (split .joins)) x (g .size .rows) (g .size .cols)) (g .size .rows) (g .size .cols) row column entries
-        → {r : Answer} → r ≡ plain (startAnswer (g .size .rows) (g .size .cols) t (split .start))
+        → {t : List ℕ} → length t ≡ length entries → t ≡ refilledBy masks (split .joins) (g .size) row column x entries
+        → {r : Answer} → r ≡ plain (wholeAnswer (g .size .rows) (g .size .cols) t (split .start))
         → Recolours (recolouring press book sheet entries row column colour) r changed t
     unfolding recast
-    recast-as painted {t} filled told =
+    recast-as {x} painted {t} sized filled told =
         let last = recast-last press book sheet entries row column colour book-fine sheet-fine (it-has _ _ row column colour (enough .0))
         (le-ltb (length entries) (entriesNeeded (pictureOf press sheet)) (enough .1)) in
         let p = pictureOf press (sheetWith press sheet row column colour) in
         let rows = same-rows press book sheet (known .bytes-book) (known .bytes-sheet) book-fine sheet-fine row column colour (enough .0) in
         let cols = same-cols press book sheet (known .bytes-book) (known .bytes-sheet) book-fine sheet-fine row column colour (enough .0) in
         let paint = painted ∙ ap₂ (paintersOf press book (split .colours) masks) is-left (placed ∙ ap (λ (f : SheetFigures). row * f .size .cols + column) is) in
-        let work = filled
+        let work = filled ∙ all-made masks (split .joins) (g .size) row column x entries all-fit
         ∙ ap₂ (λ (z : ℕ) (f : SheetFigures).
         refilled (dueBy (joinsFired masks (split .joins)) z (f .size .rows) (f .size .cols)) (f .size .rows) (f .size .cols) row column entries) paint is
         ∙ made press book sheet (known .bytes-book) (known .bytes-sheet) book-fine sheet-fine row column colour (enough .0) split masks from (kept-colours book _ (known .kept)) entries in
@@ -129,6 +133,7 @@ module _ {press : ℕ} {book sheet entries : List ℕ} {row column colour : ℕ}
         (record {
           answers =
               told
+              ∙ ap plain (whole-in t (split .start) (g .size .rows) (g .size .cols) (room-fits _ _ _ sizes (le-trans room (le-of-eq (sym sized)))))
               ∙ ap (λ (f : SheetFigures). plain (startAnswer (f .size .rows) (f .size .cols) t (split .start))) is
               ∙ ap₂ (λ (m n : ℕ). plain (startAnswer m n t (split .start))) (sym rows) (sym cols)
               ∙ ap₂ (λ (w : List ℕ) (a : ℕ). plain (startAnswer (p .rows) (p .cols) w a)) work (kept-start book _ (known .kept));

@@ -1,13 +1,15 @@
 -- The tests are those of the definition, one after the other.
+use mathlib.Core.Path.{sym, _∙_}
 use native.Mathlib.Omega.{arith}
 use borrow.Author.Tests.{lt-ltb, le-ltb}
 use Rattle.names.specs.Pick.{andThen}
 use Rattle.pieces.specs.Pieces.{total}
-use Rattle.pieces.specs.Recolour.{has?}
-use Rattle.pieces.specs.inner.Refill.{lackingFor}
+use Rattle.pieces.proofs.LookedThrough.{fits-room, too-short}
+use Rattle.desk.specs.Recolour.{has?}
+use Rattle.desk.specs.inner.ForCell.{lackingFor}
 use borrow.Author.Needs.{needs}
-use Rattle.pieces.proofs.recolour.lack.Statement.{statement}
-use Rattle.pieces.proofs.recolour.lack.Tie as tie
+use Rattle.desk.proofs.recolour.lack.Statement.{statement}
+use Rattle.desk.proofs.recolour.lack.Tie as tie
 
 returns : tie.Need-returns
 unfolding lackingFor has? andThen
@@ -35,11 +37,12 @@ returns-4 c =
     let l = k .before .before in
     let r = l .before .before in
     let a = r .before .before .args in
+    let (_, room) = fits-room (a .size .rows) (a .size .cols) (a .entries) (sym (k .fits-table .ensures) ∙ c .if4 .taken) in
     rw (
       lt-ltb (a .row) (a .size .rows) (omega (arith, r .if1 .left)),
       lt-ltb (a .column) (a .size .cols) (omega (arith, l .if2 .left)),
       lt-ltb (a .colour) (a .colours) (omega (arith, k .before .if3 .left)),
-      lt-ltb (a .entries) (total (a .size .rows) (a .size .cols)) (rw (k .count .ensures .0) at (c .if4 .taken)),
+      le-ltb (a .entries) (total (a .size .rows) (a .size .cols)) room,
     )
 
 returns-5 : tie.Need-returns-5
@@ -48,12 +51,13 @@ returns-5 c =
     let k = c .before in
     let l = k .before .before in
     let r = l .before .before in
-    let a = r .before .before .args in
+    let s = r .before .before in
+    let a = s .args in
     rw (
       lt-ltb (a .row) (a .size .rows) (omega (arith, r .if1 .left)),
       lt-ltb (a .column) (a .size .cols) (omega (arith, l .if2 .left)),
       lt-ltb (a .colour) (a .colours) (omega (arith, k .before .if3 .left)),
-      le-ltb (a .entries) (total (a .size .rows) (a .size .cols)) (rw (k .count .ensures .0) at (c .if4 .left)),
+      lt-ltb (a .entries) (total (a .size .rows) (a .size .cols)) (too-short _ _ _ (s .pre) (sym (k .fits-table .ensures) ∙ c .if4 .left)),
     )
 
 pub lack-spec : {M : Type 1} → statement M

@@ -9,11 +9,11 @@ use Rattle.names.specs.Spelling.{mostColours}
 use Rattle.books.specs.Size.{room}
 use Rattle.books.proofs.NumberedCells.{numbers-fresh, numbers-few}
 use Rattle.books.proofs.ReadingSheets.{sheet-lies}
 use Rattle.pieces.specs.Masks.{paintersFrom}
-use Rattle.pieces.specs.inner.Refill.{paintersOf}
+use Rattle.desk.specs.inner.ForCell.{paintersOf}
 use borrow.Author.Needs.{needs}
-use Rattle.pieces.proofs.recolour.painters.Statement.{statement}
-use Rattle.pieces.proofs.recolour.painters.Tie as tie
+use Rattle.desk.proofs.recolour.painters.Statement.{statement}
+use Rattle.desk.proofs.recolour.painters.Tie as tie
 
 -- After the sheet was numbered: where the call began, and the numbers.
 abbrev began : tie.After-number-sheet → tie.Start

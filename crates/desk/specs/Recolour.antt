@@ -1,10 +1,10 @@
--- One cell of a sheet recoloured: its byte is changed, and the entries of the pieces that have the cell are made anew, smaller pieces first, each from the
--- entries of its parts as they then stand.
-use Prim.Native.Nat.{ℕ, _+_, _-_, _*_, _≤_, _<_}
+-- One cell of a sheet recoloured: its byte is changed, and the entries of the pieces that have the cell are made anew by what the rules give each by the entries
+-- of its parts as they then stand.
+use Prim.Native.Nat.{ℕ, _+_, _-_, _*_}
 use mathlib.Core.Path.{_≡_}
 use mathlib.Core.Bool.{Bool}
-use mathlib.Core.List.{List, [], _∷_}
-use lib.Dec.{leb, ltb}
+use mathlib.Core.List.{List}
+use lib.Dec.{ltb}
 use lib.ListN.{length, set}
 use Rattle.names.specs.Bits.{bits}
 use Rattle.names.specs.Pick.{pick, andThen}
@@ -16,13 +16,13 @@ use Rattle.books.specs.Answer.{plain, packed}
 use Rattle.books.specs.declared.answer.Answer.{Answer}
 use Rattle.books.specs.declared.rule.Rule.{Rule}
 use Rattle.books.specs.declared.size.Size.{Size}
 use Rattle.pieces.specs.declared.piece.Piece.{Piece}
-use Rattle.pieces.specs.Pieces.{pieces, slotOf}
 use Rattle.pieces.specs.View.{View, named}
 use Rattle.pieces.specs.Choice.{lowest}
 use Rattle.pieces.specs.Largest.{marked}
 use Rattle.pieces.specs.Derivation.{entriesNeeded}
 use Rattle.pieces.specs.Asking.{startAnswer}
+use Rattle.pieces.specs.Refill.{refilled}
 
 -- ── The cell ──
 
@@ -41,20 +41,6 @@ withCell sheet s row column colour = set sheet (cellPlace (length sheet) s row c
 abbrev pub sheetWith : ℕ → List ℕ → ℕ → ℕ → ℕ → List ℕ
 sheetWith press sheet row column colour = withCell sheet (sheetOf press sheet .sheet .size) row column colour
 
--- a piece has the cell
-pub record HasCell (row column : ℕ) (q : Piece) : Type 0 where
-  pub from-top : q .top ≤ row
-  pub upto-bottom : row < q .top + q .height
-  pub from-left : q .left ≤ column
-  pub upto-right : column < q .left + q .width
-
--- the test for that
-unfoldable pub spans? : ℕ → ℕ → ℕ → Bool
-spans? from long cell = andThen (leb from cell) (λ _. ltb cell (from + long))
-
-unfoldable pub hasCell? : ℕ → ℕ → Piece → Bool
-hasCell? row column q = andThen (spans? (q .top) (q .height) row) (λ _. spans? (q .left) (q .width) column)
-
 -- ── The entries ──
 
 -- what tells of a piece: the bits of a slice for its parts, and the picture for its cell
@@ -68,15 +54,6 @@ someFits? v rules a q = ltb (lowest v rules a q) (length rules)
 -- the motifs with such a rule
 unfoldable pub ruled : Contents → Picture → List ℕ → Piece → ℕ
 ruled b p t q = bits (b .motifs) (λ a. someFits? (viewOf b p t) (b .rules) a q)
-
--- of these pieces those that are chosen get the entries due to them, one after the other
-unfoldable pub refilledFrom : (List ℕ → Piece → ℕ) → ℕ → ℕ → (Piece → Bool) → List Piece → List ℕ → List ℕ
-refilledFrom due m n chosen [] t = t
-refilledFrom due m n chosen (q ∷ qs) t = refilledFrom due m n chosen qs (pick (chosen q) (set t (slotOf m n q) (due t q)) t)
-
--- the pieces that have the cell, in the order of the table: the parts of a piece stand before it
-unfoldable pub refilled : (List ℕ → Piece → ℕ) → ℕ → ℕ → ℕ → ℕ → List ℕ → List ℕ
-refilled due m n row column t = refilledFrom due m n (hasCell? row column) (pieces m n) t
 
 -- ── The outcome ──
 

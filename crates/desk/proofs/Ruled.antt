@@ -20,24 +20,24 @@ use Rattle.books.specs.declared.rule.Dir.the-variants.{Across as across, Down a
 use Rattle.books.specs.declared.rule.Body.{Body}
 use Rattle.books.specs.declared.rule.Body.the-variants.{Colour, Across, Down}
 use Rattle.books.proofs.Deciding.{called}
 use Rattle.pieces.specs.declared.piece.Piece.{Piece}
 use Rattle.pieces.specs.Pieces.{Inside, slotOf}
 use Rattle.pieces.specs.Parts.{reach, firstPart, restPart}
 use Rattle.pieces.specs.Table.{cut, entry}
 use Rattle.pieces.specs.View.{View}
 use Rattle.pieces.specs.Given.{Able}
 use Rattle.pieces.specs.Largest.{marked}
 use Rattle.pieces.specs.Filling.{at, cutsOf, pieceCuts, entryOf}
 use Rattle.pieces.specs.Rights.{Fires}
-use Rattle.pieces.specs.Recolour.{viewOf, someFits?, ruled}
-use Rattle.pieces.specs.inner.Fitted.{BothSet, Suits, SomeFits}
+use Rattle.pieces.specs.Suiting.{BothSet, Suits, SomeFits}
 use Rattle.pieces.proofs.Choosing.{some-found}
 use Rattle.pieces.proofs.Entries.{bits-has, has-bits, entry-derives, derives-entry}
 use Rattle.pieces.proofs.ExactViews.{motif-below}
 use Rattle.pieces.proofs.FilledTable.{right-entry}
 use Rattle.pieces.proofs.Gathered.{gathered-has, has-gathered}
 use Rattle.pieces.proofs.Giving.{has-at, at-has, derives-able}
 use Rattle.pieces.proofs.PartsOfPieces.{first-before, rest-before}
+use Rattle.desk.specs.Recolour.{viewOf, someFits?, ruled}
 
 -- ── A join suits a piece where some cut has both bits ──
 

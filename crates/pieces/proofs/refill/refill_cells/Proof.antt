@@ -6,14 +6,13 @@ use native.Mathlib.Omega.{arith}
 use lib.ListN.{length, length-set}
 use Rattle.pieces.specs.Pieces.{Inside, total, slotOf}
 use Rattle.pieces.specs.Firing.{joinsFired}
-use Rattle.pieces.specs.Recolour.{HasCell, hasCell?, refilled}
-use Rattle.pieces.specs.inner.Refill.{dueBy}
+use Rattle.pieces.specs.Refill.{HasCell, hasCell?, refilled, dueBy}
 use Rattle.pieces.specs.declared.piece.Piece.{Piece}
 use Rattle.pieces.proofs.Passing.{left-from, cell-on, cell-has, passing-starts, passing-goes}
 use Rattle.pieces.proofs.Refilled.{all-refilled}
 use borrow.Author.Needs.{needs}
-use Rattle.pieces.proofs.recolour.refill.Statement.{statement}
-use Rattle.pieces.proofs.recolour.refill.Tie as tie
+use Rattle.pieces.proofs.refill.refill_cells.Statement.{statement}
+use Rattle.pieces.proofs.refill.refill_cells.Tie as tie
 
 -- p is the piece that is due, or one taller than the sheet where none is
 record Refilling (due : List ℕ → Piece → ℕ) (m n row column : ℕ) (row-on : row < m) (column-on : column < n) (before t : List ℕ) (p : Piece) : Type 0 where
@@ -122,8 +121,8 @@ returns c =
     (f .ended (c .if1 .left)))
     ∙ f .left
 
-pub refill-spec : {M : Type 1} → statement M
-refill-spec =
+pub refill-cells-spec : {M : Type 1} → statement M
+refill-cells-spec =
     tie.close
     (tie.spec
     Inv-loop

@@ -2,8 +2,8 @@
 use mathlib.Core.Path.{sym, _∙_}
 use Rattle.pieces.proofs.NextWith.{one-right, next-row, next-width, next-height}
 use borrow.Author.Needs.{needs}
-use Rattle.pieces.proofs.recolour.next_with.Statement.{statement}
-use Rattle.pieces.proofs.recolour.next_with.Tie as tie
+use Rattle.pieces.proofs.refill.next_with.Statement.{statement}
+use Rattle.pieces.proofs.refill.next_with.Tie as tie
 
 returns : tie.Need-returns
 returns c =

@@ -1,6 +1,5 @@
 -- 21 is answered where there is no such press, a book or a sheet with a fault is answered with it, what the sheet or the slice lacks with that, and else what the masks make anew is the outcome.
 use mathlib.Core.Path.{_≡_, refl, sym, ap, _∙_}
-use native.Mathlib.Nat.{le-trans, le-of-eq}
 use native.Mathlib.Omega.{arith}
 use denote.Ref.{now}
 use Rattle.names.specs.Bytes.{Bytes}
@@ -9,12 +8,12 @@ use Rattle.books.specs.Answer.{plain, blaming}
 use Rattle.books.specs.Book.{bookOf}
 use Rattle.books.specs.Press.{IsPress}
 use Rattle.books.proofs.LentEnds.{no-press, in-book}
 use Rattle.pieces.proofs.AskingSheets.{kept-fault}
-use Rattle.pieces.proofs.Recolouring.{refused-first, read-blamed, read-lacks, read-within}
-use Rattle.pieces.proofs.Recasting.{Known, cell-due, table-due, row-on, column-on, painters-due, recast-as}
+use Rattle.desk.proofs.Recolouring.{refused-first, read-blamed, read-lacks, read-within}
+use Rattle.desk.proofs.Recasting.{Known, cell-due, painters-due, recast-as}
 use borrow.Author.Needs.{needs}
-use Rattle.pieces.proofs.recolour.recolour.Statement.{statement}
-use Rattle.pieces.proofs.recolour.recolour.Tie as tie
+use Rattle.desk.proofs.recolour.recolour.Statement.{statement}
+use Rattle.desk.proofs.recolour.recolour.Tie as tie
 
 -- Back from a call to the one before it: the book split, the sheet read, both held to what is asked, the cell put, its painters found, the entries made anew.
 abbrev began : tie.After-split-book → tie.Start
@@ -62,7 +61,8 @@ returns-2 c =
     let k = c .before .before .before .before in
     let a = began k .args in
     let same = kept-fault (now (a .book)) _ (k .split-book .ensures) in
-    rw (refused-first (a .press) (now (a .book)) (now (a .sheet)) (now (a .work)) (a .row) (a .column) (a .colour) (in-book (on-press k) (λ z. c .before .if2 .taken (ap (λ (x : Fault). x .number) same ∙ z))))
+    rw (refused-first (a .press) (now (a .book)) (now (a .sheet)) (now (a .work)) (a .row) (a .column) (a .colour)
+    (in-book (on-press k) (λ z. c .before .if2 .taken (ap (λ (x : Fault). x .number) same ∙ z))))
     (record { answers = c .blame .ensures ∙ ap (blaming 1) same; leaves-sheet = refl; leaves-work = refl })
 
 returns-3 : tie.Need-returns-3
@@ -114,26 +114,13 @@ painters-requires c κs =
     let u = c .before .before .before .before in
     painters-due (known (tested u) (u .before .before .if4 .left)) (u .put-cell .ensures .1) (u .put-cell .ensures .0)
 
-refill-requires : tie.Need-refill-requires
-refill-requires c κs =
-    let u = cell-put (c .before .before) in
-    let all = known (tested u) (u .before .before .if4 .left) in
-    (table-due all, row-on all, column-on all)
-
-whole-sheet-requires : tie.Need-whole-sheet-requires
-whole-sheet-requires c κs =
-    let w = c .before .before .before in
-    let u = cell-put (painted w) in
-    let due = table-due (known (tested u) (u .before .before .if4 .left)) in
-    record { sizes = due .tabled .sizes; entries = le-trans (due .tabled .entries) (le-of-eq (sym (w .refill .kept .0))) }
-
 returns-5 : tie.Need-returns-5
 returns-5 c =
     let v = c .before in
     let w = v .before .before .before .before in
     let x = painted w in
     let u = cell-put x in
-    recast-as (known (tested u) (u .before .before .if4 .left)) (u .put-cell .ensures .1) (u .put-cell .ensures .0) (x .painters .ensures) (w .refill .ensures)
+    recast-as (known (tested u) (u .before .before .if4 .left)) (u .put-cell .ensures .1) (u .put-cell .ensures .0) (x .painters .ensures) (w .refill .kept .0) (w .refill .ensures)
     (c .unblamed3 .ensures ∙ ap plain (v .whole-sheet .ensures))
 
 pub recolour-spec : {M : Type 1} → statement M
@@ -158,8 +145,8 @@ recolour-spec =
     (λ c. search needs)
     painters-requires
     (λ c. search needs)
-    refill-requires
-    whole-sheet-requires
+    (λ c κs. search needs)
+    (λ c κs. search needs)
     (λ c κs. search needs)
     (λ c. search needs)
     (λ c. search needs)

@@ -23,12 +23,13 @@ use Rattle.books.specs.Sheet.{sheetOf}
 use Rattle.books.specs.Size.{sizeBy}
 use Rattle.books.specs.SpellSheet.{spellCells, spellSheet}
 use Rattle.books.proofs.SpellingSheets.{sheet-accepted, sheet-read-back}
 use Rattle.pieces.specs.Pieces.{piece, Inside}
 use Rattle.pieces.specs.Table.{cut}
-use Rattle.pieces.specs.Recolour.{withCell, sheetWith, HasCell}
+use Rattle.pieces.specs.Refill.{HasCell}
 use Rattle.pieces.specs.declared.piece.Piece.{Piece}
 use Rattle.pieces.proofs.CellsFirst.{slot-cell, cell-before}
 use Rattle.pieces.proofs.Slots.{slot-inj}
+use Rattle.desk.specs.Recolour.{withCell, sheetWith}
 
 -- ── The spelling of a sheet ends with its cells ──
 
