@@ -19,6 +19,12 @@ static void look_up(const struct engine *timed, const struct task *task)
     timed->rule(task->first.at, task->first.length, DV_MOST_RULES - 1);
 }
 
+// The last cell: the sheet is read whole whichever it is.
+static void look_at_cell(const struct engine *timed, const struct task *task)
+{
+    timed->cell(task->press, task->second.at, task->second.length, DV_MOST_ROWS - 1, DV_MOST_COLUMNS - 1);
+}
+
 static void measure_longest_book(void)
 {
     struct task task = {.call = read_book, .unit = "a call", .units = 1};
@@ -56,6 +62,8 @@ static void measure_stems(void)
     measure_line("reading a book, 64 names with a stem of 38", &task);
     task.call = read_sheet;
     measure_line("reading a sheet, 144 cells in 64 such colours", &task);
+    task.call = look_at_cell;
+    measure_line("looking up a cell of it", &task);
     task.call = derive;
     measure_line("reading both and numbering the cells by the book", &task);
     task.call = make;

@@ -1,5 +1,5 @@
--- One cell of a sheet recoloured: its byte is changed, and the entries of the pieces that have the cell are made anew by what the rules give each by the entries
--- of its parts as they then stand.
+-- One cell of a sheet recoloured: its byte is changed, and the entries of the pieces that have the cell are made anew, each by what the rules give it by
+-- the entries of its parts as they then stand.
 use Prim.Native.Nat.{ℕ, _+_, _-_, _*_}
 use mathlib.Core.Path.{_≡_}
 use mathlib.Core.Bool.{Bool}

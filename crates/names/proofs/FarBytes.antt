@@ -6,10 +6,10 @@ use mathlib.Core.Bool.{Bool, true, false}
 use mathlib.Core.List.{List, _∷_, _++_}
 use native.Mathlib.Omega.{arith}
 use borrow.Author.Tests.{lt-leb, eqb-true}
-use lib.Dec.{eqb}
+use lib.Dec.{eqb, ltb}
 use lib.ListN.{length, take, drop, length-append, length-drop, List·getD-append}
 use lib.Seq.{take-append-le, drop-append-le}
-use Rattle.names.specs.Pick.{pick}
+use Rattle.names.specs.Pick.{pick, fault}
 use Rattle.names.specs.Onward.{onward, faultless}
 use Rattle.names.specs.Number.{longerAt, numberAt, numberIn, numberBelow}
 use Rattle.names.specs.Name.{Name, nameFrom, nameOf}
@@ -23,6 +23,7 @@ use Rattle.names.specs.declared.name.NameRead.the-variants.{Whole, Ends,
 use Rattle.names.specs.declared.colour.ColourRead.{ColourRead}
 use Rattle.names.specs.declared.colour.ColourRead.the-variants.{At, Refused as RefusedColour}
 use Rattle.names.specs.declared.colours.Colours.{Colours}
+use Rattle.names.specs.declared.colours.ColoursRead.{ColoursRead}
 use Rattle.names.proofs.ReadingNumbers.{number-in}
 use Rattle.names.proofs.ReadingNames.{name-ends}
 use Rattle.names.proofs.ReadingColours.{colourSpan, listSpan, Places, places-none, places-with, colour-lies}
@@ -137,10 +138,9 @@ module _ (t u : List ℕ) where
       (λ start len e.
       let l = colour-lies t at start len e in
       let room : c .count < mostColours = omega arith in
-      rw (
-        find-far c start len g (l .inside),
-        colours-from-far k (withColour c start len) (start + len) (places-with t c start len g room (l .inside)) (omega arith) (omega (arith, l .near, l .high)),
-      ))
+      ap₂ (λ (i : ℕ) (x : ColoursRead). pick (ltb i (c .count)) (refusedColours (fault 5 start)) x)
+      (find-far c start len g (l .inside))
+      (colours-from-far k (withColour c start len) (start + len) (places-with t c start len g room (l .inside)) (omega arith) (omega (arith, l .near, l .high))))
 
   pub colours-far : listSpan < length t → coloursOf (t ++ u) ≡ coloursOf t
   unfolding coloursOf

@@ -49,7 +49,7 @@ pub(crate) fn write_card(
     most: usize,
     card: &mut [u32],
 ) -> usize
-    requires { ⌜ (1 ≤ most) × CardDue most room start (length (now card)) ⌝ }
+    requires { ⌜ CardDue most room start (length (now card)) ⌝ }
     ensures { λ n. ⌜ RowsWrote (rowsOf (tableBy (now (masks .entry)) joins most (most * most)) most start most)
         (now (card .entry)) n (now (card .exit)) ⌝ }
 {

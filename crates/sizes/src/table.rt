@@ -3,11 +3,12 @@ use books::rule::Dir;
 use pieces::masks;
 use pieces::masks::Joins;
 ghost use mathlib.Core.Path.{_≡_};
-ghost use Prim.Native.Nat.{_+_, _*_, _≤_, _<_};
+ghost use Prim.Native.Nat.{_+_, _*_, _<_};
 ghost use lib.ListN.{length};
 ghost use Rattle.pieces.specs.Firing.{fireOf, paintedOf};
 ghost use Rattle.sizes.specs.Table.{slotSize, entryOf, sizesBy};
 ghost use Rattle.sizes.specs.inner.Along.{along};
+ghost use Rattle.sizes.specs.inner.Entries.{SlotDue, FillDue};
 
 // Every join of one direction at every cut of a size: from cut to cut the first part goes on from its first entry, and the second back from the entry due.
 fn along(
@@ -36,7 +37,7 @@ fn along(
 
 // The entry of a size of more than 1 by 1, from the entries of its parts.
 fn entry_at(sizes: &[u32], masks: &[u32], joins: Joins, cols: usize, due: usize) -> u32
-    requires { ⌜ (1 ≤ cols) × (due < length (now sizes)) ⌝ }
+    requires { ⌜ SlotDue cols due (length (now sizes)) ⌝ }
     ensures { λ x. ⌜ x ≡ entryOf (fireOf (now (masks .entry)) joins) cols (now (sizes .entry)) (slotSize cols due) ⌝ }
 {
     let row = due / cols;
@@ -48,7 +49,7 @@ fn entry_at(sizes: &[u32], masks: &[u32], joins: Joins, cols: usize, due: usize)
 
 // The entries before a slot: 1 by 1 has the painters, and every other size what the joins make of the entries before it.
 pub(crate) fn fill(sizes: &mut [u32], masks: &[u32], joins: Joins, cols: usize, end: usize)
-    requires { ⌜ (1 ≤ cols) × (1 ≤ end) × (end ≤ length (now sizes)) ⌝ }
+    requires { ⌜ FillDue cols end (length (now sizes)) ⌝ }
     ensures { λ _. ⌜ now (sizes .exit) ≡ sizesBy (fireOf (now (masks .entry)) joins) (paintedOf (now (masks .entry))) cols end (now (sizes .entry)) ⌝ }
 {
     sizes[0] = masks::painted(masks);

@@ -18,6 +18,17 @@ pub record OfTable (n : ℕ) (s : Size) : Type 0 where
   pub cols-some : 1 ≤ s .cols
   pub cols-few : s .cols ≤ n
 
+-- the entry of a slot asks for some columns, and that the array has the slot
+pub record SlotDue (cols due entries : ℕ) : Type 0 where
+  pub cols-some : 1 ≤ cols
+  pub below : due < entries
+
+-- the entries before a slot ask for some columns, some entries, and an array with room for them
+pub record FillDue (cols end entries : ℕ) : Type 0 where
+  pub cols-some : 1 ≤ cols
+  pub some : 1 ≤ end
+  pub room : end ≤ entries
+
 -- the entries before a slot are those of their sizes
 abbrev pub RightBefore : Contents → ℕ → ℕ → List ℕ → Type 0
 RightBefore b n k t = (s : Size) → OfTable n s → slot n s < k → at n t s ≡ entry b s

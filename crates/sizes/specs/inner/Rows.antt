@@ -13,8 +13,9 @@ use Rattle.sizes.specs.Card.{setBits}
 abbrev pub rowBits : ℕ
 rowBits = 32
 
--- what writing the rows of a card of at most so many rows and columns asks for: entries, a motif that an entry has, and room
+-- what writing the rows of a card of some, and at most so many, rows and columns asks for: entries, a motif that an entry has, and room
 pub record CardDue (most entries start numbers : ℕ) : Type 0 where
+  pub some : 1 ≤ most
   pub few : most ≤ rowBits
   pub entries-all : most * most ≤ entries
   pub start-fits : start < mostMotifs

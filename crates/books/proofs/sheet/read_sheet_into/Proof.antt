@@ -1,5 +1,4 @@
 -- Each stage is called on what the stage before found, as its definition says; the area of a size in range fits the cells.
-use borrow.Author.Tests.{eq-eqb, ne-eqb}
 use borrow.Author.Needs.{needs}
 use mathlib.Core.Path.{_≡_, _∙_, sym}
 use native.Mathlib.Nat.{mul-pos}
@@ -8,9 +7,11 @@ use Rattle.names.specs.Number.{numberAt}
 use Rattle.names.specs.declared.number.Read.the-variants.{Value}
 use Rattle.names.proofs.ReadingColours.{colours-lie, colours-places}
 use Rattle.names.proofs.ToldInParts.{told-whole}
-use Rattle.books.specs.Sheet.{sheetOf}
+use Rattle.books.specs.Press.{greatestOf}
+use Rattle.books.specs.Size.{sizeAt}
 use Rattle.books.proofs.Area.{within-room}
 use Rattle.books.proofs.ReadingSizes.{size-lies}
+use Rattle.books.proofs.SheetInParts.{list-refused, ticket-refused, size-refused, cells-last}
 use Rattle.books.proofs.sheet.read_sheet_into.Statement.{statement}
 use Rattle.books.proofs.sheet.read_sheet_into.Tie as tie
 
@@ -28,10 +29,9 @@ ticket-there : (c : tie.After-read-size) →
 ticket-there c = sym (job c .read-number .ensures) ∙ c .before .before .before .job2 .given .1
 
 returns : tie.Need-returns
-unfolding sheetOf
 returns c =
     let t = c .before .before .before .before in
-    simp (← told-whole (t .before .before .before .read-list .ensures), ne-eqb _ _ (t .if1 .taken)) (c .refuse-sheet .ensures)
+    rw (list-refused _ _ (told-whole (t .before .before .before .read-list .ensures)) (t .if1 .taken)) (c .refuse-sheet .ensures)
 
 fill-sheet-requires : tie.Need-fill-sheet-requires
 fill-sheet-requires c κs =
@@ -48,44 +48,30 @@ fill-sheet-requires c κs =
     }
 
 returns-2 : tie.Need-returns-2
-unfolding sheetOf
 returns-2 c =
     let refused = c .before .before .before .before .before in
     let n = refused .before .before in
-    simp (← told-whole (list n .read-list .ensures), eq-eqb _ _ (n .before .if1 .left), ← n .read-number .ensures, refused .job .given .1)
+    rw (ticket-refused _ _ (told-whole (list n .read-list .ensures)) (n .before .if1 .left) (sym (n .read-number .ensures) ∙ refused .job .given .1))
     (c .refuse-sheet2 .ensures)
 
+-- what was read of the size
+sized : (z : tie.After-read-size) → sizeAt (now (list (job z) .before .before .before .before .args .s)) (z .before .before .before .job2 .given .0 .1 .0)
+    (greatestOf (list (job z) .before .before .before .before .args .press)) ≡ z .read-size .result
+sized z = rw (← z .before .greatest .ensures) (sym (z .read-size .ensures))
+
 returns-3 : tie.Need-returns-3
-unfolding sheetOf
 returns-3 c =
     let refused = c .before .before .before .before .before in
     let z = refused .before .before in
     let n = job z in
-    simp (
-      ← told-whole (list n .read-list .ensures),
-      eq-eqb _ _ (n .before .if1 .left),
-      ticket-there z,
-      ← z .before .greatest .ensures,
-      ← z .read-size .ensures,
-      refused .read .given .1,
-    )
-    (c .refuse-sheet3 .ensures)
+    rw (size-refused _ _ (told-whole (list n .read-list .ensures)) (n .before .if1 .left) (ticket-there z) (sized z ∙ refused .read .given .1)) (c .refuse-sheet3 .ensures)
 
 returns-4 : tie.Need-returns-4
-unfolding sheetOf
 returns-4 c =
     let read = c .before .before .before .before .before in
     let z = read .before .before in
     let n = job z in
-    simp (
-      ← told-whole (list n .read-list .ensures),
-      eq-eqb _ _ (n .before .if1 .left),
-      ticket-there z,
-      ← z .before .greatest .ensures,
-      ← z .read-size .ensures,
-      read .read2 .given .1,
-    )
-    (c .fill-sheet .ensures)
+    rw (cells-last _ _ (told-whole (list n .read-list .ensures)) (n .before .if1 .left) (ticket-there z) (sized z ∙ read .read2 .given .1), ← z .before .greatest .ensures) (c .fill-sheet .ensures)
 
 pub read-sheet-into-spec : {M : Type 1} → statement M
 read-sheet-into-spec =

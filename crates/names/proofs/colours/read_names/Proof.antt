@@ -1,15 +1,16 @@
 -- Reading what is left from here, with the names read so far, is reading the whole list; places stay near the start, so that they fit their arrays.
 use borrow.Author.Needs.{needs}
-use borrow.Author.Tests.{lt-ltb, le-ltb}
-use Prim.Native.Nat.{ℕ, _+_, _-_, _*_, _<_, _≤_}
-use mathlib.Core.Path.{_≡_, refl, sym, _∙_, subst}
+use Prim.Native.Nat.{ℕ, suc, _+_, _-_, _*_, _<_, _≤_}
+use mathlib.Core.Path.{_≡_, refl, sym, ap, _∙_, subst}
 use mathlib.Core.List.{List}
 use native.Mathlib.Omega.{arith}
 use denote.Ref.{now}
 use lib.ListN.{take, drop}
 use Rattle.names.specs.Colours.{listOf, findName, colourAt, coloursFrom, noColours}
 use Rattle.names.specs.declared.colour.ColourRead.the-variants.{At}
+use Rattle.names.specs.declared.colours.Colours.{Colours}
 use Rattle.names.proofs.Count.{left-suc, left-all, left-none}
+use Rattle.names.proofs.ReachedNames.{step-refused, step-twice, step-on}
 use Rattle.names.proofs.ReadingColours.{colourSpan, colour-lies}
 use Rattle.names.proofs.ToldInParts.{told-of}
 use Rattle.names.proofs.colours.read_names.Statement.{statement}
@@ -51,22 +52,34 @@ found c = rw (← c .before .tail .ensures .holds) (c .find-name .ensures)
 loop-holds : tie.Need-loop-holds Inv-loop μ-loop
 loop-holds c = simp left-all (omega arith, refl, omega arith)
 
--- where the list is refused, what is left is what the definition refuses with
+-- in a turn: the names read so far, and how many are left after the one that is read; reading these on is reading the whole list
+abbrev so-far : tie.In-loop Inv-loop μ-loop → Colours
+so-far t = let l = t .before .loop in listOf (l .i) (l .starts) (l .lens)
+
+abbrev after : tie.In-loop Inv-loop μ-loop → ℕ
+after t = began (t .before) .args .count - (t .before .loop .i + 1)
+
+left : (t : tie.In-loop Inv-loop μ-loop) → let a = began (t .before) .args in
+    coloursFrom (now (a .s)) (so-far t) (t .before .loop .at) (suc (after t)) ≡ coloursFrom (now (a .s)) noColours (a .from) (a .count)
+left t =
+    let l = t .before .loop in
+    ap (coloursFrom (now (began (t .before) .args .s)) (so-far t) (l .at)) (sym (left-suc _ _ (t .loop-test .taken))) ∙ l .inv .1
+
+-- where the list is refused, it is refused at the name of this turn
 returns : tie.Need-returns Inv-loop μ-loop
 returns c =
     let read = c .before .before .before .before .before .before in
+    let t = read .before in
     let fault = sym (read .read-colour .ensures) ∙ c .before .before .before .before .r .given .1 in
-    let e = simp (left-suc _ _ (read .before .loop-test .taken), fault) at (read .before .before .loop .inv .1) in
-    told-of e (c .refuse-list .ensures)
+    told-of (sym (step-refused _ (so-far t) _ (after t) _ fault) ∙ left t) (c .refuse-list .ensures)
 
 returns-2 : tie.Need-returns-2 Inv-loop μ-loop
 returns-2 c =
     let blamed = c .before .before .before in
     let f = blamed .before .before in
-    let l = turn f .before .loop in
-    let again = subst (λ (k : ℕ). k < l .i) (found f) (omega (arith, blamed .before .if1 .taken)) in
-    let e = simp (left-suc _ _ (turn f .loop-test .taken), colour f, lt-ltb _ _ again) at (l .inv .1) in
-    told-of e (rw (blamed .fault .ensures) at (c .refuse-list2 .ensures))
+    let t = turn f in
+    let again = subst (λ (k : ℕ). k < t .before .loop .i) (found f) (omega (arith, blamed .before .if1 .taken)) in
+    told-of (sym (step-twice _ (so-far t) _ (after t) _ _ (colour f) again) ∙ left t) (rw (blamed .fault .ensures) at (c .refuse-list2 .ensures))
 
 cast-starts : tie.Need-cast-starts Inv-loop μ-loop
 cast-starts c = omega (arith, colour-lies _ _ _ _ (colour (c .before)))
@@ -80,9 +93,9 @@ add-at c = omega (arith, colour-lies _ _ _ _ (colour (c .before)))
 loop-again : tie.Need-loop-again Inv-loop μ-loop
 loop-again c =
     let f = c .before in
-    let l = turn f .before .loop in
-    let new = subst (λ (k : ℕ). l .i ≤ k) (found f) (omega (arith, c .if1 .left)) in
-    (omega arith, simp (left-suc _ _ (turn f .loop-test .taken), colour f, le-ltb _ _ new) at (l .inv .1), omega (arith, colour-lies _ _ _ _ (colour f)))
+    let t = turn f in
+    let new = subst (λ (k : ℕ). t .before .loop .i ≤ k) (found f) (omega (arith, c .if1 .left)) in
+    (omega arith, sym (step-on _ (so-far t) _ (after t) _ _ (colour f) new) ∙ left t, omega (arith, colour-lies _ _ _ _ (colour f)))
 
 returns-3 : tie.Need-returns-3 Inv-loop μ-loop
 returns-3 c =

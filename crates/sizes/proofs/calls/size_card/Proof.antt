@@ -45,15 +45,14 @@ write-card-requires c κs =
     let r = c .before .before in
     let e = r .before .before in
     let press = began (split e) .args .press in
-    let most = r .before .greatest .ensures in (
-      rw most (greatest-some press .0 (there (split e))),
-      record {
-        few = omega (arith, most, greatest-few press);
-        entries-all = rw most (room-enough press);
-        start-fits = start-low _ _ (split e .split-book .ensures) (e .if2 .left);
-        room-enough = r .if3 .left;
-      },
-    )
+    let most = r .before .greatest .ensures in
+    record {
+      some = rw most (greatest-some press .0 (there (split e)));
+      few = omega (arith, most, greatest-few press);
+      entries-all = rw most (room-enough press);
+      start-fits = start-low _ _ (split e .split-book .ensures) (e .if2 .left);
+      room-enough = r .if3 .left;
+    }
 
 returns-4 : tie.Need-returns-4
 returns-4 c =

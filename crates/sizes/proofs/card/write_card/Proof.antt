@@ -14,16 +14,16 @@ returns c =
 
 -- There are so many entries, each of some rows and columns.
 entries : (s : tie.Start) → let m = s .args .most in (1 ≤ m * m) × (m * m ≤ room)
-entries s = (mul-le-mul (s .pre .0) (s .pre .0), s .pre .1 .entries-all)
+entries s = (mul-le-mul (s .pre .some) (s .pre .some), s .pre .entries-all)
 
 fill-requires : tie.Need-fill-requires
-fill-requires c κs = let s = c .before .before .before in (s .pre .0, entries s .0, omega (arith, entries s .1))
+fill-requires c κs = let s = c .before .before .before in record { cols-some = s .pre .some; some = entries s .0; room = omega (arith, entries s .1) }
 
 write-rows-requires : tie.Need-write-rows-requires
 write-rows-requires c κs =
     let f = c .before .before .before in
-    let due = f .before .before .before .before .pre .1 in
-    record { few = due .few; entries-all = omega (arith, f .fill .kept, due .entries-all); start-fits = due .start-fits; room-enough = due .room-enough }
+    let due = f .before .before .before .before .pre in
+    record { some = due .some; few = due .few; entries-all = omega (arith, f .fill .kept, due .entries-all); start-fits = due .start-fits; room-enough = due .room-enough }
 
 pub write-card-spec : {M : Type 1} → statement M
 write-card-spec =

@@ -14,12 +14,12 @@ sub-along c = let a = c .before .before .args in omega (arith, div-add-mod' (a .
 along-requires : tie.Need-along-requires
 along-requires c κs =
     let s = c .before .before in
-    (omega (arith, div-add-mod' (s .args .due) (s .args .cols), mul-one (s .args .due)), s .pre .1)
+    (omega (arith, div-add-mod' (s .args .due) (s .args .cols), mul-one (s .args .due)), s .pre .below)
 
 along-requires-2 : tie.Need-along-requires-2
 along-requires-2 c κs =
     let s = c .before .before .before in
-    (omega (arith, div-add-mod' (s .args .due) (s .args .cols)), s .pre .1)
+    (omega (arith, div-add-mod' (s .args .due) (s .args .cols)), s .pre .below)
 
 returns : tie.Need-returns
 returns c = ap₂ bitOr (c .before .along .ensures ∙ beside-cuts _ _ _ _) (c .along2 .ensures ∙ above-cuts _ _ _ _)

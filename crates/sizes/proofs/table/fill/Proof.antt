@@ -32,10 +32,10 @@ entry-at-requires : tie.Need-entry-at-requires Inv-loop μ-loop
 entry-at-requires c κs =
     let t = c .before .before in
     let s = began t in
-    (s .pre .0, omega (arith, long t, c .before .loop-test .taken, s .pre .2))
+    record { cols-some = s .pre .cols-some; below = omega (arith, long t, c .before .loop-test .taken, s .pre .room) }
 
 slice-write-sizes-2 : tie.Need-slice-write-sizes-2 Inv-loop μ-loop
-slice-write-sizes-2 c = let t = c .before .before .before in omega (arith, long t, c .before .before .loop-test .taken, began t .pre .2)
+slice-write-sizes-2 c = let t = c .before .before .before in omega (arith, long t, c .before .before .loop-test .taken, began t .pre .room)
 
 loop-again : tie.Need-loop-again Inv-loop μ-loop
 loop-again c =
