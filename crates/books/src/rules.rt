@@ -13,7 +13,8 @@ ghost use mathlib.Core.Path.{_≡_};
 ghost use Prim.Native.Nat.{_≤_};
 ghost use Rattle.names.specs.Spelling.{mostColours};
 ghost use Rattle.books.specs.Rules.{ruleAt, noRule, noRules, refusedRules, numberRepeats, rulesAt};
-ghost use Rattle.books.specs.Keeps.{mostMotifs, mostRules};
+ghost use Rattle.books.specs.Keeps.{mostMotifs};
+ghost use Rattle.books.specs.inner.Parts.{FiguresFew};
 
 // A rule and the place after it, or the fault.
 enum RuleRead {
@@ -101,7 +102,7 @@ pub(crate) fn read_rules(
     colours: usize,
     count: usize,
 ) -> RulesRead
-    requires { ⌜ (motifs ≤ mostMotifs) × (colours ≤ mostColours) × (count ≤ mostRules) ⌝ }
+    requires { ⌜ FiguresFew motifs colours count ⌝ }
     ensures { λ r. ⌜ r ≡ rulesAt strict (now (s .entry)) from motifs colours count ⌝ }
 {
     let mut rules = no_rules();

@@ -12,9 +12,10 @@ ghost use mathlib.Core.Path.{_≡_};
 ghost use Prim.Native.Nat.{_+_, _≤_};
 ghost use lib.ListN.{length, take};
 ghost use Rattle.names.specs.Colours.{namesIn};
-ghost use Rattle.names.specs.Spelling.{spellNames, spellColours, mostColours};
+ghost use Rattle.names.specs.Spelling.{spellNames, spellColours};
 ghost use Rattle.books.specs.SpellBook.{spellThree, spellBody, spellRule, spellRules};
 ghost use Rattle.books.specs.Keeps.{mostRules};
+ghost use Rattle.drafts.specs.inner.Room.{NamesRoom, RulesRoom, ColoursRoom};
 ghost use Rattle.drafts.specs.inner.Wrote.{Wrote};
 ghost use Rattle.drafts.specs.Draft.{bothNames, draftIn, DraftFits, countsFit?, WroteBook, WroteDraft};
 
@@ -26,7 +27,7 @@ pub struct Written {
 
 // The names of a list, each with its length before it.
 fn write_names(s: &[u8], c: Colours, out: &mut [u8], at: usize) -> usize
-    requires { ⌜ (c .count ≤ mostColours) × (at + length (spellNames (namesIn (now s) c)) ≤ length (now out)) ⌝ }
+    requires { ⌜ NamesRoom (now s) c (now out) at ⌝ }
     ensures { λ r. ⌜ Wrote (now (out .entry)) at (spellNames (namesIn (now (s .entry)) c)) r (now (out .exit)) ⌝ }
 {
     let n = c.count;
@@ -79,7 +80,7 @@ fn write_rule(r: Rule, out: &mut [u8], at: usize) -> usize
 
 // The first so many rules.
 fn write_rules(rules: [Rule; MOST_RULES], count: usize, out: &mut [u8], at: usize) -> usize
-    requires { ⌜ (count ≤ mostRules) × (at + length (spellRules (take count rules)) ≤ length (now out)) ⌝ }
+    requires { ⌜ RulesRoom rules count (now out) at ⌝ }
     ensures { λ r. ⌜ Wrote (now (out .entry)) at (spellRules (take count rules)) r (now (out .exit)) ⌝ }
 {
     let mut next = at;
@@ -94,8 +95,7 @@ fn write_rules(rules: [Rule; MOST_RULES], count: usize, out: &mut [u8], at: usiz
 
 // The colours of both lists, in one list after their count, at the front of the slice.
 fn write_colours(first: &[u8], c: Colours, second: &[u8], more: Colours, out: &mut [u8]) -> usize
-    requires { ⌜ (c .count ≤ mostColours) × (more .count ≤ mostColours)
-        × (length (spellColours (bothNames (now first) c (now second) more)) ≤ length (now out)) ⌝ }
+    requires { ⌜ ColoursRoom (now first) c (now second) more (now out) ⌝ }
     ensures { λ r. ⌜ Wrote (now (out .entry)) 0 (spellColours (bothNames (now (first .entry)) c (now (second .entry)) more)) r (now (out .exit)) ⌝ }
 {
     let at = number::write_number(out, 0, c.count + more.count);

@@ -12,7 +12,7 @@ ghost use Rattle.books.specs.Picture.{joins};
 ghost use Rattle.families.specs.inner.Counts.{headed};
 ghost use Rattle.families.specs.inner.Gathered.{rulesStanding, none, Stands};
 ghost use Rattle.families.specs.inner.Lent.{rulesOf, CountsKept};
-ghost use Rattle.families.specs.inner.Combined.{firstAdds, secondAdds, AddsFit, GatherFits, gathered, RepeatFits, repeatedRules};
+ghost use Rattle.families.specs.inner.Combined.{FirstFits, firstAdds, secondAdds, AddsFit, GatherFits, gathered, RepeatFits, repeatedRules};
 
 // A family's rules by themselves.
 pub(crate) fn rules_of(f: Family) -> Rules
@@ -60,7 +60,7 @@ fn none_in(l: Rules) -> Rules
 
 // What a pairing adds from the first family: copies of its start's rules under the new start, or nothing.
 pub(crate) fn first_adds(pairing: Pairing, f: Family, new: usize) -> Rules
-    requires { ⌜ CountsKept f × (new < 256) ⌝ }
+    requires { ⌜ FirstFits f new ⌝ }
     ensures { λ r. ⌜ Stands r (firstAdds pairing f new) ⌝ }
 {
     let own = rules_of(f);

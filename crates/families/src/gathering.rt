@@ -5,17 +5,16 @@ use books::rule::MOST_RULES;
 use books::rule::Rule;
 use names::colours::MOST_COLOURS;
 ghost use mathlib.Core.Path.{_≡_};
-ghost use mathlib.Core.List.{[], _∷_, List·Memᴰ};
-ghost use Prim.Native.Nat.{_+_, _≤_, _<_};
+ghost use mathlib.Core.List.{[], _∷_};
+ghost use Prim.Native.Nat.{_<_};
 ghost use mathlib.Core.Bool.{true, false};
 ghost use Rattle.names.specs.Pick.{pick};
-ghost use Rattle.names.specs.Spelling.{mostColours};
-ghost use Rattle.books.specs.declared.rule.Rule.{Rule};
-ghost use Rattle.books.specs.Keeps.{mostMotifs, mostRules, RuleFits};
-ghost use Rattle.books.specs.RuleNumbers.{AllFit, among};
+ghost use Rattle.books.specs.Keeps.{mostRules};
+ghost use Rattle.books.specs.RuleNumbers.{among};
 ghost use Rattle.families.specs.Combine.{copies};
 ghost use Rattle.families.specs.inner.Counts.{headed};
 ghost use Rattle.families.specs.inner.Gathered.{rulesStanding, none, missing, followed, raisedBy, changed, Rows};
+ghost use Rattle.families.specs.inner.Gathered.{FollowFits, CopyFits, LeaveFits, RaiseFits, RaiseAllFits};
 
 // The first `count` rules stand.
 pub(crate) struct Rules {
@@ -39,7 +38,7 @@ pub(crate) fn add_rule(l: Rules, rule: Rule) -> Rules
 
 // All rules of another list after these.
 pub(crate) fn add_rules(l: Rules, k: Rules) -> Rules
-    requires { ⌜ (l .count + k .count ≤ mostRules) × Rows k ⌝ }
+    requires { ⌜ FollowFits l k ⌝ }
     ensures { λ r. ⌜ r ≡ followed l (rulesStanding k) ⌝ }
 {
     let mut rules = l.rules;
@@ -72,7 +71,7 @@ pub(crate) fn count_headed(k: Rules, head: usize) -> usize
 
 // Copies of another list's rules with one head, under a new head, after these.
 pub(crate) fn add_copies(l: Rules, k: Rules, head: usize, new: usize) -> Rules
-    requires { ⌜ (l .count + headed head (rulesStanding k) ≤ mostRules) × Rows k × (new < 256) ⌝ }
+    requires { ⌜ CopyFits l k head new ⌝ }
     ensures { λ r. ⌜ r ≡ followed l (copies new head (rulesStanding k)) ⌝ }
 {
     let mut rules = l.rules;
@@ -104,7 +103,7 @@ fn is_missing(numbers: &[u32], number: u32) -> bool
 
 // The rules of another list that do not stand among these.
 pub(crate) fn leave_out(l: Rules, k: Rules) -> Rules
-    requires { ⌜ Rows l × Rows k × AllFit (rulesStanding l) × AllFit (rulesStanding k) ⌝ }
+    requires { ⌜ LeaveFits l k ⌝ }
     ensures { λ r. ⌜ r ≡ followed (none k) (missing (rulesStanding l) (rulesStanding k)) ⌝ }
 {
     let own = l.count;
@@ -126,7 +125,7 @@ pub(crate) fn leave_out(l: Rules, k: Rules) -> Rules
 
 // A rule of a second book as it stands after a first: its motifs raised, its colour under its number in the merged list.
 fn raised_rule(rule: Rule, by: usize, numbers: [u8; MOST_COLOURS]) -> Rule
-    requires { ⌜ (by ≤ mostMotifs) × RuleFits mostMotifs mostColours rule ⌝ }
+    requires { ⌜ RaiseFits by rule ⌝ }
     ensures { λ r. ⌜ r ≡ raisedBy by numbers rule ⌝ }
 {
     let up = by as u8;
@@ -150,7 +149,7 @@ fn raised_rule(rule: Rule, by: usize, numbers: [u8; MOST_COLOURS]) -> Rule
 
 // All rules of a second book, raised.
 pub(crate) fn raise_rules(k: Rules, by: usize, numbers: [u8; MOST_COLOURS]) -> Rules
-    requires { ⌜ (by ≤ mostMotifs) × Rows k × ((r : Rule) → List·Memᴰ r (rulesStanding k) → RuleFits mostMotifs mostColours r) ⌝ }
+    requires { ⌜ RaiseAllFits by k ⌝ }
     ensures { λ r. ⌜ r ≡ changed (raisedBy by numbers) k ⌝ }
 {
     let mut rules = k.rules;

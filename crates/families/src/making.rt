@@ -17,7 +17,7 @@ use names::colours::Colours;
 use names::colours::MOST_COLOURS;
 ghost use mathlib.Core.Path.{_≡_};
 ghost use Rattle.families.specs.Limits.{countsWithin?};
-ghost use Rattle.families.specs.inner.Lent.{CountsKept, Lent};
+ghost use Rattle.families.specs.inner.Lent.{CountsKept, LentBoth};
 ghost use Rattle.families.specs.inner.Made.{draftedAs, tooMuch, MakesPair, MakesSingle};
 
 // Whether a combination is within the limits, and its draft; where it is not, the draft is that of the first book.
@@ -73,7 +73,7 @@ fn drafting(f: Family, more: Colours, motifs: usize, start: usize, l: Rules) -> 
 
 // A pairing has one motif more than both books, and the rules that it adds to theirs: what remains of them is counted.
 pub(crate) fn make_pair(pairing: Pairing, first: &[u8], f: Family, second: &[u8], g: Family) -> Made
-    requires { ⌜ Lent (now first) f × Lent (now second) g ⌝ }
+    requires { ⌜ LentBoth (now first) f (now second) g ⌝ }
     ensures { λ r. ⌜ MakesPair pairing (now (first .entry)) f (now (second .entry)) g r ⌝ }
 {
     let m = merge::merge(first, f.colours, second, g.colours);

@@ -3,7 +3,7 @@ use names::colours;
 use names::colours::Colours;
 use names::colours::MOST_COLOURS;
 use names::name;
-ghost use Rattle.families.specs.inner.Merges.{Lists, Merges};
+ghost use Rattle.families.specs.inner.Merges.{ListsBoth, Merges};
 
 // The colours that follow those of the first book, as parts of the second, and the number of each of the second's colours in the whole list.
 pub(crate) struct Merged {
@@ -12,7 +12,7 @@ pub(crate) struct Merged {
 }
 
 pub(crate) fn merge(first: &[u8], f: Colours, second: &[u8], g: Colours) -> Merged
-    requires { ⌜ Lists (now first) f × Lists (now second) g ⌝ }
+    requires { ⌜ ListsBoth (now first) f (now second) g ⌝ }
     ensures { λ r. ⌜ Merges (now (first .entry)) f (now (second .entry)) g r ⌝ }
 {
     let mut more = colours::no_colours();

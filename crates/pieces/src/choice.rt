@@ -11,8 +11,8 @@ use books::rule::Dir;
 use books::size::Size;
 ghost use mathlib.Core.Path.{_≡_};
 ghost use Rattle.pieces.specs.Choice.{covers, cutOf, choose};
-ghost use Rattle.pieces.specs.Suiting.{SomeFits};
 ghost use Rattle.books.specs.RuleBytes.{ruleIn, rulesIn};
+ghost use Rattle.pieces.specs.inner.Due.{ChoiceDue};
 ghost use Rattle.pieces.specs.inner.Tried.{tried};
 ghost use Rattle.pieces.specs.inner.Seen.{Coloured, TabledAt, ReadyAt, hasBit, hasColour, seen};
 
@@ -95,8 +95,7 @@ fn try_rule(work: &[u32], colours: &[u8], size: Size, x: Part, i: usize, rule: [
 
 // What is taken at a piece where a rule fits: of the rules that have the motif for their head the first that fits. There is one, so that the search ends.
 pub(crate) fn choose(rules: &[[u8; 4]], work: &[u32], colours: &[u8], size: Size, x: Part) -> Choice
-    requires { ⌜ ReadyAt size (now work) (now colours) (x .piece) ⌝ }
-    requires { ⌜ SomeFits (seen size (now work) (now colours)) (rulesIn (now rules)) (x .motif) (x .piece) ⌝ }
+    requires { ⌜ ChoiceDue size (now work) (now colours) (rulesIn (now rules)) x ⌝ }
     ensures { λ o. ⌜ o ≡ choose (seen size (now (work .entry)) (now (colours .entry))) (rulesIn (now (rules .entry))) (x .motif) (x .piece) ⌝ }
 {
     let mut i = 0;

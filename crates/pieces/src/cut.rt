@@ -6,7 +6,7 @@ use crate::piece::slot;
 use books::size::Size;
 use names::word::is_set;
 ghost use mathlib.Core.Path.{_≡_};
-ghost use Rattle.pieces.specs.inner.Seen.{TabledAt, hasBit, bothHave};
+ghost use Rattle.pieces.specs.inner.Seen.{TabledAt, PartsTabled, hasBit, bothHave};
 
 // Whether a motif has its bit set at a piece.
 pub(crate) fn has(work: &[u32], size: Size, x: Part) -> bool
@@ -19,7 +19,7 @@ pub(crate) fn has(work: &[u32], size: Size, x: Part) -> bool
 
 // Whether both parts of a cut have their bits.
 pub(crate) fn both_have(work: &[u32], size: Size, parts: Parts) -> bool
-    requires { ⌜ TabledAt size (now work) (parts .first .piece) × TabledAt size (now work) (parts .rest .piece) ⌝ }
+    requires { ⌜ PartsTabled size (now work) parts ⌝ }
     ensures { λ x. ⌜ x ≡ bothHave (hasBit size (now (work .entry))) parts ⌝ }
 {
     if has(work, size, parts.first) {

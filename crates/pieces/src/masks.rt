@@ -6,13 +6,13 @@ use names::slice::clear;
 ghost use mathlib.Core.Path.{_≡_};
 ghost use Prim.Native.Nat.{_+_, _^_, _≤_, _<_};
 ghost use lib.ListN.{length};
-ghost use Rattle.books.specs.Keeps.{mostMotifs, mostRules};
+ghost use Rattle.books.specs.Keeps.{mostMotifs};
 ghost use Rattle.books.specs.RuleBytes.{ruleIn, rulesIn};
-ghost use Rattle.pieces.specs.Masks.{headsFrom, allMasks, masked, putAt, putBody, splitOf};
+ghost use Rattle.pieces.specs.Masks.{headsFrom, masked, putAt, putBody, splitOf};
 ghost use Rattle.pieces.specs.Firing.{firing, fitting, fireOf, paintedOf};
 ghost use Rattle.pieces.specs.inner.Along.{allFired};
 ghost use Rattle.pieces.specs.inner.Tally.{joined};
-ghost use Rattle.pieces.specs.inner.Small.{Small, SmallRules};
+ghost use Rattle.pieces.specs.inner.Small.{JoinDue, RuleDue, SplitDue};
 
 // The masks stand in one row of numbers: three rows for the joins, their first parts, second parts and heads, in each of which the across joins stand from the
 // front on and the down joins from the back; and one mask for each colour that a book can have, with one more for all that it lacks.
@@ -48,7 +48,7 @@ fn mask(a: u8) -> u32
 
 // Writes the masks of one join at a place of the three rows.
 fn put(masks: &mut [u32], at: usize, head: u8, first: u8, second: u8)
-    requires { ⌜ (headsFrom + at < length (now masks)) × (head < mostMotifs) × (first < mostMotifs) × (second < mostMotifs) ⌝ }
+    requires { ⌜ JoinDue (length (now masks)) at head first second ⌝ }
     ensures { λ _. ⌜ now (masks .exit) ≡ putAt (now (masks .entry)) at head first second ⌝ }
 {
     masks[at] = mask(first);
@@ -58,7 +58,7 @@ fn put(masks: &mut [u32], at: usize, head: u8, first: u8, second: u8)
 
 // The masks of a rule that is lent in a row: a join stands next to those of its direction, and each colour gathers the heads that paint it.
 fn put_rule(r: [u8; 4], masks: &mut [u32], joins: Joins) -> Joins
-    requires { ⌜ (length (now masks) ≡ allMasks) × (joins .across < mostRules) × (joins .down < mostRules) × Small (ruleIn r) ⌝ }
+    requires { ⌜ RuleDue (length (now masks)) joins (ruleIn r) ⌝ }
     ensures { λ k. ⌜ masked (now (masks .exit)) k ≡ putBody (masked (now (masks .entry)) joins) (ruleIn r .head) (ruleIn r .body) ⌝ }
 {
     if r[1] == 0 {
@@ -82,7 +82,7 @@ fn put_rule(r: [u8; 4], masks: &mut [u32], joins: Joins) -> Joins
 
 // The masks of rules that are lent in rows, in order.
 pub(crate) fn split(rules: &[[u8; 4]], masks: &mut [u32]) -> Joins
-    requires { ⌜ SmallRules (rulesIn (now rules)) × (length (now masks) ≡ allMasks) ⌝ }
+    requires { ⌜ SplitDue (rulesIn (now rules)) (length (now masks)) ⌝ }
     ensures { λ r. ⌜ masked (now (masks .exit)) r ≡ splitOf (rulesIn (now (rules .entry))) (now (masks .entry)) ⌝ }
 {
     // Of the three rows only what is counted is read, so that they need no clearing.

@@ -4,10 +4,10 @@ ghost use mathlib.Core.Path.{_≡_};
 ghost use Prim.Native.Nat.{_*_, _≤_, _<_};
 ghost use Rattle.books.specs.Size.{Within};
 ghost use Rattle.pieces.specs.Area.{whole, treeSize};
-ghost use Rattle.pieces.specs.Pieces.{Inside, stretches, total, slotOf};
+ghost use Rattle.pieces.specs.Pieces.{stretches, total, slotOf};
 ghost use Rattle.pieces.specs.inner.NextTo.{NextTo};
 ghost use Rattle.pieces.specs.Most.{most};
-ghost use Rattle.pieces.specs.inner.Room.{mostCells};
+ghost use Rattle.pieces.specs.inner.Room.{mostCells, Factors, Lies};
 
 // The most rows, and the most columns, that the numbers have room for.
 pub const MOST: usize = WIDEST;
@@ -22,7 +22,7 @@ pub struct Piece {
 
 // A product that the numbers have room for.
 pub(crate) fn times(a: usize, b: usize) -> usize
-    requires { ⌜ (a ≤ mostCells) × (b ≤ mostCells) ⌝ }
+    requires { ⌜ Factors a b ⌝ }
     ensures { λ r. ⌜ (r ≡ a * b) × (r ≤ mostCells * mostCells) ⌝ }
 {
     a * b
@@ -54,7 +54,7 @@ pub(crate) fn numbers(m: usize, n: usize) -> usize
 
 // Where the table has a piece.
 pub(crate) fn slot(m: usize, n: usize, p: Piece) -> usize
-    requires { ⌜ Within most m n × Inside m n p ⌝ }
+    requires { ⌜ Lies m n p ⌝ }
     ensures { λ r. ⌜ (r ≡ slotOf m n p) × (r < total m n) ⌝ }
 {
     let u = p.height - 1;
@@ -67,7 +67,7 @@ pub(crate) fn slot(m: usize, n: usize, p: Piece) -> usize
 // The piece after p in the table: one to the right; at the end of a row, in the next row; after the last row, one column wider; and
 // after the widest, one row taller.
 pub(crate) fn next(m: usize, n: usize, p: Piece) -> Piece
-    requires { ⌜ Within most m n × Inside m n p ⌝ }
+    requires { ⌜ Lies m n p ⌝ }
     ensures { λ r. ⌜ NextTo m n p r ⌝ }
 {
     let mut q = p;

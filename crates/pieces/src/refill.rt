@@ -7,13 +7,12 @@ use crate::piece::Piece;
 use crate::table;
 use books::size::Size;
 ghost use mathlib.Core.Path.{_≡_};
-ghost use Prim.Native.Nat.{_+_, _-_, _≤_, _<_};
+ghost use Prim.Native.Nat.{_+_, _-_, _≤_};
 ghost use lib.ListN.{length};
 ghost use Rattle.pieces.specs.Firing.{joinsFired};
 ghost use Rattle.pieces.specs.Refill.{refilled, dueBy, refills?, refilledBy};
-ghost use Rattle.pieces.specs.inner.ForTable.{TableDue};
-ghost use Rattle.pieces.specs.inner.Room.{Slotted};
-ghost use Rattle.pieces.specs.inner.Refill.{further?, OnWith, NextWith};
+ghost use Rattle.pieces.specs.inner.ForTable.{EntryDue};
+ghost use Rattle.pieces.specs.inner.Refill.{further?, RefillDue, OnWith, NextWith};
 
 // The first place from which a stretch of so many cells has a cell.
 fn first_with(cell: usize, long: usize) -> usize
@@ -71,7 +70,7 @@ fn due(
     slot: usize,
     paint: u32,
 ) -> u32
-    requires { ⌜ TableDue size (now work) (length (now masks)) joins × Slotted (size .rows) (size .cols) p slot ⌝ }
+    requires { ⌜ EntryDue size (now work) (length (now masks)) joins p slot ⌝ }
     ensures { λ x. ⌜ x ≡ dueBy (joinsFired (now (masks .entry)) joins) paint (size .rows) (size .cols) (now (work .entry)) p ⌝ }
 {
     if p.height + p.width == 2 {
@@ -90,7 +89,7 @@ fn refill_cells(
     column: usize,
     paint: u32,
 )
-    requires { ⌜ TableDue size (now work) (length (now masks)) joins × (row < size .rows) × (column < size .cols) ⌝ }
+    requires { ⌜ RefillDue size (now work) (length (now masks)) joins row column ⌝ }
     ensures { λ _. ⌜ now (work .exit)
         ≡ refilled (dueBy (joinsFired (now (masks .entry)) joins) paint (size .rows) (size .cols)) (size .rows) (size .cols) row column (now (work .entry)) ⌝ }
 {

@@ -10,20 +10,17 @@ use crate::piece::Piece;
 use books::rule::MOST_RULES;
 use books::size::Size;
 ghost use mathlib.Core.Path.{_≡_};
-ghost use Prim.Native.Nat.{_+_, _*_, _^_, _≤_, _<_};
+ghost use Prim.Native.Nat.{_+_};
 ghost use lib.ListN.{length};
-ghost use Rattle.pieces.specs.Masks.{headsFrom};
 ghost use Rattle.pieces.specs.Firing.{joinsFired};
 ghost use Rattle.pieces.specs.Filling.{entryOf, joinedBy, filledBy};
-ghost use Rattle.pieces.specs.inner.Room.{Slotted};
-ghost use Rattle.pieces.specs.inner.Course.{Runs};
-ghost use Rattle.pieces.specs.inner.Along.{alsoAlong};
+ghost use Rattle.pieces.specs.inner.Along.{alsoAlong, AlongDue};
 ghost use Rattle.pieces.specs.inner.Tally.{joined, triedAt, triedBy};
-ghost use Rattle.pieces.specs.inner.ForTable.{TableDue, Paintable};
+ghost use Rattle.pieces.specs.inner.ForTable.{TableDue, CountDue, FillDue};
 
 // Every join of one direction at every cut of a piece, beside what was found of it before.
 fn join_along(work: &[u32], masks: &[u32], count: usize, course: Course, before: Joined) -> Joined
-    requires { ⌜ Runs (length (now work)) course × (headsFrom + count ≤ length (now masks)) × (before .trials + course .cuts * count < 2 ^ 32) ⌝ }
+    requires { ⌜ AlongDue (length (now work)) (length (now masks)) count course before ⌝ }
     ensures { λ x. ⌜ x ≡ alsoAlong (now (work .entry)) (now (masks .entry)) count course before ⌝ }
 {
     let mut found = before.heads;
@@ -55,7 +52,7 @@ pub(crate) fn entry_of(
     slot: usize,
     trials: usize,
 ) -> Joined
-    requires { ⌜ TableDue size (now work) (length (now masks)) joins × Slotted (size .rows) (size .cols) p slot × (trials + triedAt joins p < 2 ^ 32) ⌝ }
+    requires { ⌜ CountDue size (now work) (length (now masks)) joins p slot trials ⌝ }
     ensures { λ x. ⌜ x ≡ joined (entryOf (joinsFired (now (masks .entry)) joins) (size .rows) (size .cols) (now (work .entry)) p)
         (trials + triedAt joins p) ⌝ }
 {
@@ -115,7 +112,7 @@ pub(crate) fn fill_from(
     size: Size,
     work: &mut [u32],
 ) -> usize
-    requires { ⌜ TableDue size (now work) (length (now masks)) joins × Paintable (now colours) (size .rows * size .cols) ⌝ }
+    requires { ⌜ FillDue size (now work) (length (now masks)) joins (now colours) ⌝ }
     ensures { λ r. ⌜ (now (work .exit) ≡ filledBy (now (masks .entry)) joins (now (colours .entry)) (size .rows) (size .cols) (now (work .entry)))
         × (r ≡ triedBy joins (size .rows) (size .cols)) ⌝ }
 {

@@ -10,9 +10,7 @@ use crate::part::parts_of;
 use crate::piece::Piece;
 use books::size::Size;
 ghost use mathlib.Core.List.{[], _∷_};
-ghost use Prim.Native.Nat.{_+_, _≤_, _<_};
-ghost use lib.ListN.{length};
-ghost use Rattle.pieces.specs.inner.Due.{TreeDue, PartsDue, SheetDue};
+ghost use Rattle.pieces.specs.inner.Due.{NodeDue, TreeDue, PartsDue, SheetDue};
 ghost use Rattle.books.specs.RuleBytes.{rulesIn};
 ghost use Rattle.pieces.specs.inner.Seen.{wholeOf, seen};
 ghost use Rattle.pieces.specs.inner.TreeWrote.{TreeWrote, PartWrote, PartsWrote};
@@ -20,7 +18,7 @@ ghost use Rattle.pieces.specs.inner.Verdict.{verdict, Judges};
 
 // A node, at its place: the rule and the cut. The place after it is answered.
 fn put_node(tree: &mut [u16], at: usize, rule: usize, cut: usize) -> usize
-    requires { ⌜ (at + 2 ≤ length (now tree)) × (rule < 65536) × (cut < 65536) ⌝ }
+    requires { ⌜ NodeDue rule cut at (now tree) ⌝ }
     ensures { λ next. ⌜ TreeWrote (now (tree .entry)) (now (tree .exit)) at (rule ∷ cut ∷ []) next ⌝ }
 {
     tree[at] = rule as u16;

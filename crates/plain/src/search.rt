@@ -5,13 +5,11 @@ use books::rule::Dir;
 use books::size::Size;
 use pieces::piece::Piece;
 ghost use mathlib.Core.Path.{_≡_};
-ghost use Prim.Native.Nat.{_+_, _≤_};
 ghost use Rattle.books.specs.RuleBytes.{ruleIn, rulesIn};
 ghost use Rattle.books.specs.Search.{fitsBody};
-ghost use Rattle.pieces.specs.Most.{most};
 ghost use Rattle.pieces.specs.OnSheet.{coversOn, onSheet};
 ghost use Rattle.pieces.specs.Parts.{reach, firstPart, restPart};
-ghost use Rattle.plain.specs.inner.Search.{found, Lies};
+ghost use Rattle.plain.specs.inner.Search.{found, Lies, CutLies};
 
 // Whether a piece is one cell of a colour.
 fn is_cell(cells: &[u8], size: Size, q: Piece, colour: u8) -> bool
@@ -54,7 +52,7 @@ fn first_part(q: Piece, d: Dir, k: usize) -> Piece
 
 // ... and the rest of them.
 fn rest_part(q: Piece, d: Dir, k: usize) -> Piece
-    requires { ⌜ (k ≤ reach d q) × (q .top + q .height ≤ most) × (q .left + q .width ≤ most) ⌝ }
+    requires { ⌜ CutLies d k q ⌝ }
     ensures { λ r. ⌜ r ≡ restPart d k q ⌝ }
 {
     let mut p = q;

@@ -7,13 +7,8 @@ use pieces::largest::largest;
 use pieces::masks::Joins;
 use sizes::one::has_size;
 ghost use mathlib.Core.Path.{_≡_};
-ghost use Prim.Native.Nat.{_≤_};
-ghost use lib.ListN.{length};
-ghost use Rattle.books.specs.Press.{greatestOf};
-ghost use Rattle.books.specs.Size.{Within};
-ghost use Rattle.pieces.specs.Pieces.{total};
 ghost use Rattle.sizes.specs.Table.{hasSizeBy};
-ghost use Rattle.reasons.specs.inner.FromTable.{reasonIn};
+ghost use Rattle.reasons.specs.inner.FromTable.{PiecesHeld, reasonIn};
 
 // First a cell whose colour no rule names, then the size, then the largest piece that the start motif derives.
 pub(crate) fn reason(
@@ -24,7 +19,7 @@ pub(crate) fn reason(
     work: &[u32],
     size: Size,
 ) -> Reason
-    requires { ⌜ Within (greatestOf press) (size .rows) (size .cols) × (total (size .rows) (size .cols) ≤ length (now work)) ⌝ }
+    requires { ⌜ PiecesHeld press size (now work) ⌝ }
     ensures { λ r. ⌜ r ≡ reasonIn (hasSizeBy press (now (masks .entry)) joins start (size .rows) (size .cols)) (now (work .entry)) start
         (size .rows) (size .cols) ⌝ }
 {

@@ -4,14 +4,14 @@ use books::rule::Body;
 use books::rule::MOST_RULES;
 use books::rule::Rule;
 ghost use mathlib.Core.Path.{_≡_};
-ghost use Prim.Native.Nat.{_<_, _≤_};
+ghost use Prim.Native.Nat.{_<_};
 ghost use lib.ListN.{take};
 ghost use Rattle.names.specs.Bits.{isSet};
 ghost use Rattle.names.specs.Spelling.{mostColours};
-ghost use Rattle.books.specs.Keeps.{mostMotifs, mostRules, BodyFits, RuleFits};
+ghost use Rattle.books.specs.Keeps.{mostMotifs, BodyFits, RuleFits};
 ghost use Rattle.tidy.specs.Marks.{adding};
 ghost use Rattle.tidy.specs.Marking.{marked, addingBody, markHead, markBody, pass, passes};
-ghost use Rattle.tidy.specs.inner.Steps.{stepBy, AllFit, RulesKept, rewrittenIn, reachedIn};
+ghost use Rattle.tidy.specs.inner.Steps.{stepBy, FirstFit, RulesKept, rewrittenIn, reachedIn};
 
 // What a rule marks in a pass: its head, where its motifs are all marked; or its motifs, where its head is marked and all of them can be rewritten.
 pub(crate) enum Step {
@@ -108,7 +108,7 @@ fn mark(step: Step, marks: u32, rule: Rule) -> u32
 
 // One pass over the rules.
 fn pass(step: Step, rules: [Rule; MOST_RULES], count: usize, marks: u32) -> u32
-    requires { ⌜ (count ≤ mostRules) × AllFit (take count rules) ⌝ }
+    requires { ⌜ FirstFit rules count ⌝ }
     ensures { λ r. ⌜ r ≡ pass (stepBy step) (take count rules) marks ⌝ }
 {
     let mut now = marks;
@@ -121,7 +121,7 @@ fn pass(step: Step, rules: [Rule; MOST_RULES], count: usize, marks: u32) -> u32
 
 // So many passes. After one that marks nothing more the others would mark nothing either.
 fn passes(step: Step, rules: [Rule; MOST_RULES], count: usize, turns: usize, marks: u32) -> u32
-    requires { ⌜ (count ≤ mostRules) × AllFit (take count rules) ⌝ }
+    requires { ⌜ FirstFit rules count ⌝ }
     ensures { λ r. ⌜ r ≡ passes (stepBy step) (take count rules) turns marks ⌝ }
 {
     let mut now = marks;

@@ -1,5 +1,5 @@
 -- What was read is what a tree is held to, whether it is refused or not: it is made of a book and a numbered sheet, and its sheet has no more rows and columns than there may be.
-use Prim.Native.Nat.{ℕ, _≤_}
+use Prim.Native.Nat.{ℕ}
 use mathlib.Core.Path.{_≡_, sym, ap, _∙_}
 use mathlib.Core.List.{List}
 use mathlib.Core.Logic.{⊎-elim}
@@ -21,11 +21,10 @@ use Rattle.books.proofs.ReadingBooks.{book-count, book-size}
 use Rattle.books.proofs.Presses.{greatest-few}
 use Rattle.books.proofs.ReadingSheets.{sheet-lies, sheet-refused}
 use Rattle.books.proofs.SizesWithin.{within-more}
-use Rattle.pieces.specs.Most.{most}
 use Rattle.trees.specs.declared.held.Held.{Held}
 use Rattle.trees.specs.declared.judge.Verdict.{Verdict}
 use Rattle.trees.specs.declared.node.Node.{Node}
-use Rattle.trees.specs.inner.Held.{heldTo, HeldFine, ended16, judgedHeld, heldAnswer}
+use Rattle.trees.specs.inner.Held.{heldTo, HeldFine, SizeSmall, ended16, judgedHeld, heldAnswer}
 
 pub held-made : (press : ℕ) (book sheet : List ℕ) {b : BookRead} {s : SheetFigures} {cells : List ℕ} → b ≡ bookOf book
     → Numbers press book (b .family .colours) sheet (replicate room 0) s cells
@@ -41,12 +40,12 @@ pub held-made : (press : ℕ) (book sheet : List ℕ) {b : BookRead} {s : SheetF
 unfolding heldTo
 held-made press book sheet {b = b} read shown = rw (numbers-fresh press book (b .family .colours) sheet shown, shown .figures, read)
 
-pub held-size : (press : ℕ) (book sheet : List ℕ) → (heldTo press book sheet .size .rows ≤ most) × (heldTo press book sheet .size .cols ≤ most)
+pub held-size : (press : ℕ) (book sheet : List ℕ) → SizeSmall (heldTo press book sheet .size)
 unfolding heldTo
 held-size press book sheet =
     ⊎-elim
-    (λ t. let within = within-more (greatest-few press) (sheet-lies press sheet (eqb-true _ 0 t) .within) in (within .rows-few, within .cols-few))
-    (λ t. rw (heldTo, sheet-refused press sheet (eqb-false _ 0 t) .none) (omega arith, omega arith))
+    (λ t. let within = within-more (greatest-few press) (sheet-lies press sheet (eqb-true _ 0 t) .within) in record { rows-few = within .rows-few; cols-few = within .cols-few })
+    (λ t. rw (heldTo, sheet-refused press sheet (eqb-false _ 0 t) .none) (record { rows-few = omega arith; cols-few = omega arith }))
     (true-or-false (eqb (sheetOf press sheet .fault .number) 0))
 
 pub held-fine : (press : ℕ) (book sheet : List ℕ) → heldTo press book sheet .sheet .number ≡ 0 → HeldFine (heldTo press book sheet)

@@ -21,7 +21,7 @@ use Rattle.trees.proofs.Copying.{copied-first}
 
 module _ {press : ℕ} {book sheet : List ℕ} {o : Held} (holds : Holds press book sheet o) (ys : List Node) {n : ℕ} (looked : n ≡ lookedAt (length ys) o) where
   pub looked-fits : (n ≤ length ys) × (n ≤ mostNodes)
-  looked-fits = let few = mul-le-mul (holds .small .0) (holds .small .1) in (omega arith, omega arith)
+  looked-fits = let few = mul-le-mul (holds .small .rows-few) (holds .small .cols-few) in (omega arith, omega arith)
 
   pub told-of-copies : IsPress press → {rows : List (List ℕ)} {a : Answer} → rows ≡ firstNodes ys n → a ≡ heldAnswer o (nodesIn (take n rows)) → a ≡ treeAnswer press book sheet ys
   told-of-copies is copied told =

@@ -7,9 +7,7 @@ use books::size::ROOM;
 use books::size::Size;
 use names::number::Fault;
 ghost use mathlib.Core.Path.{_≡_};
-ghost use Prim.Native.Nat.{_≤_};
-ghost use Rattle.pieces.specs.Most.{most};
-ghost use Rattle.trees.specs.inner.Held.{lookedAt, Holds};
+ghost use Rattle.trees.specs.inner.Held.{SizeSmall, lookedAt, Holds};
 
 // The fault of each, or 0. The first `count` rules stand, and the first rows times columns cells, each by the number that its colour has in the book.
 pub(crate) struct Held {
@@ -48,7 +46,7 @@ pub(crate) fn hold(press: usize, book: &[u8], sheet: &[u8]) -> Held
 
 // How many of so many lent nodes are looked at: a tree of the sheet has one less than twice its cells, and one node more tells that some are left over.
 pub(crate) fn looked_at(lent: usize, o: Held) -> usize
-    requires { ⌜ (o .size .rows ≤ most) × (o .size .cols ≤ most) ⌝ }
+    requires { ⌜ SizeSmall (o .size) ⌝ }
     ensures { λ r. ⌜ r ≡ lookedAt lent o ⌝ }
 {
     let most = 2 * (o.size.rows * o.size.cols);

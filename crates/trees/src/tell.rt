@@ -11,10 +11,8 @@ use books::rule::MOST_RULES;
 use pieces::part::Part;
 use pieces::piece::Piece;
 ghost use mathlib.Core.Path.{_≡_};
-ghost use Prim.Native.Nat.{_≤_};
 ghost use lib.ListN.{take};
-ghost use Rattle.trees.specs.inner.Gather.{mostNodes};
-ghost use Rattle.trees.specs.inner.Held.{HeldFine, judgedHeld, ended16, heldAnswer};
+ghost use Rattle.trees.specs.inner.Held.{HeldFine, CanTell, judgedHeld, ended16, heldAnswer};
 ghost use Rattle.trees.specs.inner.OnSheets.{nodesIn};
 
 // A verdict on so many nodes: 16 at the node that fails, or at the number of nodes read where some are left over; else 0.
@@ -57,7 +55,7 @@ fn judge_held(o: Held, nodes: &[[u16; 2]]) -> Verdict
 
 // The book's fault, or else the sheet's, or what the first so many nodes come to, judged from the top.
 pub(crate) fn tell(o: Held, nodes: [[u16; 2]; MOST_NODES], count: usize) -> Answer
-    requires { ⌜ (count ≤ mostNodes) × (o .sheet .number ≡ 0 → HeldFine o) ⌝ }
+    requires { ⌜ CanTell o count ⌝ }
     ensures { λ r. ⌜ r ≡ heldAnswer o (nodesIn (take count nodes)) ⌝ }
 {
     if o.book.number != 0 {

@@ -6,6 +6,7 @@ use Rattle.names.specs.Pick.{fault}
 use Rattle.names.specs.Spelling.{mostColours}
 use Rattle.books.specs.Size.{room}
 use Rattle.books.specs.Cells.{CellsRead}
+use Rattle.books.specs.Keeps.{mostMotifs, mostRules}
 use Rattle.books.specs.declared.cells.CellsEnd.{CellsEnd}
 use Rattle.books.specs.declared.sheet.SheetFigures.{SheetFigures}
 
@@ -21,3 +22,9 @@ pub record Fillable (g : SheetFigures) : Type 0 where
   pub colours-few : g .colours ≤ mostColours
   pub area-some : 1 ≤ g .size .rows * g .size .cols
   pub area-few : g .size .rows * g .size .cols ≤ room
+
+-- figures whose rules can be read
+pub record FiguresFew (motifs colours count : ℕ) : Type 0 where
+  pub motifs-few : motifs ≤ mostMotifs
+  pub colours-few : colours ≤ mostColours
+  pub rules-few : count ≤ mostRules

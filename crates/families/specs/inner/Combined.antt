@@ -29,7 +29,12 @@ unfoldable pub secondAdds : Pairing → ℕ → List Rule → List Rule → ℕ 
 secondAdds EitherOf start copied raised other new = missing copied (copies new other raised)
 secondAdds (Joined way) start copied raised other new = record { head = new; body = joins way start other } ∷ []
 
--- what is asked of them: rows of rules whose parts fit a byte
+-- what the first asks for: a family as it is read, and a new start that fits a byte
+pub record FirstFits (f : Family) (new : ℕ) : Type 0 where
+  pub own : CountsKept f
+  pub new-fits : new < 256
+
+-- ... and the second: rows of rules whose parts fit a byte
 pub record AddsFit (start : ℕ) (copied raised : Rules) (other new : ℕ) : Type 0 where
   pub start-fits : start < 256
   pub other-fits : other < 256

@@ -30,3 +30,8 @@ pub record Lent (s : List ℕ) (f : Family) : Type 0 where
   pub fitted : RulesKept f
   pub keeps : Keeps (contentsIn s f)
   pub lists : Lists s (f .colours)
+
+-- ... and two of them, each from its own
+pub record LentBoth (s : List ℕ) (f : Family) (t : List ℕ) (g : Family) : Type 0 where
+  pub first : Lent s f
+  pub second : Lent t g

@@ -16,6 +16,11 @@ pub record Lists (s : List ℕ) (c : Colours) : Type 0 where
   pub inside : (i : ℕ) → i < c .count → getD (c .starts) i 0 + getD (c .lens) i 0 ≤ length s
   pub distinct : Distinct (namesIn s c)
 
+-- ... and those of two
+pub record ListsBoth (s : List ℕ) (f : Colours) (t : List ℕ) (g : Colours) : Type 0 where
+  pub first : Lists s f
+  pub second : Lists t g
+
 -- the first book's colours with these parts of the second are the merged list, where each of the second's colours has its number
 pub record Merges (s : List ℕ) (f : Colours) (t : List ℕ) (g : Colours) (m : Merged) : Type 0 where
   pub names : namesIn s f ++ namesIn t (m .more) ≡ merged (namesIn s f) (namesIn t g)

@@ -1,18 +1,27 @@
--- How the pieces that have a cell are passed.
+-- What making entries anew asks for, and how the pieces that have a cell are passed.
 use Prim.Native.Nat.{ℕ, _+_, _≤_, _<_}
 use mathlib.Core.Bool.{Bool}
+use mathlib.Core.List.{List}
 use lib.Dec.{ltb}
 use Rattle.names.specs.Pick.{andThen}
 use Rattle.books.specs.Size.{Within}
 use Rattle.books.specs.declared.size.Size.{Size}
+use Rattle.pieces.specs.declared.masks.Joins.{Joins}
 use Rattle.pieces.specs.declared.piece.Piece.{Piece}
 use Rattle.pieces.specs.Most.{most}
 use Rattle.pieces.specs.Pieces.{Inside, total, slotOf}
 use Rattle.pieces.specs.Refill.{HasCell}
+use Rattle.pieces.specs.inner.ForTable.{TableDue}
 
 -- a stretch, one place further, still has the cell and lies in the row
 unfoldable pub further? : ℕ → ℕ → ℕ → ℕ → Bool
 further? n cell from long = andThen (ltb from cell) (λ _. ltb (from + long) n)
+
+-- what making entries anew asks for: what filling their table does, and a cell of the sheet
+pub record RefillDue (s : Size) (work : List ℕ) (masks : ℕ) (j : Joins) (row column : ℕ) : Type 0 where
+  pub table : TableDue s work masks j
+  pub row-on : row < s .rows
+  pub column-on : column < s .cols
 
 -- a piece of a sheet that there is room for, with the cell
 pub record OnWith (s : Size) (row column : ℕ) (p : Piece) : Type 0 where

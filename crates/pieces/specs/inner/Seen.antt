@@ -52,6 +52,13 @@ pub record TabledAt (s : Size) (work : List ℕ) (q : Piece) : Type 0 where
   pub tabled : Tabled s work
   pub on : On s q
 
+-- at both parts of a cut; ...
+pub record PartsTabled (s : Size) (work : List ℕ) (x : Parts) : Type 0 where
+  pub tabled : Tabled s work
+  pub first-on : On s (x .first .piece)
+  pub rest-on : On s (x .rest .piece)
+
+-- ... and at a piece by the colours, alone and beside the table
 pub record Coloured (s : Size) (colours : List ℕ) (q : Piece) : Type 0 where
   pub sizes : Within most (s .rows) (s .cols)
   pub cells : s .rows * s .cols ≤ length colours

@@ -4,10 +4,12 @@ use mathlib.Core.Bool.{Bool}
 use mathlib.Core.List.{List}
 use lib.ListN.{length}
 use Rattle.books.specs.Search.{givesIn}
+use Rattle.books.specs.declared.rule.Dir.{Dir}
 use Rattle.books.specs.declared.rule.Rule.{Rule}
 use Rattle.books.specs.declared.size.Size.{Size}
 use Rattle.pieces.specs.Most.{most}
 use Rattle.pieces.specs.OnSheet.{onSheet}
+use Rattle.pieces.specs.Parts.{reach}
 use Rattle.pieces.specs.Pieces.{Inside}
 use Rattle.pieces.specs.declared.piece.Piece.{Piece}
 
@@ -21,3 +23,9 @@ pub record Lies (s : Size) (cells : List ℕ) (q : Piece) : Type 0 where
   pub cols-few : s .cols ≤ most
   pub cells-all : s .rows * s .cols ≤ length cells
   pub inside : Inside (s .rows) (s .cols) q
+
+-- what cutting a piece asks for: the cut lies in it, and its ends are numbers that the code has room for
+pub record CutLies (d : Dir) (k : ℕ) (q : Piece) : Type 0 where
+  pub reached : k ≤ reach d q
+  pub rows-end : q .top + q .height ≤ most
+  pub cols-end : q .left + q .width ≤ most

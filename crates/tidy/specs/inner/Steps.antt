@@ -24,6 +24,11 @@ AllFit rs = (r : Rule) → List·Memᴰ r rs → RuleFits mostMotifs mostColours
 abbrev pub rulesStanding : Family → List Rule
 rulesStanding f = take (f .count) (f .rules)
 
+-- what marking by the first so many rules asks for: they are in the array, and each of them fits
+pub record FirstFit (rules : List Rule) (count : ℕ) : Type 0 where
+  pub few : count ≤ mostRules
+  pub fit : AllFit (take count rules)
+
 -- a family as it is read
 pub record RulesKept (f : Family) : Type 0 where
   pub colours-few : f .colours .count ≤ mostColours

@@ -13,12 +13,14 @@ use Rattle.books.specs.Press.{IsPress}
 use Rattle.books.specs.Sheet.{sheetOf}
 use Rattle.books.specs.Size.{room, Within}
 use Rattle.books.specs.declared.answer.Answer.{Answer}
+use Rattle.books.specs.declared.size.Size.{Size}
 use Rattle.pieces.specs.Area.{whole}
 use Rattle.pieces.specs.Most.{most}
 use Rattle.trees.specs.declared.held.Held.{Held}
 use Rattle.trees.specs.declared.judge.Verdict.{Verdict}
 use Rattle.trees.specs.declared.node.Node.{Node}
 use Rattle.trees.specs.Outcome.{treeAnswer}
+use Rattle.trees.specs.inner.Gather.{mostNodes}
 use Rattle.trees.specs.inner.OnSheets.{judgedAt}
 
 -- a book and a sheet of a press as they are read, with the cells numbered by the book's colours
@@ -40,6 +42,16 @@ pub record HeldFine (o : Held) : Type 0 where
   pub rules-held : o .count ≤ length (o .rules)
   pub cells-all : length (o .cells) ≡ room
   pub sizes : Within most (o .size .rows) (o .size .cols)
+
+-- what telling of so many nodes asks for: there is room for them, and where the sheet has no fault they can be judged
+pub record CanTell (o : Held) (count : ℕ) : Type 0 where
+  pub few : count ≤ mostNodes
+  pub fine : o .sheet .number ≡ 0 → HeldFine o
+
+-- a size, of a sheet or of none, that the code's numbers have room for
+pub record SizeSmall (s : Size) : Type 0 where
+  pub rows-few : s .rows ≤ most
+  pub cols-few : s .cols ≤ most
 
 -- 16 at the node that fails, or at the number of nodes read where some are left over; else 0
 abbrev pub ended16 : Verdict → ℕ → Answer
@@ -63,6 +75,6 @@ lookedAt lent o = min lent (2 * (o .size .rows * o .size .cols))
 
 -- what was read of a book and a sheet answers for any row, by the nodes of it that are looked at, where there is such a press
 pub record Holds (press : ℕ) (book sheet : List ℕ) (o : Held) : Type 0 where
-  pub small : (o .size .rows ≤ most) × (o .size .cols ≤ most)
+  pub small : SizeSmall (o .size)
   pub fine : o .sheet .number ≡ 0 → HeldFine o
   pub tells : IsPress press → (ns : List Node) → heldAnswer o (take (lookedAt (length ns) o) ns) ≡ treeAnswer press book sheet ns

@@ -11,7 +11,8 @@ read-rules-requires : tie.Need-read-rules-requires
 read-rules-requires c κs =
     let figures = sym (c .before .before .before .read-figures .ensures) ∙ c .before .r2 .given .1 in
     let g = figures-lie _ _ _ _ figures in
-    omega (arith, c .before .before .before .before .before .pre)
+    let p = c .before .before .before .before .before .pre in
+    record { motifs-few = omega (arith, p); colours-few = omega (arith, p); rules-few = omega (arith, p) }
 
 returns : tie.Need-returns
 unfolding figuredAt

@@ -25,7 +25,7 @@ abbrev began : tie.After-read-rule Inv-loop μ-loop → tie.Start Inv-loop μ-lo
 began r = r .before .before .before .before .before
 
 inside : (r : tie.After-read-rule Inv-loop μ-loop) → r .before .before .loop .i < mostRules
-inside r = omega (arith, r .before .loop-test .taken, began r .pre .2)
+inside r = omega (arith, r .before .loop-test .taken, began r .pre .rules-few)
 
 loop-holds : tie.Need-loop-holds Inv-loop μ-loop
 loop-holds c = rw (c .no-rules .ensures) (going-begins _ _ _ _ _ _)
@@ -57,7 +57,7 @@ returns-2 c =
     let rule = sym (r .read-rule .ensures) ∙ number .before .before .r2 .given .1 in
     let p = began r .pre in
     c .refused-rules2 .ensures ∙ rw (c .before .fault .ensures)
-    (going-repeats _ _ _ _ _ _ (r .before .before .loop .inv) (r .before .loop-test .taken) (p .0) (p .1) (p .2) rule (number .rule-number .ensures) (front r)
+    (going-repeats _ _ _ _ _ _ (r .before .before .loop .inv) (r .before .loop-test .taken) (p .motifs-few) (p .colours-few) (p .rules-few) rule (number .rule-number .ensures) (front r)
     (sym (asked .repeats .ensures) ∙ c .before .before .if1 .taken))
 
 loop-again : tie.Need-loop-again Inv-loop μ-loop
@@ -66,7 +66,7 @@ loop-again c =
     let number = c .before .before .before .before in
     let rule = sym (r .read-rule .ensures) ∙ number .before .before .r2 .given .1 in
     let p = began r .pre in
-    going-next _ _ _ _ _ _ (r .before .before .loop .inv) (r .before .loop-test .taken) (p .0) (p .1) (p .2) rule (number .rule-number .ensures) (front r)
+    going-next _ _ _ _ _ _ (r .before .before .loop .inv) (r .before .loop-test .taken) (p .motifs-few) (p .colours-few) (p .rules-few) rule (number .rule-number .ensures) (front r)
     (sym (c .before .repeats .ensures) ∙ c .if1 .left)
 
 returns-3 : tie.Need-returns-3 Inv-loop μ-loop

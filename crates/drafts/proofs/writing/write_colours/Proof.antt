@@ -34,7 +34,7 @@ two b = spellNames (namesIn (now (b .args .second)) (b .args .more))
 -- there is room for all three
 room : (b : tie.Start) → length (count b) + (length (one b) + length (two b)) ≤ length (now (b .args .out))
 room b =
-    let whole = rw (colours-spelled (now (b .args .first)) (now (b .args .second)) (b .args .c) (b .args .more)) at (b .pre .2) in
+    let whole = rw (colours-spelled (now (b .args .first)) (now (b .args .second)) (b .args .c) (b .args .more)) at (b .pre .room) in
     omega (arith, whole, length-append (count b) (one b ++ two b), length-append (one b) (two b))
 
 -- the count was written
@@ -45,14 +45,17 @@ counted c = wrote _ (c .write-number .ensures .0) (c .write-number .ensures .1) 
 write-names-requires : tie.Need-write-names-requires
 write-names-requires c κs =
     let k = c .before .before .before in
-    (began k .pre .0, omega (arith, room (began k), counted k .place, wrote-length (counted k)))
+    record { colours-few = began k .pre .colours-few; room = omega (arith, room (began k), counted k .place, wrote-length (counted k)) }
 
 write-names-requires-2 : tie.Need-write-names-requires-2
 write-names-requires-2 c κs =
     let n = c .before .before .before in
     let k = numbered n in
     let named = n .write-names .ensures in
-    (began k .pre .1, omega (arith, room (began k), counted k .place, wrote-length (counted k), named .place, wrote-length named))
+    record {
+      colours-few = began k .pre .more-few;
+      room = omega (arith, room (began k), counted k .place, wrote-length (counted k), named .place, wrote-length named);
+    }
 
 returns : tie.Need-returns
 returns c =

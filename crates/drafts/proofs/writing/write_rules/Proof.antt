@@ -23,7 +23,7 @@ write-rule-requires c κs =
     let a = c .before .before .before .before .before .args in
     let still = c .before .before .before .loop .inv .1 in
     let on = rules-on-length (a .t1) (a .count) (c .before .before .before .loop .i) noRule (c .before .before .loop-test .taken) (omega arith) in
-    omega (arith, still .place, still .sized, c .before .before .before .before .before .pre .1)
+    omega (arith, still .place, still .sized, c .before .before .before .before .before .pre .room)
 
 loop-again : tie.Need-loop-again Inv-loop μ-loop
 loop-again c =
@@ -31,7 +31,7 @@ loop-again c =
     let l = t .before .loop in
     let b = t .before .before .before in
     let on = rules-on (b .args .t1) (b .args .count) (l .i) noRule (t .loop-test .taken) (omega arith) in
-    (omega arith, still-less (b .pre .1) (rw on at (l .inv .1)) (c .before .before .write-rule .ensures))
+    (omega arith, still-less (b .pre .room) (rw on at (l .inv .1)) (c .before .before .write-rule .ensures))
 
 same-length : tie.Need-same-length Inv-loop μ-loop
 same-length c = c .before .loop .inv .1 .sized

@@ -57,7 +57,7 @@ returns c =
 write-colours-requires : tie.Need-write-colours-requires
 write-colours-requires c κs =
     let k = c .before .before .before .before .before in
-    (began k .pre .colours-few, began k .pre .more-few, omega (arith, room k))
+    record { colours-few = began k .pre .colours-few; more-few = began k .pre .more-few; room = omega (arith, room k) }
 
 write-three-requires : tie.Need-write-three-requires
 write-three-requires c κs =
@@ -74,7 +74,10 @@ write-rules-requires c κs =
     let b = began k in
     let one = w .write-colours .ensures in
     let two = f .write-three .ensures in
-    (omega (arith, b .pre .rules-few), omega (arith, room k, one .place, wrote-length {l = colours b} one, two .place, wrote-length {l = figures b} two))
+    record {
+      rules-few = omega (arith, b .pre .rules-few);
+      room = omega (arith, room k, one .place, wrote-length {l = colours b} one, two .place, wrote-length {l = figures b} two);
+    }
 
 returns-2 : tie.Need-returns-2
 returns-2 c =

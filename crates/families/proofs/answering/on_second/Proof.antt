@@ -44,7 +44,7 @@ second-lent c =
     read-lent (second r) _ (r .read-book .ensures) (λ i. r .before .before .shared-slice-known2 .given i .fits) (c .if1 .left)
 
 make-pair-requires : tie.Need-make-pair-requires
-make-pair-requires c κs = (began (read (c .before .before)) .pre, second-lent (c .before))
+make-pair-requires c κs = record { first = began (read (c .before .before)) .pre; second = second-lent (c .before) }
 
 finish-requires : tie.Need-finish-requires
 finish-requires c κs = c .before .make-pair .ensures .ready

@@ -5,18 +5,18 @@ use Rattle.families.proofs.combining.gather.Statement.{statement}
 use Rattle.families.proofs.combining.gather.Tie as tie
 
 add-rules-requires : tie.Need-add-rules-requires
-add-rules-requires c κs = (omega (arith, c .pre .room), c .pre .raised-rows)
+add-rules-requires c κs = record { room = omega (arith, c .pre .room); rows = c .pre .raised-rows }
 
 add-rules-requires-2 : tie.Need-add-rules-requires-2
 add-rules-requires-2 c κs =
     let p = c .before .pre in
-    rw (c .add-rules .ensures) (omega (arith, p .room, standing-length _ (p .raised-rows)), p .copied-rows)
+    rw (c .add-rules .ensures) (record { room = omega (arith, p .room, standing-length _ (p .raised-rows)); rows = p .copied-rows })
 
 add-rules-requires-3 : tie.Need-add-rules-requires-3
 add-rules-requires-3 c κs =
     let p = c .before .before .pre in
     rw (c .add-rules2 .ensures, c .before .add-rules .ensures)
-    (omega (arith, p .room, standing-length _ (p .raised-rows), standing-length _ (p .copied-rows)), p .added-rows)
+    (record { room = omega (arith, p .room, standing-length _ (p .raised-rows), standing-length _ (p .copied-rows)); rows = p .added-rows })
 
 returns : tie.Need-returns
 returns c = simp (c .before .add-rules2 .ensures, c .before .before .add-rules .ensures) at (c .add-rules3 .ensures)

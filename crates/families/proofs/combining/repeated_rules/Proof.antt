@@ -11,7 +11,9 @@ use Rattle.families.proofs.combining.repeated_rules.Statement.{statemen
 use Rattle.families.proofs.combining.repeated_rules.Tie as tie
 
 add-copies-requires : tie.Need-add-copies-requires
-add-copies-requires c κs = let p = c .before .pre in simp (c .rules-of .ensures) (omega (arith, p .room), p .own .rows, omega (arith, p .new-fits))
+add-copies-requires c κs =
+    let p = c .before .pre in
+    simp (c .rules-of .ensures) (record { room = omega (arith, p .room); rows = p .own .rows; new-fits = omega (arith, p .new-fits) })
 
 -- the family's rules with the copies
 gathered : (c : tie.After-add-copies) → let a = c .before .before .args in

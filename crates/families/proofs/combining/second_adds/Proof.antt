@@ -23,7 +23,11 @@ add-copies-requires c κs =
     let a = began empty .args in
     let p = began empty .pre in
     simp (empty .none-in .ensures)
-    (omega (arith, headed-few (a .other) (rulesStanding (a .raised)), standing-length (a .raised) (p .raised-rows), p .raised-rows .few), p .raised-rows, omega (arith, p .new-fits, p .other-fits))
+    (record {
+      room = omega (arith, headed-few (a .other) (rulesStanding (a .raised)), standing-length (a .raised) (p .raised-rows), p .raised-rows .few);
+      rows = p .raised-rows;
+      new-fits = omega (arith, p .new-fits, p .other-fits);
+    })
 
 -- the copies by themselves
 copied : (c : tie.After-add-copies) → let a = began (c .before .before .before) .args in Stands (c .add-copies .result) (copies (a .new) (a .other) (rulesStanding (a .raised)))
@@ -39,7 +43,12 @@ leave-out-requires : tie.Need-leave-out-requires
 leave-out-requires c κs =
     let p = began (c .before .before .before) .pre in
     let st = copied c in
-    (p .copied-rows, st .rows, p .copied-fit, subst AllFit (sym (st .are)) (fit-copies _ _ _ _ _ (p .new-fits) (p .raised-fit)))
+    record {
+      first-rows = p .copied-rows;
+      second-rows = st .rows;
+      first-fit = p .copied-fit;
+      second-fit = subst AllFit (sym (st .are)) (fit-copies _ _ _ _ _ (p .new-fits) (p .raised-fit));
+    }
 
 join-rule-requires : tie.Need-join-rule-requires
 join-rule-requires c κs =

@@ -34,13 +34,13 @@ placed c =
     let a = c .before .before .before .before .before .before .args in
     let p = c .before .before .before .before .before .before .pre in
     let l = c .before .before .before .before .loop in
-    let here = ap length (copied-next (a .t2) (p .1) (a .head) (l .i) (c .before .before .before .loop-test .taken) (eq-eqb _ _ (c .if1 .taken)) (a .new)) in
-    omega (arith, p .0, l .inv .1, here, copies-length (a .new) (a .head) (rulesStanding (a .t2)))
+    let here = ap length (copied-next (a .t2) (p .rows) (a .head) (l .i) (c .before .before .before .loop-test .taken) (eq-eqb _ _ (c .if1 .taken)) (a .new)) in
+    omega (arith, p .room, l .inv .1, here, copies-length (a .new) (a .head) (rulesStanding (a .t2)))
 
 loop-again : tie.Need-loop-again Inv-loop μ-loop
 loop-again c =
     let a = c .before .before .before .before .before .before .args in
-    let rows = c .before .before .before .before .before .before .pre .1 in
+    let rows = c .before .before .before .before .before .before .pre .rows in
     let l = c .before .before .before .before .loop in
     let less = c .before .before .before .loop-test .taken in
     ⊎-elim
@@ -58,7 +58,7 @@ returns : tie.Need-returns Inv-loop μ-loop
 unfolding copies
 returns c =
     let a = c .before .before .before .args in
-    let none = left-none (a .t2) (c .before .before .before .pre .1) _ (c .loop-test .left) in
+    let none = left-none (a .t2) (c .before .before .before .pre .rows) _ (c .loop-test .left) in
     let inv = simp none at (c .before .loop .inv) in
     let counted : c .before .loop .at ≡ a .l .count + length (copies (a .new) (a .head) (rulesStanding (a .t2))) = omega (arith, inv .1) in
     λ i. record { count = counted i; rules = inv .2 i }

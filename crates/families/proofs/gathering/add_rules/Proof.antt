@@ -25,12 +25,12 @@ loop-again c =
     let less = c .before .loop-test .taken in
     let l = c .before .before .loop in
     let a = c .before .before .before .before .args in
-    (omega arith, simp (next-place, one-written) (simp (left-next (a .t2) (c .before .before .before .before .pre .1) (l .i) less) at (l .inv .1)))
+    (omega arith, simp (next-place, one-written) (simp (left-next (a .t2) (c .before .before .before .before .pre .rows) (l .i) less) at (l .inv .1)))
 
 returns : tie.Need-returns Inv-loop μ-loop
 returns c =
     let a = c .before .before .before .args in
-    let rows = c .before .before .before .pre .1 in
+    let rows = c .before .before .before .pre .rows in
     let end = simp (left-none (a .t2) rows _ (c .loop-test .left)) at (c .before .loop .inv .1) in
     simp (standing-length (a .t2) rows, end)
 

@@ -49,10 +49,10 @@ abbrev began : tie.At-loop Inv-loop μ-loop → tie.Start Inv-loop μ-loop
 began l = l .before .before .before .before
 
 own-few : (l : tie.At-loop Inv-loop μ-loop) → began l .args .l .count ≤ length (began l .args .l .rules)
-own-few l = let p = began l .pre in omega (arith, p .0 .few, p .0 .places-all)
+own-few l = let p = began l .pre in omega (arith, p .first-rows .few, p .first-rows .places-all)
 
 numbers-are : (l : tie.At-loop Inv-loop μ-loop) → length (l .before .before .numbers-of .result) ≡ mostRules
-numbers-are l = ap length (l .before .before .numbers-of .ensures) ∙ numbers-length _ _ (own-few l) (began l .pre .0 .few)
+numbers-are l = ap length (l .before .before .numbers-of .ensures) ∙ numbers-length _ _ (own-few l) (began l .pre .first-rows .few)
 
 -- the rule is found as its number is
 tested : (s : tie.After-is-missing Inv-loop μ-loop) → let l = turn (numbered s) in
@@ -77,7 +77,7 @@ here s e =
     let a = began l .args in
     let find = found (l .before .before .numbers-of .result) (a .l .count) in
     let rest = leftBy find (drop (l .loop .i + 1) (rulesStanding (a .t2))) in
-    missed-next (a .t2) (began l .pre .1) find (l .loop .i) (numbered s .before .before .loop-test .taken) refl
+    missed-next (a .t2) (began l .pre .second-rows) find (l .loop .i) (numbered s .before .before .loop-test .taken) refl
     ∙ turned (find (ruleOn (a .t2) (l .loop .i))) rest (ruleOn (a .t2) (l .loop .i) ∷ rest)
     ∙ ap (λ (t : Bool). pick t (ruleOn (a .t2) (l .loop .i) ∷ rest) rest) (sym (tested s) ∙ e)
 
@@ -89,7 +89,7 @@ placed c =
     let p = began l .pre in
     let find = found (l .before .before .numbers-of .result) (a .l .count) in
     let one = ap length (here (c .before) (c .if1 .taken)) in
-    omega (arith, l .loop .inv .1, one, left-few find (rulesStanding (a .t2)), standing-length (a .t2) (p .1), p .1 .few)
+    omega (arith, l .loop .inv .1, one, left-few find (rulesStanding (a .t2)), standing-length (a .t2) (p .second-rows), p .second-rows .few)
 
 loop-again : tie.Need-loop-again Inv-loop μ-loop
 loop-again c =
@@ -113,12 +113,12 @@ returns c =
     let p = began l .pre in
     let find = found (l .before .before .numbers-of .result) (a .l .count) in
     let others = rulesStanding (a .l) in
-    let end = simp (left-none (a .t2) (p .1) _ (c .loop-test .left)) at (l .loop .inv) in
+    let end = simp (left-none (a .t2) (p .second-rows) _ (c .loop-test .left)) at (l .loop .inv) in
     let numbers : take (a .l .count) (l .before .before .numbers-of .result) ≡ map ruleNumber others =
     ap (take (a .l .count)) (l .before .before .numbers-of .ensures) ∙ numbers-before (a .l .rules) (a .l .count) (own-few l) in
     let same : leftBy find (rulesStanding (a .t2)) ≡ leftBy (stands others) (rulesStanding (a .t2)) =
     left-same find (stands others) (rulesStanding (a .t2))
-    (λ r m. ap (λ (ns : List ℕ). among ns (ruleNumber r)) numbers ∙ among-stands others r (p .2) (p .3 r m)) in
+    (λ r m. ap (λ (ns : List ℕ). among ns (ruleNumber r)) numbers ∙ among-stands others r (p .first-fit) (p .second-fit r m)) in
     let counted : l .loop .left ≡ 0 + length (leftBy (stands others) (rulesStanding (a .t2))) = omega (arith, end .1, ap length same) in
     let laid = end .2 ∙ ap (sets (a .t2 .rules) 0) same in
     λ i. record { count = counted i; rules = laid i }
@@ -136,7 +136,7 @@ leave-out-spec =
     (λ c κs. search needs)
     (λ c. omega arith)
     (λ c. omega arith)
-    (λ c. omega (arith, numbers-are (turn (c .before)), began (turn (c .before)) .pre .0 .few))
+    (λ c. omega (arith, numbers-are (turn (c .before)), began (turn (c .before)) .pre .first-rows .few))
     (λ c κs. search needs)
     (λ c. omega (arith, placed c))
     (λ c. placed c)

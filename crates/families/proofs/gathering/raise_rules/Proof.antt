@@ -20,21 +20,21 @@ raised-rule-requires : tie.Need-raised-rule-requires Inv-loop μ-loop
 raised-rule-requires c κs =
     let a = c .before .before .before .before .args in
     let p = c .before .before .before .before .pre in
-    (p .0, p .2 _ (rule-stands (a .t1) (p .1) (c .before .before .loop .i) (c .before .loop-test .taken)))
+    record { few = p .few; fits = p .fits _ (rule-stands (a .t1) (p .rows) (c .before .before .loop .i) (c .before .loop-test .taken)) }
 
 loop-again : tie.Need-loop-again Inv-loop μ-loop
 loop-again c =
     let a = c .before .before .before .before .before .args in
     let p = c .before .before .before .before .before .pre in
     let l = c .before .before .before .loop in
-    let next = change-next (a .t1) (p .1) (raisedBy (a .by) (a .numbers)) (l .rules) (l .i) (c .before .before .loop-test .taken) in
+    let next = change-next (a .t1) (p .rows) (raisedBy (a .by) (a .numbers)) (l .rules) (l .i) (c .before .before .loop-test .taken) in
     (omega arith, rw (c .raised-rule .ensures) (next ∙ l .inv .1))
 
 returns : tie.Need-returns Inv-loop μ-loop
 returns c =
     let a = c .before .before .before .args in
     let l = c .before .loop in
-    let none = change-none (a .t1) (c .before .before .before .pre .1) (raisedBy (a .by) (a .numbers)) (l .rules) (l .i) (c .loop-test .left) in
+    let none = change-none (a .t1) (c .before .before .before .pre .rows) (raisedBy (a .by) (a .numbers)) (l .rules) (l .i) (c .loop-test .left) in
     simp (sym none ∙ l .inv .1)
 
 pub raise-rules-spec : {M : Type 1} → statement M

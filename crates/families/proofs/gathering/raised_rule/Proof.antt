@@ -25,13 +25,13 @@ raised-rule-spec =
     (λ c. search needs)
     (λ c. search needs)
     (λ c. search needs)
-    (λ c. simp (c .before .body .given .1) at (c .before .before .before .before .pre .1 .body-fits))
+    (λ c. simp (c .before .body .given .1) at (c .before .before .before .before .pre .fits .body-fits))
     (λ c. search needs)
-    (λ c. let p = c .before .before .before .before .pre in omega (arith, simp (c .before .body2 .given .1) at (p .1 .body-fits), p .0))
-    (λ c. let p = c .before .before .before .before .pre in omega (arith, simp (c .before .body2 .given .1) at (p .1 .body-fits), p .0))
+    (λ c. let p = c .before .before .before .before .pre in omega (arith, simp (c .before .body2 .given .1) at (p .fits .body-fits), p .few))
+    (λ c. let p = c .before .before .before .before .pre in omega (arith, simp (c .before .body2 .given .1) at (p .fits .body-fits), p .few))
     (λ c. search needs)
-    (λ c. let p = c .before .before .before .before .pre in omega (arith, simp (c .before .body3 .given .1) at (p .1 .body-fits), p .0))
-    (λ c. let p = c .before .before .before .before .pre in omega (arith, simp (c .before .body3 .given .1) at (p .1 .body-fits), p .0))
+    (λ c. let p = c .before .before .before .before .pre in omega (arith, simp (c .before .body3 .given .1) at (p .fits .body-fits), p .few))
+    (λ c. let p = c .before .before .before .before .pre in omega (arith, simp (c .before .body3 .given .1) at (p .fits .body-fits), p .few))
     returns
     returns-2
     returns-3)

@@ -35,7 +35,7 @@ made c = c .before .before .before .before .before .before .before
 raise-rules-requires : tie.Need-raise-rules-requires
 raise-rules-requires c κs =
     let p = c .before .before .before .before .before .before .before .before .before .pre in
-    rw (c .rules-of2 .ensures) (omega (arith, p .0 .fitted .sized .motifs-few), p .1 .fitted .sized .rows, p .1 .fitted .fits)
+    rw (c .rules-of2 .ensures) (record { few = omega (arith, p .first .fitted .sized .motifs-few); rows = p .second .fitted .sized .rows; fits = p .second .fitted .fits })
 
 risen : (r : tie.After-raise-rules) → let a = began r .args in r .raise-rules .result ≡ raisedRules (a .f) (a .g) (merged r .merge .result .numbers)
 risen r = simp (r .before .rules-of2 .ensures) at (r .raise-rules .ensures)
@@ -43,7 +43,7 @@ risen r = simp (r .before .rules-of2 .ensures) at (r .raise-rules .ensures)
 first-adds-requires : tie.Need-first-adds-requires
 first-adds-requires r κs =
     let p = began r .pre in
-    (p .0 .fitted .sized, omega (arith, p .0 .fitted .sized .motifs-few, p .1 .fitted .sized .motifs-few))
+    record { own = p .first .fitted .sized; new-fits = omega (arith, p .first .fitted .sized .motifs-few, p .second .fitted .sized .motifs-few) }
 
 second-adds-requires : tie.Need-second-adds-requires
 second-adds-requires c κs =
@@ -51,7 +51,7 @@ second-adds-requires c κs =
     let a = began r .args in
     let p = began r .pre in
     rw (risen r)
-    (adds-fit (now (a .first)) (now (a .second)) (a .f) (a .g) _ (p .0) (p .1) (merged r .merge .ensures) (a .pairing) _ (c .before .first-adds .ensures))
+    (adds-fit (now (a .first)) (now (a .second)) (a .f) (a .g) _ (p .first) (p .second) (merged r .merge .ensures) (a .pairing) _ (c .before .first-adds .ensures))
 
 -- what is added from the second family
 from-second : (d : tie.After-second-adds) → let r = rose d in let a = began r .args in
@@ -69,17 +69,17 @@ small : (d : tie.After-second-adds) → let a = began (rose d) .args in
     (a .f .count ≤ mostRules) × (a .g .count ≤ mostRules) × (d .before .before .first-adds .result .count ≤ mostRules) × (d .second-adds .result .count ≤ mostRules)
 small d =
     let p = began (rose d) .pre in
-    (p .0 .fitted .sized .rows .few, p .1 .fitted .sized .rows .few, d .before .before .first-adds .ensures .rows .few, d .second-adds .ensures .rows .few)
+    (p .first .fitted .sized .rows .few, p .second .fitted .sized .rows .few, d .before .before .first-adds .ensures .rows .few, d .second-adds .ensures .rows .few)
 
 colours-small : (d : tie.After-second-adds) → let a = began (rose d) .args in (a .f .colours .count ≤ 64) × (merged (rose d) .merge .result .more .count ≤ 64)
 colours-small d =
     let p = began (rose d) .pre in
-    (p .0 .fitted .sized .colours-few, omega (arith, merged (rose d) .merge .ensures .few, p .1 .fitted .sized .colours-few))
+    (p .first .fitted .sized .colours-few, omega (arith, merged (rose d) .merge .ensures .few, p .second .fitted .sized .colours-few))
 
 motifs-small : (r : tie.After-raise-rules) → let a = began r .args in (a .f .motifs ≤ 32) × (a .g .motifs ≤ 32) × (a .g .start ≤ 32)
 motifs-small r =
     let p = began r .pre in
-    (p .0 .fitted .sized .motifs-few, p .1 .fitted .sized .motifs-few, omega (arith, p .1 .fitted .sized .motifs-few, p .1 .fitted .sized .start-fits))
+    (p .first .fitted .sized .motifs-few, p .second .fitted .sized .motifs-few, omega (arith, p .second .fitted .sized .motifs-few, p .second .fitted .sized .start-fits))
 
 -- the test, and what it says where it holds
 tested : (c : tie.After-counts-within) → let a = began (rose (made c)) .args in
@@ -89,7 +89,7 @@ tested c =
     let a = began (rose d) .args in
     let p = began (rose d) .pre in
     c .counts-within .ensures
-    ∙ sym (pair-test (now (a .first)) (now (a .second)) (a .f) (a .g) _ (p .0) (p .1) (merged (rose d) .merge .ensures) (a .pairing)
+    ∙ sym (pair-test (now (a .first)) (now (a .second)) (a .f) (a .g) _ (p .first) (p .second) (merged (rose d) .merge .ensures) (a .pairing)
     _ (d .before .before .first-adds .ensures) _ (from-second d))
 
 room : (c : tie.Then1) → let d = made (c .before) in let a = began (rose d) .args in
@@ -106,7 +106,7 @@ gather-requires c κs =
     let added = d .second-adds .result in
     subst⁻¹ (λ (l : Rules). GatherFits (r .before .before .before .rules-of .result) l copied added) (risen r)
     (subst⁻¹ (λ (l : Rules). GatherFits l (raisedRules (a .f) (a .g) (merged r .merge .result .numbers)) copied added) (r .before .before .before .rules-of .ensures)
-    (gather-fits (now (a .first)) (now (a .second)) (a .f) (a .g) _ (p .0) (p .1) (merged r .merge .ensures) (a .pairing)
+    (gather-fits (now (a .first)) (now (a .second)) (a .f) (a .g) _ (p .first) (p .second) (merged r .merge .ensures) (a .pairing)
     _ (d .before .before .first-adds .ensures) _ (from-second d) (room c)))
 
 returns : tie.Need-returns
@@ -122,13 +122,13 @@ returns c =
     ∙ ap₂ (λ (x y : Rules). gathered x y copied added) (r .before .before .before .rules-of .ensures) (risen r) in
     let drafted = c .drafting .ensures ∙ ap (draftedAs (a .f) (merged r .merge .result .more) (a .f .motifs + a .g .motifs + 1) (a .f .motifs + a .g .motifs)) rules in
     subst⁻¹ (MakesPair (a .pairing) (now (a .first)) (a .f) (now (a .second)) (a .g)) drafted
-    (pair-makes (now (a .first)) (now (a .second)) (a .f) (a .g) _ (p .0) (p .1) (merged r .merge .ensures) (a .pairing)
+    (pair-makes (now (a .first)) (now (a .second)) (a .f) (a .g) _ (p .first) (p .second) (merged r .merge .ensures) (a .pairing)
     _ (d .before .before .first-adds .ensures) _ (from-second d) (room then) (sym (tested (then .before)) ∙ then .if1 .taken))
 
 returns-2 : tie.Need-returns-2
 returns-2 c =
     let test = c .before .before in
-    rw (c .exceeding .ensures) (exceeding-makes _ _ _ _ (began (rose (made test)) .pre .0 .fitted .sized) (sym (tested test) ∙ c .before .if1 .left))
+    rw (c .exceeding .ensures) (exceeding-makes _ _ _ _ (began (rose (made test)) .pre .first .fitted .sized) (sym (tested test) ∙ c .before .if1 .left))
 
 pub make-pair-spec : {M : Type 1} → statement M
 make-pair-spec =

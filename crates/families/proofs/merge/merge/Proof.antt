@@ -29,7 +29,7 @@ found : (c : tie.After-find-name Inv-loop μ-loop) → let head = turn c .before
 found c = rw (← c .before .before .before .before .tail .ensures .holds) (c .find-name .ensures)
 
 loop-holds : tie.Need-loop-holds Inv-loop μ-loop
-loop-holds c = rw (c .no-colours .ensures) (so-far-none _ _ _ _ (c .before .before .before .pre .0) (c .before .before .before .pre .1) _ refl)
+loop-holds c = rw (c .no-colours .ensures) (so-far-none _ _ _ _ (c .before .before .before .pre .first) (c .before .before .before .pre .second) _ refl)
 
 loop-again : tie.Need-loop-again Inv-loop μ-loop
 loop-again c =
@@ -40,8 +40,8 @@ loop-again c =
     let less = t .loop-test .taken in
     let is = found (c .before) in
     ⊎-elim
-    (λ w. rw (w .1, w .2) (so-far-held _ (a .t2) _ (a .t4) (p .0) (p .1) (l .i) _ _ less (l .inv) _ is (w .0 .taken)))
-    (λ w. rw (w .1, w .2) (so-far-new _ (a .t2) _ (a .t4) (p .0) (p .1) (l .i) _ _ less (l .inv) _ is (w .0 .left)))
+    (λ w. rw (w .1, w .2) (so-far-held _ (a .t2) _ (a .t4) (p .first) (p .second) (l .i) _ _ less (l .inv) _ is (w .0 .taken)))
+    (λ w. rw (w .1, w .2) (so-far-new _ (a .t2) _ (a .t4) (p .first) (p .second) (l .i) _ _ less (l .inv) _ is (w .0 .left)))
     (c .if1 .came)
 
 returns : tie.Need-returns Inv-loop μ-loop
@@ -49,7 +49,7 @@ returns c =
     let l = c .before .loop in
     let s = began (c .before) in
     let end : l .i ≡ s .args .t4 .count = omega (arith, l .inv .within, c .loop-test .left) in
-    so-far-all _ (s .args .t2) _ (s .args .t4) (s .pre .0) (s .pre .1) _ _ (rw end at (l .inv))
+    so-far-all _ (s .args .t2) _ (s .args .t4) (s .pre .first) (s .pre .second) _ _ (rw end at (l .inv))
 
 pub merge-spec : {M : Type 1} → statement M
 merge-spec =

@@ -20,7 +20,7 @@ returns-2 c =
 split-requires : tie.Need-split-requires
 split-requires c κs =
     let y = c .before in
-    (y .before .before .before .pre (y .before .if1 .left), y .if2 .left)
+    record { rules-small = y .before .before .before .pre (y .before .if1 .left); all = y .if2 .left }
 
 returns-3 : tie.Need-returns-3
 unfolding laid

@@ -49,7 +49,10 @@ fill-from-requires c κs =
     let y = c .before .before in
     let t = y .before in
     let s = shows t in
-    (record { tabled = record { sizes = s .sizes; entries = enough t }; fit = fitting-fit _ _ (sym (t .fits2 .ensures) ∙ y .if3 .taken) }, s .painted)
+    record {
+      table = record { tabled = record { sizes = s .sizes; entries = enough t }; fit = fitting-fit _ _ (sym (t .fits2 .ensures) ∙ y .if3 .taken) };
+      painted = s .painted;
+    }
 
 whole-in-table-requires : tie.Need-whole-in-table-requires
 whole-in-table-requires c κs =

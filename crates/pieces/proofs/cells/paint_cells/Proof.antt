@@ -23,23 +23,23 @@ loop-holds c = (omega arith, refl, refl)
 cast-at : tie.Need-cast-at Inv-loop μ-loop
 cast-at c =
     let t = c .before .before in
-    omega (arith, t .before .pre .2 .low (t .loop .i) (c .before .loop-test .taken))
+    omega (arith, t .before .pre .painted .low (t .loop .i) (c .before .loop-test .taken))
 
 add-at : tie.Need-add-at Inv-loop μ-loop
 add-at c =
     let t = c .before .before in
-    omega (arith, t .before .pre .2 .low (t .loop .i) (c .before .loop-test .taken))
+    omega (arith, t .before .pre .painted .low (t .loop .i) (c .before .loop-test .taken))
 
 mul-work : tie.Need-mul-work Inv-loop μ-loop
 mul-work c =
     let t = c .before .before in
-    omega (arith, t .before .pre .2 .low (t .loop .i) (c .before .loop-test .taken))
+    omega (arith, t .before .pre .painted .low (t .loop .i) (c .before .loop-test .taken))
 
 shared-slice-read-work : tie.Need-shared-slice-read-work Inv-loop μ-loop
 shared-slice-read-work c =
     let t = c .before .before .before in
     let s = t .before in
-    omega (arith, s .pre .0, s .pre .2 .low (t .loop .i) (c .before .before .loop-test .taken))
+    omega (arith, s .pre .all, s .pre .painted .low (t .loop .i) (c .before .before .loop-test .taken))
 
 loop-again : tie.Need-loop-again Inv-loop μ-loop
 loop-again c =
@@ -49,7 +49,7 @@ loop-again c =
       omega arith,
       simp length-set (t .loop .inv .1),
       ap (λ (w : List ℕ). set w (t .loop .i) (mask (getD (a .colours .now) (t .loop .i) 0))) (t .loop .inv .2)
-          ∙ one-numbered mask (a .colours .now) (a .work .now) (t .loop .i) (omega (arith, t .before .pre .2 .all)) (omega (arith, t .before .pre .1)),
+          ∙ one-numbered mask (a .colours .now) (a .work .now) (t .loop .i) (omega (arith, t .before .pre .painted .all)) (omega (arith, t .before .pre .room)),
     )
 
 returns : tie.Need-returns Inv-loop μ-loop

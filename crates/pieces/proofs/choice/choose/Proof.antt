@@ -29,7 +29,7 @@ abbrev began : tie.At-loop Inv-loop μ-loop → tie.Start Inv-loop μ-loop
 began t = t .before .before .before
 
 below : (t : tie.At-loop Inv-loop μ-loop) → t .loop .i < length (now (began t .args .rules))
-below t = let s = began t in omega (arith, still-below _ _ _ _ (s .pre .1) _ _ (t .loop .inv), length-map (now (s .args .rules)) ruleIn)
+below t = let s = began t in omega (arith, still-below _ _ _ _ (s .pre .some-fits) _ _ (t .loop .inv), length-map (now (s .args .rules)) ruleIn)
 
 loop-holds : tie.Need-loop-holds Inv-loop μ-loop
 unfolding lowest

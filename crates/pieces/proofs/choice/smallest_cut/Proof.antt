@@ -41,10 +41,11 @@ both-have-requires c κs =
     let inside = rw (t .before .reach .ensures) at (c .before .loop-test .taken) in
     let on = s .pre .on in
     let d = s .args .d in
-    rw (c .parts-of .ensures) (
-      record { tabled = s .pre .tabled; on = first-inside d _ on (t .loop .inv .0) (le-of-lt inside) },
-      record { tabled = s .pre .tabled; on = rest-inside d _ on inside },
-    )
+    rw (c .parts-of .ensures) (record {
+      tabled = s .pre .tabled;
+      first-on = first-inside d _ on (t .loop .inv .0) (le-of-lt inside);
+      rest-on = rest-inside d _ on inside;
+    })
 
 -- What the test of a cut says.
 tried : (t : tie.After-both-have Inv-loop μ-loop) →

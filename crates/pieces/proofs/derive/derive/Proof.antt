@@ -122,20 +122,16 @@ split-requires : tie.Need-split-requires
 split-requires c κs =
     let n = sheet-read (c .before .before .before) in
     let r = book-read n in
-    (rows-small (now (began r .args .book)) (r .read-rules .ensures) (book-fine n), refl)
+    record { rules-small = rows-small (now (began r .args .book)) (r .read-rules .ensures) (book-fine n); all = refl }
 
 fill-from-requires : tie.Need-fill-from-requires
 fill-from-requires c κs =
     let p = c .before .before .before .before in
     let n = sheet-read (tested p) in
     let r = book-read n in
-    let shows = sheet-shows n (sheet-fine p) in (
-      record {
-        tabled = record { sizes = shows .sizes; entries = nothing-lacks _ _ _ _ (nothing p) .0 };
-        fit = masks-fit (now (began r .args .book)) (r .read-rules .ensures) (book-fine n) (p .split .ensures);
-      },
-      shows .painted,
-    )
+    let shows = sheet-shows n (sheet-fine p) in
+    let fit = masks-fit (now (began r .args .book)) (r .read-rules .ensures) (book-fine n) (p .split .ensures) in
+    record { table = record { tabled = record { sizes = shows .sizes; entries = nothing-lacks _ _ _ _ (nothing p) .0 }; fit = fit }; painted = shows .painted }
 
 judge-requires : tie.Need-judge-requires
 judge-requires c κs =

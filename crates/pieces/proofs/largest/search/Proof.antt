@@ -53,7 +53,7 @@ area-with-requires c κs =
 next-requires : tie.Need-next-requires Inv-loop μ-loop
 next-requires c κs =
     let l = c .before .before .before in
-    (began (l .before) .pre .sizes, l .before .loop .inv .inside (due l))
+    record { room = began (l .before) .pre .sizes; inside = l .before .loop .inv .inside (due l) }
 
 loop-again : tie.Need-loop-again Inv-loop μ-loop
 loop-again c =

@@ -14,10 +14,10 @@ use Rattle.pieces.proofs.masks.put_rule.Tie as tie
 
 -- What is small of the rule in the row: its head, and what its body holds.
 head-small : (s : tie.Start) → getD (s .args .t1) 0 0 < mostMotifs
-head-small s = rw (← head-in (s .args .t1)) (s .pre .3 .head-fits)
+head-small s = rw (← head-in (s .args .t1)) (s .pre .small .head-fits)
 
 body-small : (s : tie.Start) {x : Body} → ruleIn (s .args .t1) .body ≡ x → BodyFits mostMotifs mostColours x
-body-small s e = subst (BodyFits mostMotifs mostColours) e (s .pre .3 .body-fits)
+body-small s e = subst (BodyFits mostMotifs mostColours) e (s .pre .small .body-fits)
 
 add-at : tie.Need-add-at
 add-at c = let s = c .before .before in omega (arith, body-small s (colour-in (s .args .t1) (c .if1 .taken)))
@@ -28,7 +28,7 @@ mul-masks c = let s = c .before .before in omega (arith, body-small s (colour-in
 slice-read-masks : tie.Need-slice-read-masks
 slice-read-masks c =
     let s = c .before .before .before in
-    omega (arith, s .pre .0, body-small s (colour-in (s .args .t1) (c .before .if1 .taken)))
+    omega (arith, s .pre .all, body-small s (colour-in (s .args .t1) (c .before .if1 .taken)))
 
 mul-masks-2 : tie.Need-mul-masks-2
 mul-masks-2 c =
@@ -38,19 +38,19 @@ mul-masks-2 c =
 slice-write-masks : tie.Need-slice-write-masks
 slice-write-masks c =
     let s = c .before .before .before .before in
-    omega (arith, s .pre .0, body-small s (colour-in (s .args .t1) (c .before .before .if1 .taken)))
+    omega (arith, s .pre .all, body-small s (colour-in (s .args .t1) (c .before .before .if1 .taken)))
 
 put-requires : tie.Need-put-requires
 put-requires c κs =
     let s = c .before .before .before .before in
     let fit = body-small s (across-in (s .args .t1) (c .before .if2 .taken)) in
-    (omega (arith, s .pre .0, s .pre .1), head-small s, fit .0, fit .1)
+    record { place = omega (arith, s .pre .all, s .pre .across-free); head-low = head-small s; first-low = fit .0; second-low = fit .1 }
 
 put-requires-2 : tie.Need-put-requires-2
 put-requires-2 c κs =
     let s = c .before .before .before .before .before in
     let fit = body-small s (down-in (s .args .t1) (c .before .before .before .if1 .left) (c .before .before .if2 .left)) in
-    (omega (arith, s .pre .0, s .pre .2), head-small s, fit .0, fit .1)
+    record { place = omega (arith, s .pre .all, s .pre .down-free); head-low = head-small s; first-low = fit .0; second-low = fit .1 }
 
 returns : tie.Need-returns
 returns c =

@@ -53,7 +53,8 @@ loop-holds c =
     let s = k .before .before .before in
     let masks = s .args .masks .now in
     let same = same-len-mid paintersFrom (length masks - paintersFrom) masks (k .clear .last .0) (k .clear .kept .0) in
-    (omega arith, record { long = omega (arith, same, s .pre .1); free = omega (arith, s .pre .0 .few, length-map (s .args .rules .now) ruleIn) }, refl)
+    let few = s .pre .rules-small .few in
+    (omega arith, record { long = omega (arith, same, s .pre .all); free = omega (arith, few, length-map (s .args .rules .now) ruleIn) }, refl)
 
 put-rule-requires : tie.Need-put-rule-requires Inv-loop μ-loop
 put-rule-requires c κs =
@@ -62,7 +63,12 @@ put-rule-requires c κs =
     let s = t .before .before .before .before .before .before in
     let rows = s .args .rules .now in
     let low : t .loop .i < length (rulesIn rows) = omega (arith, c .before .before .loop-test .taken, length-map rows ruleIn) in
-    (v .long, omega (arith, v .free), omega (arith, v .free), rw (← rule-of-row rows (t .loop .i)) (s .pre .0 .small (t .loop .i) low))
+    record {
+      all = v .long;
+      across-free = omega (arith, v .free);
+      down-free = omega (arith, v .free);
+      small = rw (← rule-of-row rows (t .loop .i)) (s .pre .rules-small .small (t .loop .i) low);
+    }
 
 loop-again : tie.Need-loop-again Inv-loop μ-loop
 loop-again c =
@@ -82,7 +88,7 @@ loop-again c =
     )
 
 same-length : tie.Need-same-length Inv-loop μ-loop
-same-length c = omega (arith, c .before .loop .inv .1 .long, c .before .before .before .before .before .before .before .pre .1)
+same-length c = omega (arith, c .before .loop .inv .1 .long, c .before .before .before .before .before .before .before .pre .all)
 
 returns : tie.Need-returns Inv-loop μ-loop
 unfolding splitOf
@@ -92,7 +98,7 @@ returns c =
     let s = k .before .before .before in
     let rows = s .args .rules .now in
     sym (all-split (rulesIn rows) (masked (t .loop .masks) (t .loop .joins)) (t .loop .i) (omega (arith, length-map rows ruleIn))) ∙ t .loop .inv .2
-    ∙ ap (λ (l : List ℕ). splitFrom (rulesIn rows) (masked l noJoins)) (painters-cleared (s .args .masks .now) _ (s .pre .1) (k .clear .ensures))
+    ∙ ap (λ (l : List ℕ). splitFrom (rulesIn rows) (masked l noJoins)) (painters-cleared (s .args .masks .now) _ (s .pre .all) (k .clear .ensures))
 
 pub split-spec : {M : Type 1} → statement M
 split-spec =

@@ -13,7 +13,7 @@ use Rattle.pieces.proofs.on_sheet.covers_on.Tie as tie
 times-requires : tie.Need-times-requires
 times-requires c κs =
     let (room, inside) = lies-told _ _ (sym (c .before .lies-on .ensures) ∙ c .if1 .taken) in
-    (omega (arith, room .rows-few), omega (arith, room .cols-few))
+    record { first-few = omega (arith, room .rows-few); second-few = omega (arith, room .cols-few) }
 
 covers-requires : tie.Need-covers-requires
 covers-requires c κs =

@@ -16,7 +16,7 @@ returns c =
     ap₂ _+_ (t .times .ensures .0 ∙ ap₂ _*_ (t .before .before .stretches-of .ensures .0) (t .before .stretches-of2 .ensures .0))
     (ap₂ _+_ (c .before .before .times2 .ensures .0 ∙ ap (λ (x : ℕ). (s .args .m - (s .args .p .height - 1)) * x) (c .before .before .before .stretches-of3 .ensures .0))
     (ap (λ (x : ℕ). x + s .args .p .left) (c .before .times3 .ensures .0))) in
-    (e, rw e (slot-lt _ _ _ (s .pre .1)))
+    (e, rw e (slot-lt _ _ _ (s .pre .inside)))
 
 pub slot-spec : {M : Type 1} → statement M
 slot-spec =

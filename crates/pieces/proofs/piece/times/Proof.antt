@@ -6,10 +6,10 @@ use Rattle.pieces.proofs.piece.times.Statement.{statement}
 use Rattle.pieces.proofs.piece.times.Tie as tie
 
 mul-result : tie.Need-mul-result
-mul-result c = omega (arith, mul-le-mul (c .pre .0) (c .pre .1))
+mul-result c = omega (arith, mul-le-mul (c .pre .first-few) (c .pre .second-few))
 
 returns : tie.Need-returns
-returns c = (refl, mul-le-mul (c .pre .0) (c .pre .1))
+returns c = (refl, mul-le-mul (c .pre .first-few) (c .pre .second-few))
 
 pub times-spec : {M : Type 1} → statement M
 times-spec = tie.close (tie.spec mul-result returns)

@@ -23,8 +23,8 @@ returns-2 c =
 entry-of-requires : tie.Need-entry-of-requires
 entry-of-requires c κs =
     let s = c .before .before .before .before in
-    let (due, here) = s .pre in
-    (due, here, omega (arith, few-tried _ (s .args .joins) _ _ (s .args .p) (due .fit) (due .tabled .sizes) (here .inside)))
+    let table = s .pre .table in
+    record { entry = s .pre; few = omega (arith, few-tried _ (s .args .joins) _ _ (s .args .p) (table .fit) (table .tabled .sizes) (s .pre .here .inside)) }
 
 pub due-spec : {M : Type 1} → statement M
 due-spec = tie.close (tie.spec (λ c. search needs) returns entry-of-requires returns-2)

@@ -10,7 +10,11 @@ refill-cells-requires : tie.Need-refill-cells-requires
 refill-cells-requires c κs =
     let t = c .before in
     let h = refills-exactly _ _ _ _ _ _ .0 (sym (t .before .refills .ensures) ∙ t .if1 .taken) in
-    (record { tabled = record { sizes = h .sizes; entries = h .room }; fit = fitting-fit _ _ (h .fits) }, h .row-on, h .column-on)
+    record {
+      table = record { tabled = record { sizes = h .sizes; entries = h .room }; fit = fitting-fit _ _ (h .fits) };
+      row-on = h .row-on;
+      column-on = h .column-on;
+    }
 
 returns : tie.Need-returns
 returns c =

@@ -44,7 +44,8 @@ loop-holds : tie.Need-loop-holds Inv-loop μ-loop
 loop-holds c =
     let s = c .before .before in
     let a = s .args in
-    let (_, row-on, column-on) = s .pre in (
+    let row-on = s .pre .row-on in
+    let column-on = s .pre .column-on in (
       row-on,
       column-on,
       record {
@@ -59,30 +60,31 @@ loop-holds c =
     )
 
 slot-requires : tie.Need-slot-requires Inv-loop μ-loop
-slot-requires c κs = (began (at-loop c) .pre .0 .tabled .sizes, due-on c .0)
+slot-requires c κs = record { room = began (at-loop c) .pre .table .tabled .sizes; inside = due-on c .0 }
 
 due-requires : tie.Need-due-requires Inv-loop μ-loop
 due-requires c κs =
     let k = c .before in
     let i = k .before in
-    let s = began (at-loop i) in (
-      record {
-        tabled = record { sizes = s .pre .0 .tabled .sizes; entries = omega (arith, at-loop i .loop .inv .2 .sized, s .pre .0 .tabled .entries) };
-        fit = s .pre .0 .fit;
-      },
-      record { room = s .pre .0 .tabled .sizes; inside = due-on i .0; slot-is = k .slot .ensures .0 },
-    )
+    let table = began (at-loop i) .pre .table in
+    record {
+      table = record {
+        tabled = record { sizes = table .tabled .sizes; entries = omega (arith, at-loop i .loop .inv .2 .sized, table .tabled .entries) };
+        fit = table .fit;
+      };
+      here = record { room = table .tabled .sizes; inside = due-on i .0; slot-is = k .slot .ensures .0 };
+    }
 
 slice-write-work : tie.Need-slice-write-work Inv-loop μ-loop
 slice-write-work c =
     let k = c .before .before in
     let t = at-loop (k .before) in
-    omega (arith, k .slot .ensures .1, t .loop .inv .2 .sized, began t .pre .0 .tabled .entries)
+    omega (arith, k .slot .ensures .1, t .loop .inv .2 .sized, began t .pre .table .tabled .entries)
 
 next-with-requires : tie.Need-next-with-requires Inv-loop μ-loop
 next-with-requires c κs =
     let i = c .before .before .before in
-    record { room = began (at-loop i) .pre .0 .tabled .sizes; inside = due-on i .0; has = due-on i .1 }
+    record { room = began (at-loop i) .pre .table .tabled .sizes; inside = due-on i .0; has = due-on i .1 }
 
 loop-less : tie.Need-loop-less Inv-loop μ-loop
 loop-less c =

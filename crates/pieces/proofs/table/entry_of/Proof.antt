@@ -34,37 +34,38 @@ down-joined t =
 join-along-requires : tie.Need-join-along-requires
 join-along-requires c κs =
     let s = began c in
-    let (due, here, room) = s .pre in
-    rw (c .down-course .ensures) (
-      course-runs down _ _ _ _ (due .tabled .sizes) (here .inside) (due .tabled .entries),
-      rw (part-rest (s .args .masks .now) (mostRules - s .args .joins .down)) (window-long (s .args .masks .now) (s .args .joins) down (due .fit)),
-      omega (arith, room, cuts-tried (s .args .joins) (s .args .size .rows) (s .args .size .cols) (s .args .p)),
-    )
+    let due = s .pre .entry in
+    let long = window-long (s .args .masks .now) (s .args .joins) down (due .table .fit) in
+    rw (c .down-course .ensures) (record {
+      runs = course-runs down _ _ _ _ (due .table .tabled .sizes) (due .here .inside) (due .table .tabled .entries);
+      long = rw (part-rest (s .args .masks .now) (mostRules - s .args .joins .down)) long;
+      few = omega (arith, s .pre .few, cuts-tried (s .args .joins) (s .args .size .rows) (s .args .size .cols) (s .args .p));
+    })
 
 join-along-requires-2 : tie.Need-join-along-requires-2
 join-along-requires-2 c κs =
     let t = first c in
     let s = began (t .before) in
-    let (due, here, room) = s .pre in
+    let due = s .pre .entry in
     let made = ap (λ (x : Joined). x .trials) (down-joined t) in
-    rw (c .across-course .ensures) (
-      course-runs across _ _ _ _ (due .tabled .sizes) (here .inside) (due .tabled .entries),
-      window-long (s .args .masks .now) (s .args .joins) across (due .fit),
-      omega (arith, made, room, cuts-tried (s .args .joins) (s .args .size .rows) (s .args .size .cols) (s .args .p)),
-    )
+    rw (c .across-course .ensures) (record {
+      runs = course-runs across _ _ _ _ (due .table .tabled .sizes) (due .here .inside) (due .table .tabled .entries);
+      long = window-long (s .args .masks .now) (s .args .joins) across (due .table .fit);
+      few = omega (arith, made, s .pre .few, cuts-tried (s .args .joins) (s .args .size .rows) (s .args .size .cols) (s .args .p));
+    })
 
 returns : tie.Need-returns
 returns c =
     let d = c .before in
     let t = first d in
     let s = began (t .before) in
-    let (due, here, _) = s .pre in
+    let due = s .pre .entry in
     let masks = s .args .masks .now in
     let joins = s .args .joins in
     let w = s .args .work .now in
     c .join-along2 .ensures
     ∙ (λ i. alsoAlong w masks (joins .across) (d .across-course .ensures i) (down-joined t i))
-    ∙ both-along masks joins _ _ w (s .args .p) (s .args .trials) (due .fit .down-few) (here .inside)
+    ∙ both-along masks joins _ _ w (s .args .p) (s .args .trials) (due .table .fit .down-few) (due .here .inside)
 
 pub entry-of-spec : {M : Type 1} → statement M
 entry-of-spec =

@@ -42,7 +42,7 @@ due : (c : tie.In-loop Inv-loop μ-loop) → let z = began (c .before) .args .si
 due c = lt-of-lt-of-le (c .loop-test .taken) (le-of-eq (c .before .before .before .before .count .ensures .0))
 
 next-requires : tie.Need-next-requires Inv-loop μ-loop
-next-requires c κs = let r = c .before .before .before .pre .tabled .sizes in (r, last-cell-inside _ _ (r .rows-some) (r .cols-some))
+next-requires c κs = let r = c .before .before .before .pre .tabled .sizes in record { room = r; inside = last-cell-inside _ _ (r .rows-some) (r .cols-some) }
 
 loop-holds : tie.Need-loop-holds Inv-loop μ-loop
 unfolding joinedBy triedBy
@@ -77,19 +77,23 @@ entry-of-requires c κs =
     let t = c .before .before in
     let s = began t in
     let f = t .loop .inv in
-    let fits = tried-fits (s .args .joins) (s .args .size .rows) (s .args .size .cols) (s .pre .tabled .sizes) (s .pre .fit .across-few) (s .pre .fit .down-few) in (
-      record {
-        tabled = record { sizes = s .pre .tabled .sizes; entries = omega (arith, f .sized, s .pre .tabled .entries) };
-        fit = s .pre .fit;
-      },
-      record { room = s .pre .tabled .sizes; inside = f .inside (due (c .before)); slot-is = sym (f .here) },
-      omega (arith, f .made, one-more (c .before), fits),
-    )
+    let fit = s .pre .fit in
+    let fits = tried-fits (s .args .joins) (s .args .size .rows) (s .args .size .cols) (s .pre .tabled .sizes) (fit .across-few) (fit .down-few) in
+    record {
+      entry = record {
+        table = record {
+          tabled = record { sizes = s .pre .tabled .sizes; entries = omega (arith, f .sized, s .pre .tabled .entries) };
+          fit = fit;
+        };
+        here = record { room = s .pre .tabled .sizes; inside = f .inside (due (c .before)); slot-is = sym (f .here) };
+      };
+      few = omega (arith, f .made, one-more (c .before), fits);
+    }
 
 next-requires-2 : tie.Need-next-requires-2 Inv-loop μ-loop
 next-requires-2 c κs =
     let t = c .before .before .before in
-    (began t .pre .tabled .sizes, t .loop .inv .inside (due (c .before .before)))
+    record { room = began t .pre .tabled .sizes; inside = t .loop .inv .inside (due (c .before .before)) }
 
 mul-work : tie.Need-mul-work Inv-loop μ-loop
 mul-work c =

@@ -12,16 +12,17 @@ use Rattle.pieces.proofs.table.fill_from.Tie as tie
 
 paint-cells-requires : tie.Need-paint-cells-requires
 paint-cells-requires c κs =
-    let (due, cells) = c .before .before .before .before .before .pre in
-    let few = cells-few _ _ (due .tabled .sizes .rows-some) (due .tabled .sizes .cols-some) in
+    let due = c .before .before .before .before .before .pre in
+    let table = due .table in
+    let few = cells-few _ _ (table .tabled .sizes .rows-some) (table .tabled .sizes .cols-some) in
     let e = c .before .times .ensures .0 in
-    (due .fit .all, omega (arith, e, few, due .tabled .entries), rw e cells)
+    record { all = table .fit .all; room = omega (arith, e, few, table .tabled .entries); painted = rw e (due .painted) }
 
 fill-requires : tie.Need-fill-requires
 fill-requires c κs =
     let p = c .before .before .before in
-    let (due, cells) = p .before .before .before .before .before .before .pre in
-    record { tabled = record { sizes = due .tabled .sizes; entries = omega (arith, p .paint-cells .kept, due .tabled .entries) }; fit = due .fit }
+    let table = p .before .before .before .before .before .before .pre .table in
+    record { tabled = record { sizes = table .tabled .sizes; entries = omega (arith, p .paint-cells .kept, table .tabled .entries) }; fit = table .fit }
 
 returns : tie.Need-returns
 unfolding filledBy

@@ -38,7 +38,7 @@ due t = t .before .before .before .args .course .cuts - t .loop .ahead
 
 at-cut : (c : tie.In-loop Inv-loop μ-loop) → Steps (c .before .loop .c) × (c .before .loop .c .first < length (c .before .before .before .before .args .work .now))
     × (step (c .before .loop .c) .second < length (c .before .before .before .before .args .work .now))
-at-cut c = let t = c .before in rw (t .loop .inv .1) (t .before .before .before .pre .0 (due t) (omega arith))
+at-cut c = let t = c .before in rw (t .loop .inv .1) (t .before .before .before .pre .runs (due t) (omega arith))
 
 next-cut-requires : tie.Need-next-cut-requires Inv-loop μ-loop
 next-cut-requires c κs = at-cut c .0
@@ -59,7 +59,7 @@ shared-slice-read-join-2 : tie.Need-shared-slice-read-join-2 Inv-loop μ-loop
 shared-slice-read-join-2 c = let s = c .before .before in rw (s .next-cut .ensures) (at-cut (s .before) .2)
 
 join-requires : tie.Need-join-requires Inv-loop μ-loop
-join-requires c κs = c .before .before .before .before .before .before .before .pre .1
+join-requires c κs = c .before .before .before .before .before .before .before .pre .long
 
 -- the joins of one cut more are among those that there is room for
 add-trials : tie.Need-add-trials Inv-loop μ-loop
@@ -68,7 +68,7 @@ add-trials c =
     let t = j .before .before .before .before .before in
     let s = t .before .before .before in
     let next : due t + 1 ≤ s .args .course .cuts = omega arith in
-    omega (arith, ap (λ (x : Joined). x .trials) (j .join .ensures), t .loop .inv .3, mul-le-mul-right (s .args .count) next, s .pre .2)
+    omega (arith, ap (λ (x : Joined). x .trials) (j .join .ensures), t .loop .inv .3, mul-le-mul-right (s .args .count) next, s .pre .few)
 
 loop-again : tie.Need-loop-again Inv-loop μ-loop
 loop-again c =

@@ -88,12 +88,13 @@ module _ (t : ℕ) where
   pick-node-choose-requires : pick-node-lts.Need-choose-requires (picks t) (pick-node-at t) pick-node.Post
   pick-node-choose-requires c κs =
       let due = c .before .before .before .pre .1 in
-      (record { ready = due .ready; on = due .on }, due .fitted .at-each own)
+      record { ready = record { ready = due .ready; on = due .on }; some-fits = due .fitted .at-each own }
 
   pick-node-put-node-requires : pick-node-lts.Need-put-node-requires (picks t) (pick-node-at t) pick-node.Post
   pick-node-put-node-requires c κs =
       let k = c .before .before .before .before in
-      (room k, omega (arith, leaf-small (node k .pre .1) (k .choose .ensures) _ (c .before .before .choice .given .1)), search needs)
+      let low = leaf-small (node k .pre .1) (k .choose .ensures) _ (c .before .before .choice .given .1) in
+      record { room = room k; rule-low = omega (arith, low); cut-low = search needs }
 
   pick-node-put-node-requires-2 : pick-node-lts.Need-put-node-requires-2 (picks t) (pick-node-at t) pick-node.Post
   pick-node-put-node-requires-2 c κs =
@@ -101,7 +102,8 @@ module _ (t : ℕ) where
       let k = choosing j in
       let due = node k .pre .1 in
       let chosen = j .before .choice2 .given .1 in
-      (room k, rule-small due (k .choose .ensures) _ _ _ _ _ chosen, cut-small due (k .choose .ensures) _ _ _ _ _ chosen)
+      let choice = k .choose .ensures in
+      record { room = room k; rule-low = rule-small due choice _ _ _ _ _ chosen; cut-low = cut-small due choice _ _ _ _ _ chosen }
 
   pick-node-parts-of-requires : pick-node-lts.Need-parts-of-requires (picks t) (pick-node-at t) pick-node.Post
   pick-node-parts-of-requires c κs =

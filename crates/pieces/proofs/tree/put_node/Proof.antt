@@ -10,7 +10,7 @@ slice-write-tree-2 : tie.Need-slice-write-tree-2
 slice-write-tree-2 c = simp length-set (omega arith)
 
 returns : tie.Need-returns
-returns c = wrote-pair _ _ _ _ (c .pre .0)
+returns c = wrote-pair _ _ _ _ (c .pre .room)
 
 pub put-node-spec : {M : Type 1} → statement M
 put-node-spec =

@@ -164,7 +164,7 @@ module _ (t : ℕ) where
   fits-rest-part-requires c κs =
       let l = c .before .before .before .before in
       let near = ends-near (began l .pre .1) in
-      (omega (arith, l .loop .inv .0), near .0, near .1)
+      record { reached = omega (arith, l .loop .inv .0); rows-end = near .0; cols-end = near .1 }
 
   fits-derives-requires-2 : fits-lts.Need-derives-requires-2 (asks t) (fits-at t) fits.Post fits-Inv-loop fits-μ-loop
   fits-derives-requires-2 c κs =

@@ -7,10 +7,10 @@ use Rattle.plain.proofs.search.rest_part.Tie as tie
 
 -- In the arm of a direction: the cut lies in the piece.
 across-in : (t : tie.After-enum-told) → let a = t .before .before .args in a .k ≤ a .q .width
-across-in t = rw (t .enum-told .given .1) at (t .before .before .pre .0)
+across-in t = rw (t .enum-told .given .1) at (t .before .before .pre .reached)
 
 down-in : (t : tie.After-enum-told2) → let a = t .before .before .args in a .k ≤ a .q .height
-down-in t = rw (t .enum-told2 .given .1) at (t .before .before .pre .0)
+down-in t = rw (t .enum-told2 .given .1) at (t .before .before .pre .reached)
 
 sub-p : tie.Need-sub-p
 sub-p c = across-in (c .before)

@@ -61,7 +61,10 @@ reason-requires : tie.Need-reason-requires
 reason-requires c κs =
     let f = c .before .before .before in
     let a = f .before .before .before .before .before .before in
-    (sizes-asked _ _ _ _ _ _ (asks a) (there (split a)) (fine a) (f .if4 .left), room-asked _ _ _ _ _ _ (asks a) (there (split a)) (fine a) (f .if4 .left))
+    record {
+      within = sizes-asked _ _ _ _ _ _ (asks a) (there (split a)) (fine a) (f .if4 .left);
+      held = room-asked _ _ _ _ _ _ (asks a) (there (split a)) (fine a) (f .if4 .left);
+    }
 
 returns-5 : tie.Need-returns-5
 returns-5 c =

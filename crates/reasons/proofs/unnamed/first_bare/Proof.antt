@@ -13,10 +13,10 @@ abbrev μ-loop : tie.MeasureT-loop
 μ-loop work cells found₀ i₀ found i = cells - i
 
 mul-kept : tie.Need-mul-kept Inv-loop μ-loop
-mul-kept c = omega (arith, c .loop-test .taken, c .before .before .before .pre .0)
+mul-kept c = omega (arith, c .loop-test .taken, c .before .before .before .pre .few)
 
 shared-slice-read-kept : tie.Need-shared-slice-read-kept Inv-loop μ-loop
-shared-slice-read-kept c = omega (arith, c .before .loop-test .taken, c .before .before .before .before .pre .1)
+shared-slice-read-kept c = omega (arith, c .before .loop-test .taken, c .before .before .before .before .pre .held)
 
 loop-again : tie.Need-loop-again Inv-loop μ-loop
 loop-again c =

@@ -12,7 +12,7 @@ use Rattle.reasons.proofs.why.reason.Statement.{statement}
 use Rattle.reasons.proofs.why.reason.Tie as tie
 
 few : (c : tie.Start) → c .args .size .rows * c .args .size .cols ≤ room
-few c = within-room (c .args .press) (c .pre .0)
+few c = within-room (c .args .press) (c .pre .within)
 
 mul-cells : tie.Need-mul-cells
 mul-cells c = omega (arith, few (c .before .before .before))
@@ -20,7 +20,9 @@ mul-cells c = omega (arith, few (c .before .before .before))
 first-bare-requires : tie.Need-first-bare-requires
 first-bare-requires c κs =
     let s = c .before .before .before in
-    (few s, omega (arith, cells-few (s .args .size .rows) (s .args .size .cols) (s .pre .0 .rows-some) (s .pre .0 .cols-some), s .pre .1))
+    let size = s .args .size in
+    let within = s .pre .within in
+    record { few = few s; held = omega (arith, cells-few (size .rows) (size .cols) (within .rows-some) (within .cols-some), s .pre .held) }
 
 returns : tie.Need-returns
 returns c = let t = c .before .before in cell-found _ _ _ _ _ _ (t .before .first-bare .ensures) (t .if1 .taken)

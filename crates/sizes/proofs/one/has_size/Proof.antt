@@ -50,7 +50,7 @@ unfolding hasSizeBy
 returns c = let a = c .before .before .args in sym (and-off _ _ (le-ltb (a .motif) mostMotifs (omega (arith, c .if1 .taken))))
 
 last-has-requires : tie.Need-last-has-requires
-last-has-requires c κs = let t = c .before .before .before in record { cols-some = place t .cols-some; some = some t; room = omega (arith, c .before .if3 .taken) }
+last-has-requires c κs = let t = c .before .before .before in record { cols-some = omega (arith, place t); some = some t; room = omega (arith, c .before .if3 .taken) }
 
 returns-2 : tie.Need-returns-2
 returns-2 c =
@@ -62,7 +62,7 @@ returns-2 c =
     ∙ told t
 
 last-has-requires-2 : tie.Need-last-has-requires-2
-last-has-requires-2 c κs = let t = c .before .before .before in record { cols-some = place t .cols-some; some = some t; room = omega (arith, few t) }
+last-has-requires-2 c κs = let t = c .before .before .before in record { cols-some = omega (arith, place t); some = some t; room = omega (arith, few t) }
 
 returns-3 : tie.Need-returns-3
 returns-3 c = c .before .last-has2 .ensures ∙ told (c .before .before .before .before .before)

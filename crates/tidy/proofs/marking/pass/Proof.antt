@@ -23,17 +23,17 @@ loop-holds c = (omega arith, refl)
 mark-requires : tie.Need-mark-requires Inv-loop μ-loop
 mark-requires c κs =
     let began = c .before .before .before in
-    began .pre .1 _ (there-stands _ _ (omega (arith, began .pre .0)) _ (c .before .loop-test .taken))
+    began .pre .fit _ (there-stands _ _ (omega (arith, began .pre .few)) _ (c .before .loop-test .taken))
 
 loop-again : tie.Need-loop-again Inv-loop μ-loop
 loop-again c =
     let l = c .before .before .before in
     let began = l .before in
-    let turn = pass-turn (began .args .t2) _ (omega (arith, began .pre .0)) (stepBy (began .args .step)) (l .loop .now) _ (c .before .before .loop-test .taken) in
+    let turn = pass-turn (began .args .t2) _ (omega (arith, began .pre .few)) (stepBy (began .args .step)) (l .loop .now) _ (c .before .before .loop-test .taken) in
     (omega arith, rw (c .mark .ensures) (sym turn ∙ l .loop .inv .1))
 
 returns : tie.Need-returns Inv-loop μ-loop
-returns c = let l = c .before in sym (pass-ends _ _ (omega (arith, l .before .pre .0)) _ _ _ (c .loop-test .left)) ∙ l .loop .inv .1
+returns c = let l = c .before in sym (pass-ends _ _ (omega (arith, l .before .pre .few)) _ _ _ (c .loop-test .left)) ∙ l .loop .inv .1
 
 pub pass-spec : {M : Type 1} → statement M
 pass-spec =

@@ -26,7 +26,7 @@ gather-own-requires : tie.Need-gather-own-requires
 gather-own-requires c κs = omega (arith, c .if2 .taken, few (c .before))
 
 tell-requires : tie.Need-tell-requires
-tell-requires c κs = let k = c .before .before in (omega (arith, c .before .if2 .taken, few k), k .before .hold .ensures .fine)
+tell-requires c κs = let k = c .before .before in record { few = omega (arith, c .before .if2 .taken, few k); fine = k .before .hold .ensures .fine }
 
 returns-2 : tie.Need-returns-2
 returns-2 c =
@@ -40,7 +40,7 @@ gather-own-requires-2 : tie.Need-gather-own-requires-2
 gather-own-requires-2 c κs = omega (arith, few (c .before))
 
 tell-requires-2 : tie.Need-tell-requires-2
-tell-requires-2 c κs = let k = c .before .before in (omega (arith, few k), k .before .hold .ensures .fine)
+tell-requires-2 c κs = let k = c .before .before in record { few = omega (arith, few k); fine = k .before .hold .ensures .fine }
 
 returns-3 : tie.Need-returns-3
 returns-3 c =

@@ -165,7 +165,7 @@ module _ {M : Type 1} (𝓤 : URA M) (H : Heap 𝓤) (A : Atoms 𝓤) (W : Given
               land ! (from ! (stop !)) (init ! 2 refl (array-typed Two (array-typed u16 (uint-lawful 𝓤 H A W w16 .typed) 2) mostNodes xs (w ∷ []) xss .0)) $
               calls-plain ! (fmOf 𝓤 H (W .laws) 𝓣) (tell.signature .params) An.the-row (tell.ended .kept) (tell.clauses 𝓤 H A mem run) known-tell
               (LL.makes Hd.the-type Hd′.the-plain 𝓤 H A, (array-makes 𝓤 H A W Two (array-makes 𝓤 H A W u16 (uint-makes 𝓤 H A W w16) 2) mostNodes, (uint-makes 𝓤 H A W w64, tt)))
-              (o, (xs, (n, tt))) (u ∷ [], (w ∷ [], (v ∷ [], tt))) (os, (xss, (ns, tt))) tt (factI 𝓤 _ (emp 𝓤) (looked-fits holds ys looked .1, holds .fine))
+              (o, (xs, (n, tt))) (u ∷ [], (w ∷ [], (v ∷ [], tt))) (os, (xss, (ns, tt))) tt (factI 𝓤 _ (emp 𝓤) (record { few = looked-fits holds ys looked .1; fine = holds .fine }))
               (λ a. a ≡ heldAnswer o (nodesIn (take n xs))) (λ a e. id⊢ 𝓤 _)
               (and-then ! (load ! (from ! (stop !)) (look ! 12 refl)) (and-then ! (load ! (from ! (stop !)) (look ! 4 refl)) (and-then ! (load ! (from ! (stop !)) (look ! 10 refl)) (no-more !))))
               (λ a z zs told.

@@ -5,10 +5,10 @@ use Rattle.trees.proofs.held.looked_at.Statement.{statement}
 use Rattle.trees.proofs.held.looked_at.Tie as tie
 
 mul-most : tie.Need-mul-most
-mul-most c = omega (arith, mul-le-mul (c .before .pre .0) (c .before .pre .1))
+mul-most c = omega (arith, mul-le-mul (c .before .pre .rows-few) (c .before .pre .cols-few))
 
 mul-most-2 : tie.Need-mul-most-2
-mul-most-2 c = omega (arith, mul-le-mul (c .before .pre .0) (c .before .pre .1))
+mul-most-2 c = omega (arith, mul-le-mul (c .before .pre .rows-few) (c .before .pre .cols-few))
 
 returns : tie.Need-returns
 returns c = omega (arith, c .if1 .taken)

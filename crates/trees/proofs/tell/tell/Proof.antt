@@ -15,7 +15,7 @@ abbrev began : tie.Else2 → tie.Start
 began e = e .before .before .before .before
 
 long : (e : tie.Else2) → began e .args .count ≤ length (began e .args .t2)
-long e = omega (arith, began e .pre .0)
+long e = omega (arith, began e .pre .few)
 
 returns : tie.Need-returns
 returns c = c .blame .ensures ∙ sym (book-first _ _ (c .before .if1 .taken))
@@ -41,6 +41,6 @@ tell-spec =
     returns-2
     (λ c. long c)
     (λ c. sym (length-take-le _ _ (long (c .before))))
-    (λ c κs. began (c .before) .pre .1 (c .before .if2 .left))
+    (λ c κs. began (c .before) .pre .fine (c .before .if2 .left))
     (λ c κs. search needs)
     returns-3)
