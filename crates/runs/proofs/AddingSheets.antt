@@ -12,7 +12,7 @@ use Rattle.books.specs.Book.{bookOf}
 use Rattle.books.specs.Calls.{ticketOf}
 use Rattle.books.specs.Press.{IsPress}
 use Rattle.runs.specs.Figures.{answerOf, showing, answering, accepted, got, cellsOf, tickets, figuresOf, inARow}
-use Rattle.runs.specs.Lists.{those, howMany, addedUp, anyIn, leastOf, greatestOf}
+use Rattle.runs.specs.Lists.{those, howMany, addedUp, anyIn, leastIn, greatestIn}
 use Rattle.runs.specs.inner.Adding.{answered, coloured, ticketed}
 use Rattle.runs.proofs.AnswersOfSheets.{answer-listed}
 use Rattle.runs.proofs.CountingLists.{once, those-append, how-many-append, how-many-one, added-append, added-one, least-more, greatest-more, any-more}
@@ -63,7 +63,7 @@ module _ (press : ℕ) (is : IsPress press) (book : List ℕ) (fine : bookOf boo
     accepted-row zero-is l low shows =
         ap (λ (f : List ℕ). ticketed (coloured f l) t) answered-row
         ∙ ap (λ (f : List ℕ). ticketed f t) (row-coloured (length more) (got press book more) (cellsOf press book sheets) (ticketRow ts rest) l low)
-        ∙ row-ticketed (length more) (got press book more) cells (anyIn ts) (leastOf ts) (greatestOf ts) rest t
+        ∙ row-ticketed (length more) (got press book more) cells (anyIn ts) (leastIn ts) (greatestIn ts) rest t
         ∙ (λ i. row (length more) (got press book more) (λ c. cells-taken c i) (any-more ts t i ∷ least-more ts t i ∷ greatest-more ts t i ∷ rest))
         ∙ ap (λ (x : List ℕ). row (length more) (got press book more) (cellsOf press book more) (ticketRow x rest)) tickets-taken
       where

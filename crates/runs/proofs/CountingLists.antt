@@ -9,7 +9,7 @@ use native.Mathlib.Omega.{arith}
 use lib.ListN.{length, getD, length-append}
 use Rattle.names.specs.Pick.{pick}
 use Rattle.names.proofs.Tests.{lt-or-le}
-use Rattle.runs.specs.Lists.{those, howMany, addedUp, anyIn, leastOf, greatestOf}
+use Rattle.runs.specs.Lists.{those, howMany, addedUp, anyIn, leastIn, greatestIn}
 use Rattle.runs.specs.inner.Adding.{leastWith}
 
 -- ── How many ──
@@ -82,14 +82,14 @@ module _ {A : Type 0} (f : A → ℕ) where
 
 -- ── The least and the greatest ──
 
-pub least-more : (l : List ℕ) (x : ℕ) → leastWith (anyIn l) (leastOf l) x ≡ leastOf (l ++ (x ∷ []))
-unfolding leastOf leastWith anyIn
+pub least-more : (l : List ℕ) (x : ℕ) → leastWith (anyIn l) (leastIn l) x ≡ leastIn (l ++ (x ∷ []))
+unfolding leastIn leastWith anyIn
 least-more [] x = refl
 least-more (y ∷ []) x = refl
 least-more (y ∷ z ∷ l) x = omega (arith, least-more (z ∷ l) x)
 
-pub greatest-more : (l : List ℕ) (x : ℕ) → max (greatestOf l) x ≡ greatestOf (l ++ (x ∷ []))
-unfolding greatestOf
+pub greatest-more : (l : List ℕ) (x : ℕ) → max (greatestIn l) x ≡ greatestIn (l ++ (x ∷ []))
+unfolding greatestIn
 greatest-more [] x = omega arith
 greatest-more (y ∷ l) x = omega (arith, greatest-more l x)
 
@@ -119,18 +119,18 @@ module _ (R : ℕ → ℕ → Type 0) (on : (m n x : ℕ) → R m n → R n x �
         bounds = λ y u. ⊎-elim (λ d. rw d h) (λ v. on m n y g (rest .bounds y v)) (List·Memᴰ·cases-cons u);
       }
 
-pub least-bounds : (x : ℕ) (l : List ℕ) → Bounds (λ n y. n ≤ y) (x ∷ l) (leastOf (x ∷ l))
-unfolding leastOf
+pub least-bounds : (x : ℕ) (l : List ℕ) → Bounds (λ n y. n ≤ y) (x ∷ l) (leastIn (x ∷ l))
+unfolding leastIn
 least-bounds x [] = bounds-one _ (λ m n y h g. omega arith) x x refl (omega arith)
 least-bounds x (y ∷ l) =
-    let n = leastOf (y ∷ l) in
+    let n = leastIn (y ∷ l) in
     bounds-more _ (λ m n y h g. omega arith) x (y ∷ l) n (min x n) (least-bounds y l)
     (⊎-elim (λ h. inl (omega arith)) (λ h. inr (omega arith)) (lt-or-le x n)) (omega arith) (omega arith)
 
-pub greatest-bounds : (x : ℕ) (l : List ℕ) → Bounds (λ n y. y ≤ n) (x ∷ l) (greatestOf (x ∷ l))
-unfolding greatestOf
+pub greatest-bounds : (x : ℕ) (l : List ℕ) → Bounds (λ n y. y ≤ n) (x ∷ l) (greatestIn (x ∷ l))
+unfolding greatestIn
 greatest-bounds x [] = bounds-one _ (λ m n y h g. omega arith) x (max x 0) (omega arith) (omega arith)
 greatest-bounds x (y ∷ l) =
-    let n = greatestOf (y ∷ l) in
+    let n = greatestIn (y ∷ l) in
     bounds-more _ (λ m n y h g. omega arith) x (y ∷ l) n (max x n) (greatest-bounds y l)
     (⊎-elim (λ h. inr (omega arith)) (λ h. inl (omega arith)) (lt-or-le x n)) (omega arith) (omega arith)

@@ -12,7 +12,7 @@ use lib.Seq.{ext-getD, getD-at, getD-append-add, set-append-left}
 use Rattle.names.specs.Counted.{each}
 use Rattle.names.specs.Spelling.{mostColours}
 use Rattle.runs.specs.Figures.{answersGiven, answerCounts}
-use Rattle.runs.specs.Lists.{howMany, anyIn, leastOf, greatestOf}
+use Rattle.runs.specs.Lists.{howMany, anyIn, leastIn, greatestIn}
 use Rattle.runs.specs.inner.Adding.{cellsFrom, oneMore, countPlace, answered, coloured, leastWith, ticketed}
 use Rattle.runs.proofs.AddingCells.{more-here, more-else, more-long}
 use Rattle.runs.proofs.AnswersOfSheets.{Listed, of-listed}
@@ -24,7 +24,7 @@ row sheets got cells behind = sheets ∷ (map got answersGiven ++ (each mostColo
 
 -- the figures of tickets, and what stands behind them
 abbrev pub ticketRow : List ℕ → List ℕ → List ℕ
-ticketRow tickets rest = anyIn tickets ∷ leastOf tickets ∷ greatestOf tickets ∷ rest
+ticketRow tickets rest = anyIn tickets ∷ leastIn tickets ∷ greatestIn tickets ∷ rest
 
 -- colours that have a count
 abbrev pub Low : List ℕ → Type 0

@@ -23,7 +23,7 @@ use Rattle.pieces.proofs.DerivationAnswers.{refused-first}
 use Rattle.names.specs.Counted.{each}
 use Rattle.runs.specs.Run.{frameAt, sheetIn, walkFrom, framing, sheetsOf}
 use Rattle.runs.specs.Figures.{workRoom, treeRoom, answerOf, answering, accepted, got, cellsOf, tickets, answersGiven, figuresOf, noFigures}
-use Rattle.runs.specs.Lists.{those, howMany, addedUp, anyIn, leastOf, greatestOf}
+use Rattle.runs.specs.Lists.{those, howMany, addedUp, anyIn, leastIn, greatestIn}
 use Rattle.runs.specs.declared.figures.Figures.{Figures}
 use Rattle.runs.specs.declared.framing.Frame.{Frame}
 use Rattle.runs.proofs.AnswersOfSheets.{tree-fits, of-listed, nothing-answers}
@@ -93,7 +93,7 @@ counts-add-up press is book fine sheets = answers-add-up press is book fine shee
 
 -- ── Tickets ──
 
-some-bounds : (l : List ℕ) → anyIn l ≡ 1 → Bounds (λ n x. n ≤ x) l (leastOf l) × Bounds (λ n x. x ≤ n) l (greatestOf l)
+some-bounds : (l : List ℕ) → anyIn l ≡ 1 → Bounds (λ n x. n ≤ x) l (leastIn l) × Bounds (λ n x. x ≤ n) l (greatestIn l)
 unfolding anyIn
 some-bounds [] e = absurd (omega arith)
 some-bounds (x ∷ l) e = (least-bounds x l, greatest-bounds x l)
@@ -115,10 +115,10 @@ module _ (press : ℕ) (book : List ℕ) (sheets : List (List ℕ)) where
 
   -- and else no sheet is, and both are 0
   pub no-tickets : figures .any ≡ 0 → (accepted press book sheets ≡ []) × (figures .least ≡ 0) × (figures .greatest ≡ 0)
-  unfolding figuresOf tickets leastOf greatestOf
+  unfolding figuresOf tickets leastIn greatestIn
   no-tickets e =
       let none = none-left (tickets press book sheets) e in
-      (unmapped (accepted press book sheets) none, ap leastOf none, ap greatestOf none)
+      (unmapped (accepted press book sheets) none, ap leastIn none, ap greatestIn none)
     where
       unmapped : (l : List (List ℕ)) → map (ticketOf press) l ≡ [] → l ≡ []
       unmapped [] e = refl
@@ -135,7 +135,7 @@ module _ (press : ℕ) (book : List ℕ) (sheets : List (List ℕ)) where
 -- ── No sheets, and sheets of no bytes ──
 
 pub nothing-counted : (press : ℕ) (book : List ℕ) → figuresOf press book [] ≡ noFigures
-unfolding figuresOf got howMany those cellsOf accepted tickets addedUp anyIn leastOf greatestOf each
+unfolding figuresOf got howMany those cellsOf accepted tickets addedUp anyIn leastIn greatestIn each
 nothing-counted press book = refl
 
 pub empty-run : (framing [] ≡ fault 0 0) × (sheetsOf [] ≡ [])

@@ -13,21 +13,21 @@ use Rattle.books.specs.Calls.{ticketOf}
 use Rattle.books.specs.Decide.{called?}
 use Rattle.books.specs.Grid.{Grid}
 use Rattle.books.specs.Sheet.{sheetOf}
-use Rattle.books.specs.Press.{greatestOf as mostOf}
+use Rattle.books.specs.Press.{greatestOf}
 use Rattle.pieces.specs.Area.{whole, treeSize}
 use Rattle.pieces.specs.Derivation.{derivation}
 use Rattle.pieces.specs.Pieces.{total}
-use Rattle.runs.specs.Lists.{those, howMany, addedUp, anyIn, leastOf, greatestOf}
+use Rattle.runs.specs.Lists.{those, howMany, addedUp, anyIn, leastIn, greatestIn}
 use Rattle.runs.specs.declared.figures.Figures.{Figures}
 
 -- ── One sheet ──
 
 -- the entries that the table of the greatest sheet of a press has, and the numbers of its tree: room enough for every sheet
 abbrev pub workRoom : ℕ → ℕ
-workRoom press = total (mostOf press) (mostOf press)
+workRoom press = total (greatestOf press) (greatestOf press)
 
 abbrev pub treeRoom : ℕ → ℕ
-treeRoom press = treeSize (whole (mostOf press) (mostOf press))
+treeRoom press = treeSize (whole (greatestOf press) (greatestOf press))
 
 -- the number that a derivation with room enough answers
 unfoldable pub answerOf : ℕ → List ℕ → List ℕ → ℕ
@@ -77,8 +77,8 @@ figuresOf press book sheets =
       answers = map (got press book sheets) answersGiven;
       cells = each mostColours (λ c. cellsOf press book sheets c ∷ []);
       any = anyIn (tickets press book sheets);
-      least = leastOf (tickets press book sheets);
-      greatest = greatestOf (tickets press book sheets);
+      least = leastIn (tickets press book sheets);
+      greatest = greatestIn (tickets press book sheets);
     }
 
 -- no sheets: every figure is 0

@@ -25,11 +25,11 @@ anyIn [] = 0
 anyIn (x ∷ l) = 1
 
 -- the least of a list, and the greatest; 0 where it is empty
-unfoldable pub leastOf : List ℕ → ℕ
-leastOf [] = 0
-leastOf (x ∷ []) = x
-leastOf (x ∷ y ∷ l) = min x (leastOf (y ∷ l))
+unfoldable pub leastIn : List ℕ → ℕ
+leastIn [] = 0
+leastIn (x ∷ []) = x
+leastIn (x ∷ y ∷ l) = min x (leastIn (y ∷ l))
 
-unfoldable pub greatestOf : List ℕ → ℕ
-greatestOf [] = 0
-greatestOf (x ∷ l) = max x (greatestOf l)
+unfoldable pub greatestIn : List ℕ → ℕ
+greatestIn [] = 0
+greatestIn (x ∷ l) = max x (greatestIn l)

@@ -10,7 +10,7 @@ use pieces::masks::Joins;
 ghost use mathlib.Core.Path.{_≡_};
 ghost use lib.ListN.{length};
 ghost use Rattle.sizes.specs.Table.{hasSizeBy, lastBy};
-ghost use Rattle.sizes.specs.inner.Entries.{FillDue};
+ghost use Rattle.sizes.specs.inner.Entries.{SizesDue};
 
 // So many sizes are asked for in a small array, since clearing the whole room would take longer than filling it.
 const FEW: usize = 64;
@@ -24,7 +24,7 @@ fn last_has(
     cols: usize,
     end: usize,
 ) -> bool
-    requires { ⌜ FillDue cols end (length (now sizes)) ⌝ }
+    requires { ⌜ SizesDue cols end (length (now sizes)) ⌝ }
     ensures { λ r. ⌜ r ≡ lastBy (now (masks .entry)) joins motif cols end (now (sizes .entry)) ⌝ }
 {
     table::fill(sizes, masks, joins, cols, end);

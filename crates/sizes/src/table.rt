@@ -8,7 +8,7 @@ ghost use lib.ListN.{length};
 ghost use Rattle.pieces.specs.Firing.{fireOf, paintedOf};
 ghost use Rattle.sizes.specs.Table.{slotSize, entryOf, sizesBy};
 ghost use Rattle.sizes.specs.inner.Along.{along};
-ghost use Rattle.sizes.specs.inner.Entries.{SlotDue, FillDue};
+ghost use Rattle.sizes.specs.inner.Entries.{SlotDue, SizesDue};
 
 // Every join of one direction at every cut of a size: from cut to cut the first part goes on from its first entry, and the second back from the entry due.
 fn along(
@@ -49,7 +49,7 @@ fn entry_at(sizes: &[u32], masks: &[u32], joins: Joins, cols: usize, due: usize)
 
 // The entries before a slot: 1 by 1 has the painters, and every other size what the joins make of the entries before it.
 pub(crate) fn fill(sizes: &mut [u32], masks: &[u32], joins: Joins, cols: usize, end: usize)
-    requires { ⌜ FillDue cols end (length (now sizes)) ⌝ }
+    requires { ⌜ SizesDue cols end (length (now sizes)) ⌝ }
     ensures { λ _. ⌜ now (sizes .exit) ≡ sizesBy (fireOf (now (masks .entry)) joins) (paintedOf (now (masks .entry))) cols end (now (sizes .entry)) ⌝ }
 {
     sizes[0] = masks::painted(masks);

@@ -13,7 +13,7 @@ use Rattle.books.specs.declared.rule.Body.{Body}
 use Rattle.books.specs.declared.rule.Body.the-variants.{Colour, Across, Down}
 use Rattle.names.specs.Bits.{bit, isSet}
 use Rattle.tidy.specs.Marks.{adding, rank}
-use Rattle.tidy.specs.Marking.{marked, addingBody, markHead, markBody, pass, passes, rewritten, reached, rewrites?}
+use Rattle.tidy.specs.Marking.{allMarked, addingBody, markHead, markBody, pass, passes, rewritten, reached, rewrites?}
 use Rattle.books.specs.Equal.{sameRule, stands, firsts}
 use Rattle.tidy.specs.Tidied.{uses, usable, leaving, tidied}
 
@@ -57,5 +57,5 @@ pub record Tidied : Type 0 where
 
 pub examples : Tidied
 unfolding rule book untidy neat chain backwards endless
-    andThen orElse bit isSet adding rank marked addingBody markHead markBody pass passes rewritten reached sameName sameRule stands firsts uses usable leaving tidied
+    andThen orElse bit isSet adding rank allMarked addingBody markHead markBody pass passes rewritten reached sameName sameRule stands firsts uses usable leaving tidied
 examples = record { untidy-neat = refl; neat-again = refl; chain-same = refl; backwards-same = refl; endless-start = refl }

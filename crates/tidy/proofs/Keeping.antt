@@ -14,7 +14,7 @@ use Rattle.books.specs.declared.rule.Body.{Body}
 use Rattle.books.specs.declared.rule.Body.the-variants.{Colour, Across, Down}
 use Rattle.tidy.specs.Kept.{Rewrites, coloured, joined, starting, as-first, as-second}
 use Rattle.tidy.specs.Marks.{rank}
-use Rattle.tidy.specs.Marking.{marked, reached}
+use Rattle.tidy.specs.Marking.{allMarked, reached}
 use Rattle.books.specs.Equal.{firsts}
 use Rattle.tidy.specs.Tidied.{usable, renumbered, leaving, tidied}
 use Rattle.books.proofs.Firsts.{firsts-length}
@@ -24,7 +24,7 @@ use Rattle.tidy.proofs.SameSheets.{colour-over, joins-over}
 use Rattle.tidy.proofs.Reaching.{reached-all}
 use Rattle.tidy.proofs.Rewriting.{joins-marked}
 
-body-fits : (m n k : ℕ) (x : Body) → BodyFits n k x → marked m x ≡ true → BodyFits (rank m n) k (moved (rank m) (λ c. c) x)
+body-fits : (m n k : ℕ) (x : Body) → BodyFits n k x → allMarked m x ≡ true → BodyFits (rank m n) k (moved (rank m) (λ c. c) x)
 body-fits m n k (Colour c) h e = h
 body-fits m n k (Across l r) h e =
     let (u, v) = joins-marked m across l r .0 e in (rank-lt m l n u (h .0), rank-lt m r n v (h .1))

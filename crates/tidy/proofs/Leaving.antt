@@ -18,7 +18,7 @@ use Rattle.books.specs.declared.rule.Body.the-variants.{Colour, Across, Down}
 use Rattle.names.proofs.Tests.{and-both, and-make}
 use Rattle.names.specs.Bits.{isSet}
 use Rattle.tidy.specs.Marks.{rank}
-use Rattle.tidy.specs.Marking.{marked}
+use Rattle.tidy.specs.Marking.{allMarked}
 use Rattle.names.specs.Spelling.{Distinct}
 use Rattle.books.specs.Equal.{firsts}
 use Rattle.tidy.specs.Tidied.{uses, usable, renumbered, leaving}
@@ -26,11 +26,11 @@ use Rattle.books.proofs.Firsts.{firsts-forth, firsts-back, firsts-distinct, map
 use Rattle.tidy.proofs.Ranks.{rank-inj}
 use Rattle.tidy.proofs.Rewriting.{joins-marked}
 
-pub uses-all : (m : ℕ) (r : Rule) → isSet m (r .head) ≡ true → marked m (r .body) ≡ true → uses m r ≡ true
+pub uses-all : (m : ℕ) (r : Rule) → isSet m (r .head) ≡ true → allMarked m (r .body) ≡ true → uses m r ≡ true
 unfolding uses
 uses-all m r h e = and-make (isSet m (r .head)) _ h e
 
-uses-back : (m : ℕ) (r : Rule) → uses m r ≡ true → (isSet m (r .head) ≡ true) × (marked m (r .body) ≡ true)
+uses-back : (m : ℕ) (r : Rule) → uses m r ≡ true → (isSet m (r .head) ≡ true) × (allMarked m (r .body) ≡ true)
 unfolding uses
 uses-back m r e = and-both (isSet m (r .head)) _ e
 
@@ -80,15 +80,15 @@ usable-all m (r ∷ rs) h =
     ∙ ap (λ (l : List Rule). r ∷ l) (usable-all m rs (λ q i. h q (List·Memᴰ·tail i)))
 
 -- renumbered rules are equal only where the rules are: numbers tell marked motifs apart
-both-apart : (m l r i j : ℕ) → marked m (Across l r) ≡ true → marked m (Across i j) ≡ true → rank m l ≡ rank m i → rank m r ≡ rank m j
+both-apart : (m l r i j : ℕ) → allMarked m (Across l r) ≡ true → allMarked m (Across i j) ≡ true → rank m l ≡ rank m i → rank m r ≡ rank m j
     → (l ≡ i) × (r ≡ j)
 both-apart m l r i j e f p q =
     let (u, v) = joins-marked m across l r .0 e in
     let (w, z) = joins-marked m across i j .0 f in
     (rank-inj m l i u w p, rank-inj m r j v z q)
 
-body-apart : (m : ℕ) (x y : Body) → marked m x ≡ true → marked m y ≡ true → moved (rank m) (λ c. c) x ≡ moved (rank m) (λ c. c) y → x ≡ y
-unfolding marked
+body-apart : (m : ℕ) (x y : Body) → allMarked m x ≡ true → allMarked m y ≡ true → moved (rank m) (λ c. c) x ≡ moved (rank m) (λ c. c) y → x ≡ y
+unfolding allMarked
 body-apart m (Colour c) (Colour k) e f p = p
 body-apart m (Colour c) (Across i j) e f p = cc
 body-apart m (Colour c) (Down i j) e f p = cc
@@ -109,7 +109,7 @@ rules-apart m q r e f p =
     }
 
 module _ (m : ℕ) (b : Contents) where
-  pub leaving-forth : (a : ℕ) (x : Body) → Has b a x → isSet m a ≡ true → marked m x ≡ true → Has (leaving m b) (rank m a) (moved (rank m) (λ c. c) x)
+  pub leaving-forth : (a : ℕ) (x : Body) → Has b a x → isSet m a ≡ true → allMarked m x ≡ true → Has (leaving m b) (rank m a) (moved (rank m) (λ c. c) x)
   unfolding leaving
   leaving-forth a x h i e =
       Memᴰ·map (renumbered m) (usable-forth m (firsts [] (b .rules)) (record { head = a; body = x }) (firsts-forth (b .rules) _ h) (uses-all m _ i e))
@@ -120,7 +120,7 @@ module _ (m : ℕ) (b : Contents) where
     pub body : Body
     pub rule : Has b head body
     pub head-has : isSet m head ≡ true
-    pub body-has : marked m body ≡ true
+    pub body-has : allMarked m body ≡ true
     pub head-is : rank m head ≡ z
     pub body-is : moved (rank m) (λ c. c) body ≡ y
 

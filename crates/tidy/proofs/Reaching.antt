@@ -20,7 +20,7 @@ use Rattle.names.proofs.Tests.{and-both, and-make}
 use Rattle.tidy.specs.Kept.{Rewrites, Reached, starting, as-first, as-second, Kept}
 use Rattle.names.specs.Bits.{isSet}
 use Rattle.tidy.specs.Marks.{adding}
-use Rattle.tidy.specs.Marking.{marked, addingBody, markBody, rewritten, reached, rewrites?, kept?}
+use Rattle.tidy.specs.Marking.{allMarked, addingBody, markBody, rewritten, reached, rewrites?, kept?}
 use Rattle.tidy.proofs.Marks.{set-none, set-added, set-still, set-split}
 use Rattle.tidy.proofs.Ranks.{rank-le, rank-grows}
 use Rattle.tidy.proofs.Passes.{Grows, grows-on, passes-keep, passes-settle}
@@ -32,19 +32,19 @@ adding-joins m across l r = refl
 adding-joins m down l r = refl
 
 -- what a rule marks whose head is marked, and whose motifs can be rewritten
-body-marks : (w m : ℕ) (r : Rule) → isSet m (r .head) ≡ true → marked w (r .body) ≡ true → markBody w m r ≡ addingBody m (r .body)
+body-marks : (w m : ℕ) (r : Rule) → isSet m (r .head) ≡ true → allMarked w (r .body) ≡ true → markBody w m r ≡ addingBody m (r .body)
 unfolding markBody
 body-marks w m r h e =
-    ap (λ (t : Bool). pick t (pick (marked w (r .body)) (addingBody m (r .body)) m) m) h
+    ap (λ (t : Bool). pick t (pick (allMarked w (r .body)) (addingBody m (r .body)) m) m) h
     ∙ ap (λ (t : Bool). pick t (addingBody m (r .body)) m) e
 
 -- what holds of the marks as they are, and with the body's where both tests hold, holds after the rule
 body-cases : (P : ℕ → Type 0) (w m : ℕ) (r : Rule) → P m
-    → (isSet m (r .head) ≡ true → marked w (r .body) ≡ true → P (addingBody m (r .body))) → P (markBody w m r)
+    → (isSet m (r .head) ≡ true → allMarked w (r .body) ≡ true → P (addingBody m (r .body))) → P (markBody w m r)
 unfolding markBody
 body-cases P w m r same more =
-    pick-ind P (isSet m (r .head)) (pick (marked w (r .body)) (addingBody m (r .body)) m) m
-    (λ h. pick-ind P (marked w (r .body)) (addingBody m (r .body)) m (more h) (λ _. same))
+    pick-ind P (isSet m (r .head)) (pick (allMarked w (r .body)) (addingBody m (r .body)) m) m
+    (λ h. pick-ind P (allMarked w (r .body)) (addingBody m (r .body)) m (more h) (λ _. same))
     (λ _. same)
 
 both-grow : (n m l r : ℕ) → l < n → r < n → Grows (count n) m (adding (adding m l) r)
@@ -56,7 +56,7 @@ abbrev AllReached : Contents → ℕ → Type 0
 AllReached b m = (a : ℕ) → isSet m a ≡ true → Reached b a
 
 module _ (b : Contents) where
-  joins-reach : (m a : ℕ) (d : Dir) (l r : ℕ) → Has b a (joins d l r) → Reached b a → marked (rewritten b) (joins d l r) ≡ true
+  joins-reach : (m a : ℕ) (d : Dir) (l r : ℕ) → Has b a (joins d l r) → Reached b a → allMarked (rewritten b) (joins d l r) ≡ true
       → AllReached b m → AllReached b (adding (adding m l) r)
   joins-reach m a d l r h reach e all z i =
       let (u, v) = joins-marked (rewritten b) d l r .0 e in
@@ -70,7 +70,7 @@ module _ (b : Contents) where
       (set-split m l z j))
       (set-split (adding m l) r z i)
 
-  body-reaches : (m a : ℕ) (x : Body) → Has b a x → Reached b a → marked (rewritten b) x ≡ true
+  body-reaches : (m a : ℕ) (x : Body) → Has b a x → Reached b a → allMarked (rewritten b) x ≡ true
       → AllReached b m → AllReached b (addingBody m x)
   unfolding addingBody
   body-reaches m a (Colour c) h reach e all = all

@@ -17,7 +17,7 @@ use Rattle.books.specs.declared.rule.Body.the-variants.{Colour}
 use Rattle.tidy.specs.Kept.{Rewrites, coloured, joined, Reached, starting, as-first, as-second}
 use Rattle.names.specs.Bits.{isSet}
 use Rattle.tidy.specs.Marks.{rank}
-use Rattle.tidy.specs.Marking.{marked, reached}
+use Rattle.tidy.specs.Marking.{allMarked, reached}
 use Rattle.tidy.specs.Tidied.{leaving, tidied}
 use Rattle.tidy.proofs.Leaving.{leaving-forth, leaving-back}
 use Rattle.tidy.proofs.Ranks.{rank-inj}
@@ -36,7 +36,7 @@ nothing-derived b none p x = none (derives-rewrites x)
 module _ (b : Contents) (sound : Sound b) where
   -- rules of reached motifs go over
   pub colour-over : (a c : ℕ) → Has b a (Colour c) → Reached b a → Has (tidied b) (rank (reached b) a) (Colour c)
-  unfolding tidied marked
+  unfolding tidied allMarked
   colour-over a c h z = leaving-forth (reached b) b a (Colour c) h (reached-all b sound z) refl
 
   pub joins-over : (a : ℕ) (d : Dir) (l r : ℕ) → Has b a (joins d l r) → Reached b a → Reached b l → Reached b r
@@ -63,7 +63,7 @@ module _ (b : Contents) (sound : Sound b) where
 
   -- a rule of the tidied book under the number of a kept motif is one of that motif
   from : (z a : ℕ) (y : Body) → Has (tidied b) z y → isSet (reached b) a ≡ true → z ≡ rank (reached b) a
-      → (x : Body) × Has b a x × (marked (reached b) x ≡ true) × (y ≡ moved (rank (reached b)) (λ c. c) x)
+      → (x : Body) × Has b a x × (allMarked (reached b) x ≡ true) × (y ≡ moved (rank (reached b)) (λ c. c) x)
   unfolding tidied
   from z a y h i e =
       let s = leaving-back (reached b) b z y h in
@@ -78,7 +78,7 @@ module _ (b : Contents) (sound : Sound b) where
   back (join d l r k h hk hs u v) a i q =
       let (x, hx, mx, is) = from _ a (joins d l r) h i q in
       let (f, g, ej, el, er) = joins-back (rank (reached b)) (λ k. k) d l r x is in
-      let (mf, mg) = joins-marked (reached b) d f g .0 (subst (λ (y : Body). marked (reached b) y ≡ true) ej mx) in
+      let (mf, mg) = joins-marked (reached b) d f g .0 (subst (λ (y : Body). allMarked (reached b) y ≡ true) ej mx) in
       join d f g k (has-cast b refl (sym ej) hx) hk hs (back u f mf el) (back v g mg er)
 
   -- The same pictures, of every size.

@@ -16,7 +16,7 @@ use Rattle.books.specs.declared.rule.Body.the-variants.{Colour, Across, Down}
 use Rattle.tidy.specs.Kept.{Rewrites, coloured, joined, Reached, starting, as-first, as-second, Kept}
 use Rattle.names.specs.Bits.{isSet}
 use Rattle.tidy.specs.Marks.{rank}
-use Rattle.tidy.specs.Marking.{marked, reached}
+use Rattle.tidy.specs.Marking.{allMarked, reached}
 use Rattle.names.specs.Spelling.{Distinct}
 use Rattle.books.specs.Equal.{firsts}
 use Rattle.tidy.specs.Tidied.{usable, renumbered, leaving, tidied}
@@ -28,7 +28,7 @@ use Rattle.tidy.proofs.SameSheets.{colour-over, joins-over}
 use Rattle.tidy.proofs.Reaching.{reached-sound, reached-all, reached-rewrites}
 use Rattle.tidy.proofs.Rewriting.{joins-marked}
 
--- ---- kept motifs stay kept
+-- ── Kept motifs stay kept ──
 
 module _ (b : Contents) (sound : Sound b) where
   rewrites-over : {a : ℕ} → Rewrites b a → Reached b a → Rewrites (tidied b) (rank (reached b) a)
@@ -59,7 +59,7 @@ module _ (b : Contents) (sound : Sound b) where
       let z = reached-sound b a e in
       (subst (Rewrites (tidied b)) q (rewrites-over (reached-rewrites s z) z), subst (Reached (tidied b)) q (reached-over z))
 
--- ---- a book that keeps everything
+-- ── A book that keeps everything ──
 
 map-same : (f : Rule → Rule) (rs : List Rule) → ((r : Rule) → List·Memᴰ r rs → f r ≡ r) → map f rs ≡ rs
 map-same f [] h = refl
@@ -70,8 +70,8 @@ module _ (t : Contents) (m : ℕ) (sound : Sound t) (all : (a : ℕ) → a < t .
   number-same : (a : ℕ) → a ≤ t .motifs → rank m a ≡ a
   number-same a h = rank-all m a (λ k i. all k (omega arith))
 
-  body-marked : (x : Body) → BodyFits (t .motifs) (length (t .colours)) x → marked m x ≡ true
-  body-marked (Colour c) h = unfold marked in refl
+  body-marked : (x : Body) → BodyFits (t .motifs) (length (t .colours)) x → allMarked m x ≡ true
+  body-marked (Colour c) h = unfold allMarked in refl
   body-marked (Across l r) h = joins-marked m across l r .1 (all l (h .0), all r (h .1))
   body-marked (Down l r) h = joins-marked m down l r .1 (all l (h .0), all r (h .1))
 
@@ -100,7 +100,7 @@ module _ (t : Contents) (m : ℕ) (sound : Sound t) (all : (a : ℕ) → a < t .
         rules = rules-are k;
       }
 
--- ---- twice
+-- ── Twice ──
 
 pub tidied-apart : (b : Contents) → Distinct (tidied b .rules)
 unfolding tidied

@@ -11,10 +11,10 @@ use Rattle.books.specs.declared.rule.Body.the-variants.{Colour, Across, Down}
 use Rattle.tidy.specs.Marks.{adding}
 
 -- whether all motifs of a body are marked
-unfoldable pub marked : ℕ → Body → Bool
-marked m (Colour c) = true
-marked m (Across l r) = andThen (isSet m l) (λ _. isSet m r)
-marked m (Down u v) = andThen (isSet m u) (λ _. isSet m v)
+unfoldable pub allMarked : ℕ → Body → Bool
+allMarked m (Colour c) = true
+allMarked m (Across l r) = andThen (isSet m l) (λ _. isSet m r)
+allMarked m (Down u v) = andThen (isSet m u) (λ _. isSet m v)
 
 -- the motifs of a body are marked too
 unfoldable pub addingBody : ℕ → Body → ℕ
@@ -24,11 +24,11 @@ addingBody m (Down u v) = adding (adding m u) v
 
 -- a rule whose motifs are all marked marks its head
 unfoldable pub markHead : ℕ → Rule → ℕ
-markHead m r = pick (marked m (r .body)) (adding m (r .head)) m
+markHead m r = pick (allMarked m (r .body)) (adding m (r .head)) m
 
 -- a rule whose head is marked, and whose motifs all can be rewritten, marks its motifs
 unfoldable pub markBody : ℕ → ℕ → Rule → ℕ
-markBody can m r = pick (isSet m (r .head)) (pick (marked can (r .body)) (addingBody m (r .body)) m) m
+markBody can m r = pick (isSet m (r .head)) (pick (allMarked can (r .body)) (addingBody m (r .body)) m) m
 
 -- one pass over the rules, and so many passes
 unfoldable pub pass : (ℕ → Rule → ℕ) → List Rule → ℕ → ℕ

@@ -10,11 +10,11 @@ use Rattle.books.specs.Equal.{firsts}
 use Rattle.books.specs.Moved.{movedRule}
 use Rattle.books.specs.declared.rule.Rule.{Rule}
 use Rattle.tidy.specs.Marks.{rank}
-use Rattle.tidy.specs.Marking.{marked, reached}
+use Rattle.tidy.specs.Marking.{allMarked, reached}
 
 -- the rules of which head and motifs are all marked
 unfoldable pub uses : ℕ → Rule → Bool
-uses m r = andThen (isSet m (r .head)) (λ _. marked m (r .body))
+uses m r = andThen (isSet m (r .head)) (λ _. allMarked m (r .body))
 
 unfoldable pub usable : ℕ → List Rule → List Rule
 usable m [] = []

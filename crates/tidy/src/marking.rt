@@ -10,7 +10,7 @@ ghost use Rattle.names.specs.Bits.{isSet};
 ghost use Rattle.names.specs.Spelling.{mostColours};
 ghost use Rattle.books.specs.Keeps.{mostMotifs, BodyFits, RuleFits};
 ghost use Rattle.tidy.specs.Marks.{adding};
-ghost use Rattle.tidy.specs.Marking.{marked, addingBody, markHead, markBody, pass, passes};
+ghost use Rattle.tidy.specs.Marking.{allMarked, addingBody, markHead, markBody, pass, passes};
 ghost use Rattle.tidy.specs.inner.Steps.{stepBy, FirstFit, RulesKept, rewrittenIn, reachedIn};
 
 // What a rule marks in a pass: its head, where its motifs are all marked; or its motifs, where its head is marked and all of them can be rewritten.
@@ -38,7 +38,7 @@ fn add(marks: u32, motif: u8) -> u32
 // Whether both motifs of a join are marked.
 fn both_marked(marks: u32, first: u8, second: u8) -> bool
     requires { ⌜ (first < mostMotifs) × (second < mostMotifs) ⌝ }
-    ensures { λ r. ⌜ r ≡ marked marks (Body.Across first second) ⌝ }
+    ensures { λ r. ⌜ r ≡ allMarked marks (Body.Across first second) ⌝ }
 {
     if is_marked(marks, first) {
         is_marked(marks, second)
@@ -50,7 +50,7 @@ fn both_marked(marks: u32, first: u8, second: u8) -> bool
 // Whether all motifs of a body are marked: a colour has none.
 pub(crate) fn all_marked(marks: u32, body: Body) -> bool
     requires { ⌜ BodyFits mostMotifs mostColours body ⌝ }
-    ensures { λ r. ⌜ r ≡ marked marks body ⌝ }
+    ensures { λ r. ⌜ r ≡ allMarked marks body ⌝ }
 {
     match body {
         Body::Colour(_) => true,

@@ -24,7 +24,7 @@ pub record SlotDue (cols due entries : ℕ) : Type 0 where
   pub below : due < entries
 
 -- the entries before a slot ask for some columns, some entries, and an array with room for them
-pub record FillDue (cols end entries : ℕ) : Type 0 where
+pub record SizesDue (cols end entries : ℕ) : Type 0 where
   pub cols-some : 1 ≤ cols
   pub some : 1 ≤ end
   pub room : end ≤ entries
