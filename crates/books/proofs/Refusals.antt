@@ -137,6 +137,10 @@ module _ {press : ℕ} {book sheet : List ℕ} where
   pub refusal-other : {a : Answer} → Refusal press book sheet a → (n : ℕ) → refusing? n ≡ false → a .number ≡ n → ⊥
   refusal-other r n own e = true≢false (sym (refusal-number r) ∙ ap refusing? e ∙ own)
 
+  -- so what such a number is told for, where all are accepted, is not told
+  pub refusal-never : {a : Answer} → Refusal press book sheet a → (n : ℕ) → refusing? n ≡ false → {Told : Type 0} → (Told → Accepted press book sheet) → (a .number ≡ n) ↔ Told
+  refusal-never r n own fine = neither (refusal-other r n own) (λ x. refusal-bad r (fine x))
+
   pub refusal-packs : {a : Answer} → Refusal press book sheet a → Packs a 0
   refusal-packs (no-press none) = plain-packs 21 0 (omega arith) (omega arith)
   refusal-packs (in-book is n) = book-placed book 1 (omega arith) .packs

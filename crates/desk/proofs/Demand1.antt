@@ -9,7 +9,7 @@ use Rattle.names.proofs.Tests.{together, neither}
 use Rattle.books.specs.Answer.{InputsNumber, Packs}
 use Rattle.books.specs.Lent.{Accepted}
 use Rattle.books.proofs.Packing.{apart, plain-packs}
-use Rattle.books.proofs.Refusals.{Blames, own-blames, refusal-bad, refusal-listed, refusal-blames, refusal-other, refusal-packs}
+use Rattle.books.proofs.Refusals.{Blames, own-blames, refusal-bad, refusal-listed, refusal-blames, refusal-other, refusal-never, refusal-packs}
 use Rattle.desk.specs.Recolour.{Recolouring, recolouring, RecoloursPacked}
 use Rattle.desk.proofs.Endings as ways
 
@@ -36,14 +36,12 @@ module _ (press : ℕ) (book sheet entries : List ℕ) (row column colour : ℕ)
       ways.recolouring-ends press book sheet entries row column colour Obeys
       (record {
         refused = λ a r.
-            let other = refusal-other r in
-            let bad = refusal-bad r in
             record {
               listed = refusal-listed r;
               blames = refusal-blames r;
-              nineteen = neither (other 19 refl) (λ x. bad (x .0));
-              nine = neither (other 9 refl) (λ x. bad (x .0));
-              done = neither (⊎-elim (other 0 refl) (other 11 refl)) (λ x. bad (x .0));
+              nineteen = refusal-never r 19 refl (λ x. x .0);
+              nine = refusal-never r 9 refl (λ x. x .0);
+              done = neither (⊎-elim (refusal-other r 0 refl) (refusal-other r 11 refl)) (λ x. refusal-bad r (x .0));
               unwritten = λ _. (refl, refl);
             };
         no-cell = λ fine none.

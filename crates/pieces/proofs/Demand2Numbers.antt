@@ -13,7 +13,7 @@ use Rattle.books.specs.Derives.{Member}
 use Rattle.books.specs.Answer.{packed}
 use Rattle.pieces.specs.declared.derive.Derived.{Derived}
 use Rattle.books.proofs.Packing.{apart}
-use Rattle.books.proofs.Refusals.{Refused, own-refused, refusal-bad, refusal-blames, refusal-other}
+use Rattle.books.proofs.Refusals.{Refused, own-refused, refusal-blames, refusal-never}
 use Rattle.pieces.specs.Derivation.{Derivation, entriesNeeded, numbersNeeded, derivation, Leaves, LeavesPacked, Roomy}
 use Rattle.pieces.proofs.DerivationAnswers.{derivation-packs}
 use Rattle.books.specs.Lent.{contentsOf, pictureOf, Accepted}
@@ -41,14 +41,12 @@ module _ (press : ℕ) (book sheet entries numbers : List ℕ) where
       derivation-ends press book sheet entries numbers Numbered
       (record {
         refused = λ a r.
-            let other = refusal-other r in
-            let bad = refusal-bad r in
             record {
               refused = refusal-blames r .refused;
-              nine = neither (other 9 refl) (λ x. bad (x .0));
-              ten = neither (other 10 refl) (λ x. bad (x .0));
-              eleven = neither (other 11 refl) (λ x. bad (x .0));
-              zero = neither (other 0 refl) (λ x. bad (x .0));
+              nine = refusal-never r 9 refl (λ x. x .0);
+              ten = refusal-never r 10 refl (λ x. x .0);
+              eleven = refusal-never r 11 refl (λ x. x .0);
+              zero = refusal-never r 0 refl (λ x. x .0);
             };
         short-work = λ fine short.
             record {

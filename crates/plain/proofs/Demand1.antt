@@ -11,7 +11,7 @@ use Rattle.books.specs.Derives.{Member}
 use Rattle.books.specs.Lent.{contentsOf, pictureOf, Accepted}
 use Rattle.books.specs.declared.answer.Answer.{Answer}
 use Rattle.books.proofs.Packing.{apart, plain-packs}
-use Rattle.books.proofs.Refusals.{Blames, own-blames, refusal-bad, refusal-listed, refusal-blames, refusal-other, refusal-packs}
+use Rattle.books.proofs.Refusals.{Blames, own-blames, refusal-listed, refusal-blames, refusal-never, refusal-packs}
 use Rattle.plain.specs.Outcome.{mostCells, cells, plainAnswer}
 use Rattle.plain.proofs.Endings.{plain-ends}
 
@@ -39,14 +39,12 @@ module _ (press : ℕ) (book sheet : List ℕ) where
       plain-ends press book sheet Obeys
       (record {
         refused = λ a r.
-            let other = refusal-other r in
-            let bad = refusal-bad r in
             record {
               listed = refusal-listed r;
               blames = refusal-blames r;
-              twenty = neither (other 20 refl) (λ x. bad (x .0));
-              eleven = neither (other 11 refl) (λ x. bad (x .0));
-              zero = neither (other 0 refl) (λ x. bad (x .0));
+              twenty = refusal-never r 20 refl (λ x. x .0);
+              eleven = refusal-never r 11 refl (λ x. x .0);
+              zero = refusal-never r 0 refl (λ x. x .0);
             };
         too-many = λ fine many.
             record {

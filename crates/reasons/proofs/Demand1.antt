@@ -12,7 +12,7 @@ use Rattle.books.specs.Contents.{Contents}
 use Rattle.books.specs.Picture.{Picture}
 use Rattle.books.specs.Derives.{Member}
 use Rattle.books.proofs.Packing.{apart}
-use Rattle.books.proofs.Refusals.{Blames, own-blames, refusal-bad, refusal-listed, refusal-blames, refusal-other}
+use Rattle.books.proofs.Refusals.{Blames, own-blames, refusal-listed, refusal-blames, refusal-other, refusal-never}
 use Rattle.pieces.specs.Derivation.{entriesNeeded}
 use Rattle.pieces.specs.Table.{table}
 use Rattle.books.specs.Lent.{contentsOf, pictureOf, Accepted}
@@ -60,18 +60,16 @@ module _ (press : ℕ) (book sheet work : List ℕ) where
       why-not-ends press book sheet work Obeys
       (record {
         refusing = λ a r.
-            let other = refusal-other r in
-            let bad = refusal-bad r in
             record {
               listed = refusal-listed r;
               blames = refusal-blames r;
-              nine = neither (other 9 refl) (λ x. bad (x .0));
-              fifteen = neither (other 15 refl) (λ x. bad (x .0 .0));
-              zero = neither (other 0 refl) (λ x. bad (x .0 .0));
-              first = λ e. absurd (other 0 refl e);
+              nine = refusal-never r 9 refl (λ x. x .0);
+              fifteen = refusal-never r 15 refl (λ x. x .0 .0);
+              zero = refusal-never r 0 refl (λ x. x .0 .0);
+              first = λ e. absurd (refusal-other r 0 refl e);
               no-reason = λ _. refl;
               unwritten = λ _. refl;
-              written = λ o. absurd (⊎-elim (other 0 refl) (other 15 refl) o);
+              written = λ o. absurd (⊎-elim (refusal-other r 0 refl) (refusal-other r 15 refl) o);
             };
         short-work = λ fine short.
             record {

@@ -18,7 +18,7 @@ use Rattle.books.specs.Size.{room}
 use Rattle.books.specs.declared.answer.Answer.{Answer}
 use Rattle.books.proofs.Packing.{apart, plain-packs}
 use Rattle.books.proofs.ReadingSheets.{sheet-lies}
-use Rattle.books.proofs.Refusals.{Blames, own-blames, refusal-bad, refusal-listed, refusal-blames, refusal-other, refusal-packs}
+use Rattle.books.proofs.Refusals.{Blames, own-blames, refusal-listed, refusal-blames, refusal-other, refusal-never, refusal-packs}
 use Rattle.trees.specs.declared.node.Node.{Node}
 use Rattle.trees.specs.Due.{RightAt, WrongAt}
 use Rattle.trees.specs.Trees.{TreeOf, Ends, a-tree, fails, left-over}
@@ -80,15 +80,13 @@ module _ (press : ℕ) (book sheet : List ℕ) (nodes : List Node) where
       tree-ends press book sheet nodes Obeys
       (record {
         refused = λ a r.
-            let other = refusal-other r in
-            let bad = refusal-bad r in
             record {
               listed = refusal-listed r;
               blames = refusal-blames r;
-              sixteen = neither (other 16 refl) (λ x. bad (x .0));
-              zero = neither (other 0 refl) (λ x. bad (x .0));
-              before = λ e. absurd (other 16 refl e);
-              there = λ e. absurd (other 16 refl e);
+              sixteen = refusal-never r 16 refl (λ x. x .0);
+              zero = refusal-never r 0 refl (λ x. x .0);
+              before = λ e. absurd (refusal-other r 16 refl e);
+              there = λ e. absurd (refusal-other r 16 refl e);
             };
         failing = λ fine i x. no-tree i fine (fails x) (right-before b x) (inl (wrong-there b x));
         over = λ fine xs v vs e t.
