@@ -1,6 +1,6 @@
 -- A book is refused exactly for what `BookFault` says: from what was read so far reading goes on with the next number, so that it stops where one of them
 -- is refused, a rule stood earlier or bytes follow the last rule, and nowhere else.
-use Prim.Native.Nat.{ℕ, ◌-◌, ◌≤◌}
+use Prim.Native.Nat.{ℕ, ◌≤◌}
 use mathlib.Core.Path.{◌≡◌, refl, ap}
 use mathlib.Core.Bool.{Bool, true}
 use mathlib.Core.List.{List}

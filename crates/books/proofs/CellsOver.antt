@@ -1,6 +1,6 @@
 -- What callers use of the cells of a sheet: each stands at its place, whatever stood in the array; and in a fresh array there is 0 past the last, as in the
 -- sheet itself.
-use Prim.Native.Nat.{ℕ, ◌+◌, ◌*◌, ◌<◌, ◌≤◌}
+use Prim.Native.Nat.{ℕ, ◌*◌, ◌<◌, ◌≤◌}
 use mathlib.Core.Path.{◌≡◌, refl, sym, ◌∙◌, ap}
 use mathlib.Core.List.{List, ◌++◌}
 use mathlib.Core.Logic.{⊎_elim}

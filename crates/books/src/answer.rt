@@ -5,7 +5,7 @@ ghost use Rattle.books.specs.Answer.{plain, blaming, packed};
 use names::number::Fault;
 
 // A number of the answers in docs/RULES.md, the input it blames (1 the first, 2 the second, 0 neither), and a place in that input.
-#[derive(Drop)]
+#[derive(Clone, Copy)]
 pub struct Answer {
     pub number: u8,
     pub blamed: u8,

@@ -9,7 +9,7 @@ use names::number;
 use names::number::{Fault, Read};
 
 // A body and the place after it, or the fault.
-#[derive(Drop)]
+#[derive(Clone, Copy)]
 pub(crate) enum BodyRead {
     Whole(Body, usize),
     Refused(Fault),

@@ -13,7 +13,7 @@ use names::number::{Fault, Read};
 use names::{colours, number};
 
 // The numbers between the colours and the rules.
-#[derive(Drop)]
+#[derive(Clone, Copy)]
 struct Figures {
     motifs: usize,
     start: usize,
@@ -21,14 +21,14 @@ struct Figures {
 }
 
 // The figures and the place after them, or the fault.
-#[derive(Drop)]
+#[derive(Clone, Copy)]
 enum FiguresRead {
     Whole(Figures, usize),
     Refused(Fault),
 }
 
 // A family that was read; a refused book has the fixed one.
-#[derive(Drop)]
+#[derive(Clone, Copy)]
 pub struct BookRead {
     pub fault: Fault,
     pub family: Family,

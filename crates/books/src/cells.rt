@@ -11,7 +11,7 @@ use names::number;
 use names::number::{Fault, Read};
 
 // Cells that went into a lent array: the place after them, 0 where they are refused.
-#[derive(Drop)]
+#[derive(Clone, Copy)]
 pub(crate) struct CellsEnd {
     pub(crate) fault: Fault,
     pub(crate) next: usize,

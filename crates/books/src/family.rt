@@ -8,7 +8,7 @@ use names::colours;
 use names::colours::Colours;
 
 // The colours are places in the lent book; the first `count` rules stand, and the others are fixed.
-#[derive(Drop)]
+#[derive(Clone, Copy)]
 pub struct Family {
     pub colours: Colours,
     pub motifs: usize,

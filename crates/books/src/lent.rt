@@ -11,7 +11,7 @@ use names::number::Fault;
 
 // What is told of a book whose rules went into lent rows: its colours are places in it, and so many rules stand. A refused book has no colours, the
 // start 0 and no rules.
-#[derive(Drop)]
+#[derive(Clone, Copy)]
 pub struct BookFigures {
     pub fault: Fault,
     pub colours: Colours,

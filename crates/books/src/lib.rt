@@ -1,4 +1,6 @@
 // Books and sheets: their contents, reading and spelling, and what a family derives.
+#![tactic(auto)]
+
 pub mod answer;
 mod bodies;
 pub mod book;

@@ -13,14 +13,14 @@ use names::number;
 use names::number::{Fault, Read};
 
 // A rule and the place after it, or the fault.
-#[derive(Drop)]
+#[derive(Clone, Copy)]
 enum RuleRead {
     Whole(Rule, usize),
     Refused(Fault),
 }
 
 // The rules with the place after them; refused ones are the fixed rules and the place 0.
-#[derive(Drop)]
+#[derive(Clone, Copy)]
 pub(crate) struct RulesRead {
     pub(crate) fault: Fault,
     pub(crate) rules: [Rule; MOST_RULES],

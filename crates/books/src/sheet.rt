@@ -17,7 +17,7 @@ use names::{colours, number};
 
 // The colours are places in the lent sheet; the ticket has no part in what is derived; the first rows times columns cells stand, row by row, and
 // the others are 0. Its press has at most so many rows and columns.
-#[derive(Drop)]
+#[derive(Clone, Copy)]
 pub struct Sheet {
     pub colours: Colours,
     pub ticket: usize,
@@ -27,14 +27,14 @@ pub struct Sheet {
 }
 
 // A sheet that was read; a refused one has no colours, no rows, no columns, cells 0, and every other number 0.
-#[derive(Drop)]
+#[derive(Clone, Copy)]
 pub struct SheetRead {
     pub fault: Fault,
     pub sheet: Sheet,
 }
 
 // The same of a sheet whose colours and cells went into lent arrays: how many colours it has, and what is told besides.
-#[derive(Drop)]
+#[derive(Clone, Copy)]
 pub struct SheetFigures {
     pub fault: Fault,
     pub colours: usize,

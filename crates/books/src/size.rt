@@ -10,14 +10,14 @@ use names::number::{Fault, Read};
 pub const ROOM: usize = WIDEST * WIDEST;
 
 // Rows and columns.
-#[derive(Drop)]
+#[derive(Clone, Copy)]
 pub struct Size {
     pub rows: usize,
     pub cols: usize,
 }
 
 // Rows and columns with the place after them, or the fault.
-#[derive(Drop)]
+#[derive(Clone, Copy)]
 pub(crate) enum SizeRead {
     By { size: Size, next: usize },
     Refused(Fault),

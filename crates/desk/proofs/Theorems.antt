@@ -1,6 +1,6 @@
 -- The theorems of the call. Where the slice held the table of the sheet, 0 is answered exactly when the family derives the sheet as it is left; and a cell that gets the
 -- colour it has leaves the sheet and such a slice as they are.
-use Prim.Native.Nat.{ℕ, ◌+◌}
+use Prim.Native.Nat.{ℕ}
 use mathlib.Core.Path.{◌≡◌, refl, sym, ap, ap₂, ◌∙◌}
 use mathlib.Core.Bool.{Bool, true, false}
 use mathlib.Core.List.{List, ◌++◌}

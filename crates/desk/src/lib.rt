@@ -1,5 +1,7 @@
 // The call of the proofing desk for the C host. It stands apart from the calls of `pieces`, so that each archive has one loop over pieces, and the compiler
 // makes it as fast as it can be.
+#![tactic(auto)]
+
 pub mod recolour;
 
 ghost use Rattle.desk.specs.Recolour.{recolouring, RecoloursPacked};

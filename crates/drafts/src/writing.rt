@@ -15,7 +15,7 @@ use names::colours::{Colours, MOST_COLOURS};
 use names::{name, number};
 
 // Answer 0 with the bytes written, or 12 or 13 with 0.
-#[derive(Drop)]
+#[derive(Clone, Copy)]
 pub struct Written {
     pub number: u8,
     pub count: usize,

@@ -2,7 +2,7 @@
 use books::rule::Dir;
 
 // Mirrored exchanges left and right, flipped upper and lower, transposed rows and columns.
-#[derive(Drop)]
+#[derive(Clone, Copy)]
 pub(crate) enum Change {
     Mirrored,
     Flipped,
@@ -10,14 +10,14 @@ pub(crate) enum Change {
 }
 
 // Two books: either of them, or joined, which is beside or above.
-#[derive(Drop)]
+#[derive(Clone, Copy)]
 pub(crate) enum Pairing {
     EitherOf,
     Joined(Dir),
 }
 
 // One book: repeated, which is run or stack, or changed.
-#[derive(Drop)]
+#[derive(Clone, Copy)]
 pub(crate) enum Single {
     Repeated(Dir),
     Changed(Change),

@@ -13,7 +13,7 @@ use books::rule::{Body, MOST_RULES, Rule};
 use names::colours::MOST_COLOURS;
 
 // The first `count` rules stand.
-#[derive(Drop)]
+#[derive(Clone, Copy)]
 pub(crate) struct Rules {
     pub(crate) count: usize,
     pub(crate) rules: [Rule; MOST_RULES],

@@ -1,4 +1,6 @@
 // The eight combinations, and what each holds.
+#![tactic(auto)]
+
 mod answering;
 mod asked;
 pub mod calls;

@@ -14,7 +14,7 @@ use names::colours;
 use names::colours::{Colours, MOST_COLOURS};
 
 // Whether a combination is within the limits, and its draft; where it is not, the draft is that of the first book.
-#[derive(Drop)]
+#[derive(Clone, Copy)]
 pub(crate) struct Made {
     pub(crate) within: bool,
     pub(crate) draft: Draft,

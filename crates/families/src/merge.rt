@@ -5,7 +5,7 @@ use names::colours::{Colours, MOST_COLOURS};
 use names::{colours, name};
 
 // The colours that follow those of the first book, as parts of the second, and the number of each of the second's colours in the whole list.
-#[derive(Drop)]
+#[derive(Clone, Copy)]
 pub(crate) struct Merged {
     pub(crate) more: Colours,
     pub(crate) numbers: [u8; MOST_COLOURS],

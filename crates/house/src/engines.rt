@@ -32,7 +32,7 @@ fn coloured(start: &[u8], cells: usize, bits: usize, out: &mut [u8]) -> usize {
 }
 
 // Whether the plain engine accepts a sheet, and whether the first engine, whose count is its trials, gives the same answer.
-#[derive(Drop)]
+#[derive(Clone, Copy)]
 struct Compared {
     accepted: bool,
     same: bool,

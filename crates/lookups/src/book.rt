@@ -8,7 +8,7 @@ use books::equal::rule_number;
 use books::rule::Rule;
 
 // A rule of a book, or that there is none with the number asked for.
-#[derive(Drop)]
+#[derive(Clone, Copy)]
 pub enum RuleFound {
     There(Rule),
     Missing,

@@ -1,6 +1,6 @@
 -- The number of a name is that of the first such name in the list, and the list's length exactly where the name does not stand there:
 -- the search compares one name after the other, and the test is equality.
-use Prim.Native.Nat.{ℕ, zero, suc, ◌+◌, ◌≤◌, ◌<◌}
+use Prim.Native.Nat.{ℕ, zero, suc, ◌≤◌, ◌<◌}
 use mathlib.Core.Path.{◌≡◌, refl, sym, ◌∙◌, ap}
 use mathlib.Core.Bool.{true}
 use mathlib.Core.List.Memᴰ

@@ -8,7 +8,7 @@ use crate::number::{Fault, Read};
 use crate::{name, number};
 
 // Where a name starts and how long it is, or the fault.
-#[derive(Drop)]
+#[derive(Clone, Copy)]
 pub(crate) enum ColourRead {
     At(usize, usize),
     Refused(Fault),

@@ -13,7 +13,7 @@ use crate::{colour, name, number};
 pub const MOST_COLOURS: usize = 64;
 
 // Where each name of a list starts in the input and how long it is; 0 past the count.
-#[derive(Drop)]
+#[derive(Clone, Copy)]
 pub struct Colours {
     pub count: usize,
     pub starts: [u16; MOST_COLOURS],
@@ -21,7 +21,7 @@ pub struct Colours {
 }
 
 // A list that was read, with the place after it; a refused one has no colours and the place 0.
-#[derive(Drop)]
+#[derive(Clone, Copy)]
 pub struct ColoursRead {
     pub fault: Fault,
     pub colours: Colours,
@@ -29,7 +29,7 @@ pub struct ColoursRead {
 }
 
 // What is told of a list whose places went into lent arrays.
-#[derive(Drop)]
+#[derive(Clone, Copy)]
 pub struct ListFigures {
     pub fault: Fault,
     pub count: usize,

@@ -1,4 +1,6 @@
 // Numbers, names and colour lists: read, compared and written; slices cleared, and bits of a word told. Every function answers on every input.
+#![tactic(auto)]
+
 mod colour;
 pub mod colours;
 pub mod fault;

@@ -22,7 +22,7 @@ pub fn front(s: &[u8], len: usize) -> &[u8]
 }
 
 // A name of so many bytes is whole, or the input ends in it, or the byte at a place of it may not stand in a name.
-#[derive(Drop)]
+#[derive(Clone, Copy)]
 pub enum NameRead {
     Whole,
     Ends,

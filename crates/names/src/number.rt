@@ -9,14 +9,14 @@ use crate::fault::fault;
 pub const GREATEST_NUMBER: usize = 2097151;
 
 // An answer number with its place; 0 at 0 is no fault.
-#[derive(Drop)]
+#[derive(Clone, Copy)]
 pub struct Fault {
     pub number: u8,
     pub place: usize,
 }
 
 // A number and the place after it, or the fault.
-#[derive(Drop)]
+#[derive(Clone, Copy)]
 pub enum Read {
     Value(usize, usize),
     Refused(Fault),

@@ -74,13 +74,13 @@ along F {d} {e} {l} {r} {u} ed el er x =
     subst (λ (n : ℕ). F e u n) er (subst (λ (n : ℕ). F e n r) el (subst (λ (z : Dir). F z l r) ed x))
 
 pub given-unique : {b : Contents} {a : ℕ} {p : Picture} {xs ys : List ℕ} → Given b a p xs → Given b a p ys → xs ≡ ys
-given-unique {b} (leaf i c u ab lo) (leaf j c' v ab' lo') = ap (λ (n : ℕ). n ∷ 0 ∷ []) (same-rule b u v ab ab' lo lo').0
+given-unique {b} {p = p} (leaf i c u ab lo) (leaf j c' v ab' lo') = ap (λ (n : ℕ). n ∷ 0 ∷ []) (same-rule b {p = p} u v ab ab' lo lo').0
 given-unique {b} {p = p} (leaf i c u ab lo) (node d j l r k v w lo' sm x y) =
-    absurd (no_colour c d l r (same-rule b {x = Colour c} {y = joins d l r} u v ab (able-joins b p d l r k w) lo lo').1)
+    absurd (no_colour c d l r (same-rule b {p = p} {x = Colour c} {y = joins d l r} u v ab (able-joins b p d l r k w) lo lo').1)
 given-unique {b} {p = p} (node d j l r k v w lo' sm x y) (leaf i c u ab lo) =
-    absurd (no_colour c d l r (same-rule b {x = Colour c} {y = joins d l r} u v ab (able-joins b p d l r k w) lo lo').1)
+    absurd (no_colour c d l r (same-rule b {p = p} {x = Colour c} {y = joins d l r} u v ab (able-joins b p d l r k w) lo lo').1)
 given-unique {b} {p = p} (node {xs = xs} {ys = ys} d i l r k u w lo sm x y) (node {xs = xs'} {ys = ys'} d' i' l' r' k' v w' lo' sm' x' y') =
-    let (ei, ex) = same-rule b {x = joins d l r} {y = joins d' l' r'} u v (able-joins b p d l r k w) (able-joins b p d' l' r' k' w') lo lo' in
+    let (ei, ex) = same-rule b {p = p} {x = joins d l r} {y = joins d' l' r'} u v (able-joins b p d l r k w) (able-joins b p d' l' r' k' w') lo lo' in
     let (ed, el, er) = joins-inj d d' l r l' r' ex in
     let w'' : Works b d l r p k' = along (λ d l r. Works b d l r p k') (sym ed) (sym el) (sym er) w' in
     let ek : k ≡ k' = omega (arith, sm k' w'', sm' k (along (λ d l r. Works b d l r p k) ed el er w)) in

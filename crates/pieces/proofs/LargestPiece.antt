@@ -21,7 +21,16 @@ use Rattle.pieces.proofs.Slots.{slot_lt, get_or-slot, slot-onto, length-pieces, 
 
 -- ── What is found ──
 
+-- what holds at the front of a list and behind it holds at each place
+each-place : (P : ℕ → Type 0) → P 0 → ((i : ℕ) → P (suc i)) → (i : ℕ) → P i
+each-place P here behind zero = here
+each-place P here behind (suc i) = behind i
+
 module _ (test : Piece → Bool) where
+  -- no accepted piece of a list at a place is larger than r, and one as large comes at j or later
+  abbrev NoLarger : Piece → List Piece → ℕ → ℕ → Type 0
+  NoLarger r l j i = i < length l → test (get_or l i no_piece) ≡ true → (area (get_or l i no_piece) ≤ area r) × (area (get_or l i no_piece) ≡ area r → j ≤ i)
+
   -- the best before a list is kept, or the piece at a place of the list is found: no accepted one is larger, and an earlier one is smaller
   data Ends (best : Piece) (l : List Piece) (r : Piece) : Type 0 where
     kept : r ≡ best → ((i : ℕ) → i < length l → test (get_or l i no_piece) ≡ true → area (get_or l i no_piece) ≤ area best) → Ends best l r
@@ -32,26 +41,26 @@ module _ (test : Piece → Bool) where
   after-taken : (best q r : Piece) (l : List Piece) → test q ≡ true → area best < area q → Ends q l r → Ends best (q ∷ l) r
   after-taken best q r l t more (kept e low) =
       found 0 (omega arith) e (ap test e ∙ t) (omega (arith, ap area e))
-      (λ i. elim i [
-        | zero ↦ λ _ _. (omega (arith, ap area e), λ _. omega arith)
-        | suc i ↦ λ h u. (omega (arith, ap area e, low i (omega arith) u), λ _. omega arith)
-      ])
-  after-taken best q r l t more (found j h e u larger low) =
+      (each-place (NoLarger r (q ∷ l) 0)
+      (λ _ _. (omega (arith, ap area e), λ _. omega arith))
+      (λ i h u. (omega (arith, ap area e, low i (omega arith) u), λ _. omega arith)))
+  after-taken best q r l t more (found j h e u more_there low) =
       found (suc j) (omega arith) e u (omega arith)
-      (λ i. elim i [
-        | zero ↦ λ _ _. (omega arith, λ same. absurd (omega arith))
-        | suc i ↦ λ g v. ((low i (omega arith) v).0, λ same. omega (arith, (low i (omega arith) v).1 same))
-      ])
+      (each-place (NoLarger r (q ∷ l) (suc j))
+      (λ _ _. (omega arith, λ same. absurd (omega arith)))
+      (λ i g v. ((low i (omega arith) v).0, λ same. omega (arith, (low i (omega arith) v).1 same))))
 
   after-left : (best q r : Piece) (l : List Piece) → (test q ≡ true → area q ≤ area best) → Ends best l r → Ends best (q ∷ l) r
   after-left best q r l less (kept e low) =
-      kept e (λ i. elim i [ zero ↦ λ _ u. less u | suc i ↦ λ h u. low i (omega arith) u ])
-  after-left best q r l less (found j h e u larger low) =
-      found (suc j) (omega arith) e u larger
-      (λ i. elim i [
-        | zero ↦ λ _ v. (omega (arith, less v), λ same. absurd (omega (arith, less v)))
-        | suc i ↦ λ g v. ((low i (omega arith) v).0, λ same. omega (arith, (low i (omega arith) v).1 same))
-      ])
+      kept e
+      (each-place (λ i. i < length (q ∷ l) → test (get_or (q ∷ l) i no_piece) ≡ true → area (get_or (q ∷ l) i no_piece) ≤ area best)
+      (λ _ u. less u)
+      (λ i h u. low i (omega arith) u))
+  after-left best q r l less (found j h e u more_there low) =
+      found (suc j) (omega arith) e u more_there
+      (each-place (NoLarger r (q ∷ l) (suc j))
+      (λ _ v. (omega (arith, less v), λ same. absurd (omega (arith, less v))))
+      (λ i g v. ((low i (omega arith) v).0, λ same. omega (arith, (low i (omega arith) v).1 same))))
 
   ends : (best : Piece) (l : List Piece) → Ends best l (largest_from test best l)
   unfolding largest_from larger
@@ -95,12 +104,12 @@ largest-finds test m n = go (largest_from test no_piece (pieces m n)) (ends test
 
 -- ── Two tests that agree on the pieces of a sheet find the same ──
 
-same_from : (s t : Piece → Bool) (best : Piece) (l : List Piece) → ((q : Piece) → Memᴰ q l → s q ≡ t q) → largest_from s best l ≡ largest_from t best l
+same_from : (s t : Piece → Bool) (l : List Piece) → ((q : Piece) → Memᴰ q l → s q ≡ t q) → (best : Piece) → largest_from s best l ≡ largest_from t best l
 unfolding largest_from larger
-same_from s t best [] same = refl
-same_from s t best (q ∷ l) same =
-    rw (same q (Memᴰ.head refl)) (same_from s t _ l (λ x m. same x (Memᴰ.tail m)))
+same_from s t [] same best = refl
+same_from s t (q ∷ l) same best =
+    rw (same q (Memᴰ.head refl)) (same_from s t l (λ x m. same x (Memᴰ.tail m)) _)
 
 pub largest-same : (s t : Piece → Bool) (m n : ℕ) → ((q : Piece) → Inside m n q → s q ≡ t q) → largest_of s m n ≡ largest_of t m n
 unfolding largest_of
-largest-same s t m n same = same_from s t no_piece (pieces m n) (λ q mem. same q (pieces-inside m n mem))
+largest-same s t m n same = same_from s t (pieces m n) (λ q mem. same q (pieces-inside m n mem)) no_piece

@@ -23,7 +23,7 @@ use names::colours::Colours;
 use names::number::Fault;
 
 // What is kept of a book from sheet to sheet, beside the lent book and the masks of its rules.
-#[derive(Drop)]
+#[derive(Clone, Copy)]
 pub struct Split {
     pub fault: Fault,
     pub colours: Colours,
@@ -32,7 +32,7 @@ pub struct Split {
 }
 
 // The answer of one sheet, with its ticket and its size. A refused sheet has the ticket 0, no rows and no columns.
-#[derive(Drop)]
+#[derive(Clone, Copy)]
 pub struct Asked {
     pub answer: Answer,
     pub ticket: usize,

@@ -15,7 +15,7 @@ use books::rule::Dir;
 use books::size::Size;
 
 // A colour rule, by its number; or a join, by its number, direction, cut and the motifs of its two parts.
-#[derive(Drop)]
+#[derive(Clone, Copy)]
 pub(crate) enum Choice {
     Leaf(usize),
     Join {
@@ -28,7 +28,7 @@ pub(crate) enum Choice {
 }
 
 // A rule that is tried at a piece is taken where it fits, and passed over where it does not.
-#[derive(Drop)]
+#[derive(Clone, Copy)]
 enum Tried {
     Taken(Choice),
     Passed,

@@ -9,7 +9,7 @@ use crate::piece::Piece;
 
 // The first part's slot rises, each time by less, and the second part's falls, each time by as much more, so that the two steps together are the same at
 // every cut. `second` is a cut behind: before the first cut it is the slot of the whole piece.
-#[derive(Drop)]
+#[derive(Clone, Copy)]
 pub(crate) struct Course {
     pub(crate) cuts: usize,
     pub(crate) first: usize,

@@ -16,7 +16,7 @@ use books::rule::MOST_RULES;
 use books::size::{ROOM, Size};
 
 // The answer of a derivation, and how many trials its table took: 0 where none was written.
-#[derive(Drop)]
+#[derive(Clone, Copy)]
 pub struct Derived {
     pub answer: Answer,
     pub trials: usize,

@@ -1,4 +1,6 @@
 // The table of the pieces of a sheet, the derivation given, and a book asked for one sheet after another.
+#![tactic(auto)]
+
 pub mod asking;
 mod cells;
 mod choice;

@@ -25,14 +25,14 @@ const COLOUR_MASKS: usize = MOST_COLOURS + 1;
 pub const ALL_MASKS: usize = PAINTERS_FROM + COLOUR_MASKS;
 
 // How many joins a family has in each direction.
-#[derive(Drop)]
+#[derive(Clone, Copy)]
 pub struct Joins {
     pub across: usize,
     pub down: usize,
 }
 
 // The heads of the joins that fire, and how many trials it took to find them: one a join at each cut.
-#[derive(Drop)]
+#[derive(Clone, Copy)]
 pub(crate) struct Joined {
     pub(crate) heads: u32,
     pub(crate) trials: usize,

@@ -7,14 +7,14 @@ use crate::piece::Piece;
 use books::rule::Dir;
 
 // A piece and its motif.
-#[derive(Drop)]
+#[derive(Clone, Copy)]
 pub struct Part {
     pub piece: Piece,
     pub motif: u8,
 }
 
 // The first columns of a piece, or rows, and the rest of them.
-#[derive(Drop)]
+#[derive(Clone, Copy)]
 pub struct Parts {
     pub first: Part,
     pub rest: Part,

@@ -13,7 +13,7 @@ use books::press::WIDEST;
 pub const MOST: usize = WIDEST;
 
 // So many rows and columns, from a top row and a left column on.
-#[derive(Drop)]
+#[derive(Clone, Copy)]
 pub struct Piece {
     pub height: usize,
     pub width: usize,

@@ -13,7 +13,7 @@ use pieces::asking;
 use pieces::masks::ALL_MASKS;
 
 // The answer, and with 0 the reason.
-#[derive(Drop)]
+#[derive(Clone, Copy)]
 pub struct WhyNot {
     pub answer: Answer,
     pub reason: Reason,

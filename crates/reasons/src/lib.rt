@@ -1,4 +1,6 @@
 // Why a sheet is not in the family of a book.
+#![tactic(auto)]
+
 pub mod calls;
 pub mod reason;
 mod unnamed;

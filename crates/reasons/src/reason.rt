@@ -7,7 +7,7 @@ use pieces::piece::Piece;
 
 // Nothing, of a refused call and of a sheet that is in the family; a cell whose colour no rule names; that the family has no sheet of this size; the
 // largest piece that the start motif derives; or that it derives no piece.
-#[derive(Drop)]
+#[derive(Clone, Copy)]
 pub enum Reason {
     NoReason,
     Unnamed {

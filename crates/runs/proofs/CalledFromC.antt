@@ -10,7 +10,6 @@ use Rattle.names.proofs.Tests.{lt-or-le, together, neither}
 use Rattle.books.specs.Answer.{InputsNumber, plain, packed}
 use Rattle.books.specs.Press.{presses, IsPress}
 use Rattle.books.specs.declared.answer.Answer.{Answer}
-use Rattle.books.proofs.LentEnds.{blamed_is}
 use Rattle.books.proofs.Packing.{apart, plain-packs}
 use Rattle.books.proofs.Refusals.{not-input}
 use Rattle.runs.specs.Figures.{figures_long, in_a_row}

@@ -14,12 +14,12 @@ use Rattle.books.specs.Answer.{InputsNumber, Packs}
 use Rattle.books.specs.Book.{book_of}
 use Rattle.books.specs.Lent.{Fine}
 use Rattle.books.specs.Press.{IsPress}
-use Rattle.books.proofs.Packing.{apart, plain-packs, book-placed, fault-placed}
+use Rattle.books.proofs.Packing.{plain-packs, book-placed, fault-placed}
 use Rattle.books.proofs.ReadingBooks.{book-refused}
 use Rattle.books.proofs.Refusals.{not-input}
 use Rattle.runs.specs.Run.{most_bytes, framing, sheets_of}
 use Rattle.runs.specs.Figures.{work_room, figures_of, no_figures}
-use Rattle.runs.specs.Outcome.{Outcome, refused, reported, report, Answers, told}
+use Rattle.runs.specs.Outcome.{Outcome, refused, reported, report, Answers}
 use Rattle.runs.specs.declared.calls.RunReport.{RunReport}
 use Rattle.runs.specs.declared.figures.Figures.{Figures}
 use Rattle.runs.proofs.ReportingRuns.{Ways, refusing-ends}

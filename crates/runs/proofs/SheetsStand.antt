@@ -10,7 +10,7 @@ use lib.Seq.{drop-drop, take-append_seam, drop-append_seam, get_or-append_seam}
 use Rattle.names.specs.Number.{greatest_number, spell_number}
 use Rattle.names.proofs.SpellingNumbers.{spell-short, spell-long}
 use Rattle.names.proofs.Tests.{lt-or-le}
-use Rattle.runs.specs.Run.{sheets, spell_run}
+use Rattle.runs.specs.Run.{spell_run}
 use Rattle.runs.specs.Numbered.{sheet_with, start_with, place_with}
 
 pub none-long : length (spell_run []) ≡ 0

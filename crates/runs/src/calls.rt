@@ -9,7 +9,7 @@ use books::answer::Answer;
 use books::press::PRESSES;
 
 // The answer, and the figures of the run.
-#[derive(Drop)]
+#[derive(Clone, Copy)]
 pub struct RunReport {
     pub answer: Answer,
     pub figures: Figures,

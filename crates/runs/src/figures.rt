@@ -24,7 +24,7 @@ pub(crate) const FIGURES_LONG: usize = ANY_AT + 3;
 
 // The number of sheets; how many got each of the answers 0 to 8 and 11; the cells of each book colour over accepted sheets; 1 where some sheet is
 // accepted, else 0; and the least and the greatest ticket among the accepted sheets, or 0.
-#[derive(Drop)]
+#[derive(Clone, Copy)]
 pub struct Figures {
     pub sheets: u32,
     pub answers: [u32; ANSWER_COUNTS],

@@ -9,7 +9,7 @@ use names::number::{Fault, Read, read_number};
 const MOST_BYTES: usize = 65536;
 
 // Where a sheet starts and ends in a run, or the fault of its length.
-#[derive(Drop)]
+#[derive(Clone, Copy)]
 pub(crate) struct Frame {
     pub(crate) fault: Fault,
     pub(crate) start: usize,

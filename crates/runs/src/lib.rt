@@ -1,4 +1,6 @@
 // The figures of a whole run of sheets against one book.
+#![tactic(auto)]
+
 pub mod calls;
 mod counting;
 pub mod figures;

@@ -17,7 +17,7 @@ use Rattle.pieces.specs.Firing.{fire_of, painted_of}
 use Rattle.pieces.specs.declared.masks.Joins.{Joins}
 use Rattle.pieces.proofs.Gathered.{gathered-same}
 use Rattle.sizes.specs.Size.{reach}
-use Rattle.sizes.specs.Table.{slot, slot_size, at, size_cuts, entry_of, with_entry, with_entries, sizes_by, last_by}
+use Rattle.sizes.specs.Table.{slot, slot_size, size_cuts, entry_of, with_entry, with_entries, sizes_by, last_by}
 use Rattle.sizes.specs.inner.Entries.{OfTable}
 use Rattle.sizes.proofs.EntriesRight.{entries-length}
 use Rattle.sizes.proofs.Slots.{first-before, rest-before, slot_of-size}

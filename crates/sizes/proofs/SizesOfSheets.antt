@@ -1,6 +1,6 @@
 -- A motif has a size exactly when it derives some picture of that size, whatever the size: a derivation keeps its cuts when the colours are forgotten, and
 -- where sizes join, pictures of those sizes are glued together.
-use Prim.Native.Nat.{ℕ}
+use Prim.Native.Nat.{◌-◌, ℕ}
 use mathlib.Core.Path.{◌≡◌, refl, sym, ◌∙◌}
 use mathlib.Core.Logic.{◌↔◌}
 use native.Mathlib.Omega.{arith}
@@ -38,18 +38,18 @@ size-derived : {b : Contents} {a : ℕ} {s : Size} → HasSize b a s → SomeShe
 size-derived {b = b} (cell c h (hr, hc, fits)) =
     let one : Picture = record { rows = 1; cols = 1; cell = λ _ _. name b c } in
     record { sheet = one; derived = paint {p = one} c h refl refl (fits, refl); rows_are = sym hr; cols_are = sym hc }
-size-derived (join_sizes across l r k h hk hs x y) =
-    let u = size-derived x in
-    let v = size-derived y in
+size-derived {b = b} {s = s} (join_sizes across l r k h hk hs x y) =
+    let u = size-derived {b = b} {a = l} {s = by s.rows k} x in
+    let v = size-derived {b = b} {a = r} {s = by s.rows (s.cols - k)} y in
     record {
       sheet = glued across u.sheet v.sheet;
       derived = glued-derived across l r u.sheet v.sheet h (u.rows_are ∙ sym v.rows_are) u.derived v.derived;
       rows_are = u.rows_are;
       cols_are = omega (arith, u.cols_are, v.cols_are);
     }
-size-derived (join_sizes down l r k h hk hs x y) =
-    let u = size-derived x in
-    let v = size-derived y in
+size-derived {b = b} {s = s} (join_sizes down l r k h hk hs x y) =
+    let u = size-derived {b = b} {a = l} {s = by k s.cols} x in
+    let v = size-derived {b = b} {a = r} {s = by (s.rows - k) s.cols} y in
     record {
       sheet = glued down u.sheet v.sheet;
       derived = glued-derived down l r u.sheet v.sheet h (u.cols_are ∙ sym v.cols_are) u.derived v.derived;

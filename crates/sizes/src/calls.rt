@@ -9,7 +9,7 @@ use pieces::asking;
 use pieces::masks::ALL_MASKS;
 
 // The answer, and how many sizes the family has.
-#[derive(Drop)]
+#[derive(Clone, Copy)]
 pub struct CardAnswer {
     pub answer: Answer,
     pub sizes: usize,

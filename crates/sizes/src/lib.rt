@@ -1,4 +1,6 @@
 // The size card of a family: which sizes its sheets have.
+#![tactic(auto)]
+
 pub mod calls;
 mod card;
 pub mod one;

@@ -11,7 +11,7 @@ use books::family::Family;
 use books::rule::{Body, MOST_RULES, Rule};
 
 // What a rule marks in a pass: its head, where its motifs are all marked; or its motifs, where its head is marked and all of them can be rewritten.
-#[derive(Drop)]
+#[derive(Clone, Copy)]
 pub(crate) enum Step {
     Head,
     Motifs(u32),

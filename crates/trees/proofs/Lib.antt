@@ -13,7 +13,6 @@ pub mod OwnRow
 pub mod Settled
 pub mod Agreeing
 pub mod Places
-pub mod Calling
 pub mod Copying
 pub mod HeldTo
 pub mod CodeTells

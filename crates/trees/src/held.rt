@@ -9,7 +9,7 @@ use books::size::{ROOM, Size};
 use names::number::Fault;
 
 // The fault of each, or 0. The first `count` rules stand, and the first rows times columns cells, each by the number that its colour has in the book.
-#[derive(Drop)]
+#[derive(Clone, Copy)]
 pub(crate) struct Held {
     pub(crate) book: Fault,
     pub(crate) sheet: Fault,

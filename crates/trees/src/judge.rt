@@ -11,7 +11,7 @@ use pieces::part::Part;
 use pieces::piece::{MOST, Piece};
 
 // The place after the nodes read, where all are right and wrong is 0; or that of the first node that fails, where it is 1.
-#[derive(Drop)]
+#[derive(Clone, Copy)]
 pub(crate) struct Verdict {
     pub(crate) wrong: usize,
     pub(crate) place: usize,

@@ -1,4 +1,6 @@
 // Trees that a plug-in chose, held to a book and a sheet.
+#![tactic(auto)]
+
 pub mod calls;
 mod gather;
 mod held;

@@ -5,7 +5,7 @@ use books::size::ROOM;
 pub const MOST_NODES: usize = 2 * ROOM;
 
 #[repr(C)]
-#[derive(Drop)]
+#[derive(Clone, Copy)]
 pub struct Node {
     pub rule: u16,
     pub cut: u16,

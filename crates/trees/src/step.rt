@@ -12,7 +12,7 @@ use pieces::on_sheet::covers_on;
 use pieces::part::{Part, reach};
 
 // It fails; it is a cell; or it joins two parts, of these motifs.
-#[derive(Drop)]
+#[derive(Clone, Copy)]
 pub(crate) enum Step {
     Wrong,
     Cell,
