@@ -2,11 +2,12 @@
 ghost use Rattle.std.specs.Prelude.{◌≤◌};
 
 use crate::{lent, printing, spelling};
+use std::io;
 
 // The answer of the plain engine.
-pub(crate) fn plain(press: usize, book: &[u8], sheet: &[u8]) {
-    printing::answer(plain::calls::dv_plain(press, book, sheet));
-    printing::end();
+pub(crate) fn plain(rt: &impl Print, press: usize, book: &[u8], sheet: &[u8]) -> io::Result<()> {
+    printing::answer(rt, plain::calls::dv_plain(press, book, sheet))?;
+    printing::end(rt)
 }
 
 // How many sheets of two colours there are with so many cells.
@@ -49,7 +50,14 @@ fn ask(press: usize, book: &[u8], sheet: &[u8], work: &mut [u32]) -> Compared {
 }
 
 // How many sheets there are of a size, how many of them the family has, and to how many both engines give the same answer.
-pub(crate) fn both(press: usize, book: &[u8], start: &[u8], work: &mut [u32], cells: usize) {
+pub(crate) fn both(
+    rt: &impl Print,
+    press: usize,
+    book: &[u8],
+    start: &[u8],
+    work: &mut [u32],
+    cells: usize,
+) -> io::Result<()> {
     let mut sheet = [0u8; 64];
     let mut accepted = 0;
     let mut same = 0;
@@ -60,8 +68,8 @@ pub(crate) fn both(press: usize, book: &[u8], start: &[u8], work: &mut [u32], ce
         accepted += lent::one_if(told.accepted);
         same += lent::one_if(told.same);
     }
-    printing::group(b':', sheets as u64);
-    printing::also(accepted as u64);
-    printing::also(same as u64);
-    printing::end();
+    printing::group(rt, b':', sheets as u64)?;
+    printing::also(rt, accepted as u64)?;
+    printing::also(rt, same as u64)?;
+    printing::end(rt)
 }

@@ -1,6 +1,7 @@
 // A tree held to a book and a sheet.
 use crate::{lent, lines, printing, spelling};
 use books::answer;
+use std::io;
 use trees::calls;
 use trees::node::{MOST_NODES, Node};
 
@@ -16,21 +17,34 @@ fn row(bytes: &[u8]) -> [Node; MOST_NODES] {
     nodes
 }
 
-fn judged(press: usize, book: &[u8], sheet: &[u8], bytes: &[u8]) {
+fn judged(
+    rt: &impl Print,
+    press: usize,
+    book: &[u8],
+    sheet: &[u8],
+    bytes: &[u8],
+) -> io::Result<()> {
     let a = calls::check_copied(press, book, sheet, row(bytes), bytes.len() / 2);
-    printing::answer(answer::pack(a, 0));
-    printing::end();
+    printing::answer(rt, answer::pack(a, 0))?;
+    printing::end(rt)
 }
 
 // The answer about the row that the line spells.
-pub(crate) fn judge(line: &[u8], book: &[u8], sheet: &[u8], kept: &[u8]) {
+pub(crate) fn judge(
+    rt: &impl Print,
+    line: &[u8],
+    book: &[u8],
+    sheet: &[u8],
+    kept: &[u8],
+) -> io::Result<()> {
     let mut bytes = [0u8; 2304];
     let length = spelling::spell(line, 4, kept, &mut bytes);
-    printing::text(lines::part(line, 1));
+    printing::text(rt, lines::part(line, 1))?;
     judged(
+        rt,
         lines::number(line, 0),
         book,
         sheet,
         lent::front(&bytes, length),
-    );
+    )
 }

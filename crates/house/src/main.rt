@@ -1,6 +1,6 @@
 // The house example and the edge cases of the rules, run through the calls that a host makes. The file stdin has the cases, a line each, and the file stdout
 // what comes of them, so that it can be held against docs/RULES.md.
-use libc::STDIN_FILENO;
+#![tactic(auto)]
 
 mod asking;
 mod cards;
@@ -17,9 +17,33 @@ mod reports;
 mod spelling;
 mod why;
 
-fn main() {
+ghost use Rattle.std.specs.Prelude.{◌<◌, ◌≤◌, length, take, IfOk};
+ghost use Rattle.std.specs.Io.KnownBytes.{Consumes, IsAtEnd};
+
+use std::io;
+use std::io::Read;
+
+// Reads until the slice is full or the reader ends, and gives how many bytes there are.
+fn fill<R: Read>(reader: &mut R, bytes: &mut [u8]) -> io::Result<usize>
+    ensures room { IfOk result (λ n. n ≤ length bytes.old) }
+    ensures front { IfOk result (λ n. Consumes (R.remaining reader.old) (R.remaining reader.new)
+        (take n bytes.new)) }
+    ensures whole { IfOk result (λ n. n < length bytes.old → IsAtEnd (R.remaining reader.new)) }
+{
+    let mut n = 0;
+    while n < bytes.len() {
+        let more = reader.read(&mut bytes[n..])?;
+        if more == 0 {
+            return Ok(n);
+        }
+        n += more;
+    }
+    Ok(n)
+}
+
+fn main(rt: HostRuntime) -> io::Result<()> {
     let mut list = [0u8; 65536];
     let mut kept = [255u8; 65536];
-    let read = io::read_full(STDIN_FILENO, &mut list);
-    kinds::each(lent::front(&list, read), &mut kept);
+    let read = fill(&mut rt.reader(), &mut list)?;
+    kinds::each(&rt, lent::front(&list, read), &mut kept)
 }

@@ -1,73 +1,73 @@
 // Text and numbers on the standard output.
 use crate::lent;
-use libc::STDOUT_FILENO;
+use std::io;
 
-pub(crate) fn text(bytes: &[u8]) {
-    io::write_all(STDOUT_FILENO, bytes);
+pub(crate) fn text(rt: &impl Print, bytes: &[u8]) -> io::Result<()> {
+    rt.write_all(bytes)
 }
 
-pub(crate) fn end() {
-    text(b"\n");
+pub(crate) fn end(rt: &impl Print) -> io::Result<()> {
+    text(rt, b"\n")
 }
 
 // The next number of a group.
-pub(crate) fn also(n: u64) {
-    text(b" ");
-    io::print_decimal(STDOUT_FILENO, n);
+pub(crate) fn also(rt: &impl Print, n: u64) -> io::Result<()> {
+    print!(rt; " {n}")
 }
 
 // The first number of a group, which a mark begins.
-pub(crate) fn group(mark: u8, n: u64) {
+pub(crate) fn group(rt: &impl Print, mark: u8, n: u64) -> io::Result<()> {
     let marks = [mark];
-    text(&marks);
-    also(n);
+    text(rt, &marks)?;
+    also(rt, n)
 }
 
 // A call's answer: number, blamed input and place.
-pub(crate) fn answer(packed: u64) {
-    group(b':', packed % 256);
-    also(packed / 256 % 16);
-    also(packed / 4096 % 1048576);
+pub(crate) fn answer(rt: &impl Print, packed: u64) -> io::Result<()> {
+    group(rt, b':', packed % 256)?;
+    also(rt, packed / 256 % 16)?;
+    also(rt, packed / 4096 % 1048576)
 }
 
 // The same, and the count that the call answers.
-pub(crate) fn answer_and_count(packed: u64) {
-    answer(packed);
-    group(b';', packed / 4294967296);
+pub(crate) fn answer_and_count(rt: &impl Print, packed: u64) -> io::Result<()> {
+    answer(rt, packed)?;
+    group(rt, b';', packed / 4294967296)
 }
 
 // How much of a work slice was written.
-pub(crate) fn written(work: &[u32]) {
-    group(b';', lent::entries_written(work) as u64);
+pub(crate) fn written(rt: &impl Print, work: &[u32]) -> io::Result<()> {
+    group(rt, b';', lent::entries_written(work) as u64)
 }
 
-fn entry(n: u32) {
-    also(n as u64);
+fn entry(rt: &impl Print, n: u32) -> io::Result<()> {
+    also(rt, n as u64)
 }
 
 // An entry, where there is one.
-fn entry_at(work: &[u32], i: usize) {
+fn entry_at(rt: &impl Print, work: &[u32], i: usize) -> io::Result<()> {
     if i < work.len() {
-        entry(work[i]);
+        entry(rt, work[i])?;
     }
+    Ok(())
 }
 
 // The entries from a place up to another.
-pub(crate) fn entries(work: &[u32], from: usize, to: usize) {
+pub(crate) fn entries(rt: &impl Print, work: &[u32], from: usize, to: usize) -> io::Result<()> {
     for i in from..to {
-        entry_at(work, i);
+        entry_at(rt, work, i)?;
     }
-    end();
+    end(rt)
 }
 
-fn number(n: u16) {
-    also(n as u64);
+fn number(rt: &impl Print, n: u16) -> io::Result<()> {
+    also(rt, n as u64)
 }
 
 // The numbers of a tree.
-pub(crate) fn numbers(tree: &[u16]) {
+pub(crate) fn numbers(rt: &impl Print, tree: &[u16]) -> io::Result<()> {
     for i in 0..tree.len() {
-        number(tree[i]);
+        number(rt, tree[i])?;
     }
-    end();
+    end(rt)
 }
