@@ -7,8 +7,7 @@ use crate::press::PRESSES;
 use crate::{answer, book, sheet};
 
 // Whether these bytes are a book; the answer blames input 1.
-#[unsafe(no_mangle)]
-pub extern "C" fn dv_read_book(book: &[u8]) -> u64
+pub fn dv_read_book(book: &[u8]) -> u64
     ensures { result ≡ packed (book_answer book.now) 0 }
 {
     let r = book::read_book(book);
@@ -17,8 +16,7 @@ pub extern "C" fn dv_read_book(book: &[u8]) -> u64
 }
 
 // Whether these bytes are a sheet of a press; the answer blames input 1, and its count is the sheet's ticket.
-#[unsafe(no_mangle)]
-pub extern "C" fn dv_read_sheet(press: usize, sheet: &[u8]) -> u64
+pub fn dv_read_sheet(press: usize, sheet: &[u8]) -> u64
     ensures { result ≡ packed (sheet_answer press sheet.now) (ticket_of press sheet.now) }
 {
     if press >= PRESSES {

@@ -10,8 +10,7 @@ use crate::recolour::recolour;
 use books::answer;
 
 // Recolours one cell of a sheet, as `recolour::recolour` does.
-#[unsafe(no_mangle)]
-pub extern "C" fn dv_recolour(
+pub fn dv_recolour(
     press: usize,
     book: &[u8],
     sheet: &mut [u8],

@@ -35,8 +35,7 @@ pub fn pack_rule(rule: Rule) -> u64
 }
 
 // How many colours, motifs and rules a book has, and its start, for the C host: in one number with 1 above them, or 0.
-#[unsafe(no_mangle)]
-pub extern "C" fn dv_counts(book: &[u8]) -> u64
+pub fn dv_counts(book: &[u8]) -> u64
     ensures { result ≡ counts_shown book.now }
 {
     let r = read_book(book);
@@ -53,8 +52,7 @@ pub extern "C" fn dv_counts(book: &[u8]) -> u64
 }
 
 // The rule with a number, for the C host: its parts in one number, or 0.
-#[unsafe(no_mangle)]
-pub extern "C" fn dv_rule(book: &[u8], number: usize) -> u64
+pub fn dv_rule(book: &[u8], number: usize) -> u64
     ensures { result ≡ rule_shown book.now number }
 {
     let found = rule(book, number);
@@ -65,8 +63,7 @@ pub extern "C" fn dv_rule(book: &[u8], number: usize) -> u64
 }
 
 // The version of rules and calls, as `DV_VERSION` of the header says: a host sees by it that header and archive belong together.
-#[unsafe(no_mangle)]
-pub extern "C" fn dv_version() -> u64
+pub fn dv_version() -> u64
     ensures { result ≡ version }
 {
     15

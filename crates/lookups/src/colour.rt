@@ -39,8 +39,7 @@ pub(crate) fn name_place(list: Colours, number: usize) -> u64
 }
 
 // The same for the C host: where the name starts in the lent book and how long it is, or 0.
-#[unsafe(no_mangle)]
-pub extern "C" fn dv_colour(book: &[u8], number: usize) -> u64
+pub fn dv_colour(book: &[u8], number: usize) -> u64
     ensures { result ≡ shown_place book.now number }
 {
     let r = read_book(book);

@@ -6,8 +6,7 @@ use crate::colour::name_place;
 use books::sheet::{read_sheet, sheet_size};
 
 // Rows and columns of a sheet of a press: in one number, or 0.
-#[unsafe(no_mangle)]
-pub extern "C" fn dv_sheet_size(press: usize, sheet: &[u8]) -> u64
+pub fn dv_sheet_size(press: usize, sheet: &[u8]) -> u64
     ensures { result ≡ size_shown press sheet.now }
 {
     let size = sheet_size(press, sheet);
@@ -15,8 +14,7 @@ pub extern "C" fn dv_sheet_size(press: usize, sheet: &[u8]) -> u64
 }
 
 // The number that a cell's colour has in the sheet's list, with 1 above it, or 0. A refused sheet has no cells.
-#[unsafe(no_mangle)]
-pub extern "C" fn dv_cell(press: usize, sheet: &[u8], row: usize, column: usize) -> u64
+pub fn dv_cell(press: usize, sheet: &[u8], row: usize, column: usize) -> u64
     ensures { result ≡ cell_shown press sheet.now row column }
 {
     let r = read_sheet(press, sheet);
@@ -31,8 +29,7 @@ pub extern "C" fn dv_cell(press: usize, sheet: &[u8], row: usize, column: usize)
 }
 
 // Where the name of a colour starts in the lent sheet and how long it is, or 0. A refused sheet has no colours.
-#[unsafe(no_mangle)]
-pub extern "C" fn dv_sheet_colour(press: usize, sheet: &[u8], number: usize) -> u64
+pub fn dv_sheet_colour(press: usize, sheet: &[u8], number: usize) -> u64
     ensures { result ≡ sheet_colour_shown press sheet.now number }
 {
     let r = read_sheet(press, sheet);

@@ -84,14 +84,7 @@ pub fn derive(
 }
 
 // The same for the C host, with the trials for the count.
-#[unsafe(no_mangle)]
-pub extern "C" fn dv_derive(
-    press: usize,
-    book: &[u8],
-    sheet: &[u8],
-    work: &mut [u32],
-    tree: &mut [u16],
-) -> u64
+pub fn dv_derive(press: usize, book: &[u8], sheet: &[u8], work: &mut [u32], tree: &mut [u16]) -> u64
     ensures { LeavesPacked (derivation press book.now sheet.now work.old tree.old)
         result work.new tree.new }
 {

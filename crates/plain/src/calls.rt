@@ -53,8 +53,7 @@ pub fn plain(press: usize, book: &[u8], sheet: &[u8]) -> Answer
 }
 
 // The same for the C host.
-#[unsafe(no_mangle)]
-pub extern "C" fn dv_plain(press: usize, book: &[u8], sheet: &[u8]) -> u64
+pub fn dv_plain(press: usize, book: &[u8], sheet: &[u8]) -> u64
     ensures { result ≡ packed (plain_answer press book.now sheet.now) 0 }
 {
     answer::pack(plain(press, book, sheet), 0)

@@ -57,8 +57,7 @@ pub fn why_not(press: usize, book: &[u8], sheet: &[u8], work: &mut [u32]) -> Why
 }
 
 // The same for the C host, with the reason as the count.
-#[unsafe(no_mangle)]
-pub extern "C" fn dv_why_not(press: usize, book: &[u8], sheet: &[u8], work: &mut [u32]) -> u64
+pub fn dv_why_not(press: usize, book: &[u8], sheet: &[u8], work: &mut [u32]) -> u64
     ensures { Leaves (why_not press book.now sheet.now work.old) result work.new }
 {
     let r = why_not(press, book, sheet, work);

@@ -26,8 +26,7 @@ pub fn report(press: usize, book: &[u8], run: &[u8], work: &mut [u32]) -> RunRep
 }
 
 // The same for the C host, with the figures one after another in a lent slice.
-#[unsafe(no_mangle)]
-pub extern "C" fn dv_run_report(
+pub fn dv_run_report(
     press: usize,
     book: &[u8],
     run: &[u8],

@@ -5,8 +5,7 @@ ghost use Rattle.runs.specs.Numbered.{run_sheet_shown};
 use crate::framing::{frame_at, framing};
 
 // Where the sheet with a number starts in the lent run and how long it is, or 0. A refused run has no sheets.
-#[unsafe(no_mangle)]
-pub extern "C" fn dv_run_sheet(run: &[u8], number: usize) -> u64
+pub fn dv_run_sheet(run: &[u8], number: usize) -> u64
     ensures { result ≡ run_sheet_shown run.now number }
 {
     let fault = framing(run);

@@ -48,8 +48,7 @@ pub fn size_card(press: usize, book: &[u8], card: &mut [u32]) -> CardAnswer
 }
 
 // The same for the C host.
-#[unsafe(no_mangle)]
-pub extern "C" fn dv_size_card(press: usize, book: &[u8], card: &mut [u32]) -> u64
+pub fn dv_size_card(press: usize, book: &[u8], card: &mut [u32]) -> u64
     ensures { Leaves (size_card press book.now card.old) result card.new }
 {
     let r = size_card(press, book, card);

@@ -38,8 +38,7 @@ fn tidy_family(book: &[u8], f: Family, out: &mut [u8]) -> u64
 }
 
 // The book without motifs that no sheet needs and without later copies of equal rules: it holds the same sheets.
-#[unsafe(no_mangle)]
-pub extern "C" fn dv_tidy(book: &[u8], out: &mut [u8]) -> u64
+pub fn dv_tidy(book: &[u8], out: &mut [u8]) -> u64
     ensures { Leaves (tidying book.now out.old) result out.new }
 {
     let b = book::read_untidy(book);

@@ -44,8 +44,7 @@ pub fn check_copied(
 }
 
 // The same for the C host.
-#[unsafe(no_mangle)]
-pub extern "C" fn dv_check_tree(press: usize, book: &[u8], sheet: &[u8], nodes: &[Node]) -> u64
+pub fn dv_check_tree(press: usize, book: &[u8], sheet: &[u8], nodes: &[Node]) -> u64
     ensures { result ≡ packed (tree_answer press book.now sheet.now nodes.now) 0 }
 {
     pack(check_tree(press, book, sheet, nodes), 0)
