@@ -26,6 +26,7 @@ fn number_cells(key: &[u8; MOST_COLOURS], count: usize, cells: &mut [u8; ROOM])
 // of the book's colours where the book lacks it. Past them the array is as it was; a refused sheet leaves 0 in all of it. A colour is looked for once, and
 // not at each of its cells. No book has more than 64 colours: by more, no cell is numbered. The book's colours are lent in their parts, since a struct would
 // be copied at every sheet of a run.
+#[inline(always)]
 pub fn number_sheet<'a>(
     press: usize,
     book: &[u8],

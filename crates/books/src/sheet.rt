@@ -70,6 +70,7 @@ fn all_cells(cells: [u8; ROOM])
 {}
 
 // The cells of a sheet whose figures and colours were read: the input ends with them.
+#[inline(always)]
 fn fill_sheet(
     s: &[u8],
     g: SheetFigures,
@@ -97,6 +98,7 @@ fn fill_sheet(
 
 // The sheet of a press that the input is, read into lent arrays. Whatever they held, those of its colours' names end with the places and lengths and 0 past
 // them. Its cells stand first in theirs, which is as it was past them; a refused sheet leaves 0 in all of it.
+#[inline(always)]
 pub fn read_sheet_into(
     press: usize,
     s: &[u8],

@@ -42,6 +42,7 @@ pub fn within(most: usize, size: Size) -> bool
 }
 
 // Rows, then columns, each from 1 to the most that a sheet may have.
+#[inline(always)]
 pub(crate) fn read_size(s: &[u8], at: usize, most: usize) -> SizeRead
     ensures { result ≡ size_at s.now at most }
 {

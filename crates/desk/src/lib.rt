@@ -1,5 +1,4 @@
-// The call of the proofing desk for the C host. It stands apart from the calls of `pieces`, so that each archive has one loop over pieces, and the compiler
-// makes it as fast as it can be.
+// The call of the proofing desk for the C host.
 #![tactic(auto)]
 
 pub mod recolour;

@@ -99,6 +99,7 @@ pub fn whole_sheet(work: &[u32], size: Size, motif: u8) -> u8
 }
 
 // The answer of a sheet whose cells were numbered, with its table written. Masks that can be no book's have no sheet.
+#[inline(always)]
 fn tell(
     s: SheetFigures,
     cells: &[u8; ROOM],
@@ -125,6 +126,7 @@ fn tell(
 
 // Asks for one sheet of a press by what was kept of a book and the masks of its rules. The cells get the numbers that their colours have in the book, and
 // the work slice the table of pieces.
+#[inline(always)]
 pub fn ask_sheet(
     press: usize,
     book: &[u8],

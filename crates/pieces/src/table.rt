@@ -38,6 +38,7 @@ fn join_along(work: &[u32], masks: &[u32], count: usize, course: Course, before:
 }
 
 // The entry of a piece of more than one cell, from the entries of its parts; its trials are added to those before.
+#[inline(always)]
 pub(crate) fn entry_of(
     work: &[u32],
     masks: &[u32],
@@ -69,6 +70,7 @@ pub(crate) fn entry_of(
 }
 
 // Every entry of a table that begins with those of the cells. Answers the number of trials.
+#[inline(always)]
 fn fill(work: &mut [u32], masks: &[u32], joins: Joins, size: Size) -> usize
     requires { TableDue size work.old (length masks.now) joins }
     ensures { (work.new ≡ joined_by (joins_fired masks.now joins) size.rows size.cols work.old)
@@ -100,6 +102,7 @@ fn fill(work: &mut [u32], masks: &[u32], joins: Joins, size: Size) -> usize
 }
 
 // The table of a sheet by masks, and by the numbers that the colours of its cells have among them. Answers the number of trials.
+#[inline(always)]
 pub(crate) fn fill_from(
     masks: &[u32],
     joins: Joins,
