@@ -7,6 +7,9 @@ ghost use Rattle.names.specs.Put.{Puts};
 // A colour's name has no more bytes than this.
 pub const LONGEST_NAME: usize = 40;
 
+// The greatest byte that may stand in a name.
+const GREATEST_BYTE: u8 = 126;
+
 // The part of a slice from a place on: nothing past the end.
 pub fn tail(s: &[u8], at: usize) -> &[u8]
     ensures { Part s.entry (tail_start s.now at) (drop at s.now) result }
@@ -53,7 +56,7 @@ pub fn read_name(s: &[u8], len: usize) -> NameRead
         if b < least_byte(len, i) {
             return NameRead::Bad(i);
         }
-        if 126 < b {
+        if GREATEST_BYTE < b {
             return NameRead::Bad(i);
         }
         i += 1;

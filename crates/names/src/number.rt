@@ -8,6 +8,9 @@ use crate::fault::fault;
 // Three groups of ones.
 pub const GREATEST_NUMBER: usize = 2097151;
 
+// The least number that is spelt in three bytes.
+const LEAST_OF_THREE_BYTES: usize = 16384;
+
 // An answer number with its place; 0 at 0 is no fault.
 #[derive(Clone, Copy)]
 pub struct Fault {
@@ -122,7 +125,7 @@ pub fn spelled_len(v: usize) -> usize
 {
     if v < 128 {
         1
-    } else if v < 16384 {
+    } else if v < LEAST_OF_THREE_BYTES {
         2
     } else if v <= GREATEST_NUMBER {
         3
@@ -149,7 +152,7 @@ pub fn write_number(out: &mut [u8], at: usize, v: usize) -> usize
         return at + 1;
     }
     out[at] = (128 + v % 128) as u8;
-    if v < 16384 {
+    if v < LEAST_OF_THREE_BYTES {
         out[at + 1] = (v / 128) as u8;
         return at + 2;
     }

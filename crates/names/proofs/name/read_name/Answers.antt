@@ -19,17 +19,17 @@ returns-then-b-least_byte c =
     simp (left-suc _ _ c.loop-i-test.true, lt-leb _ _ c.if-s-i.false, ← c.least_byte.ensures, lt-ltb _ _ c.if-b-least_byte.true)
     at c.loop-i.invariant.1
 
-pub returns-then-b-gt126 : goal.returns-then-b-gt126
-returns-then-b-gt126 c =
+pub returns-then-b-gt-GREATEST_BYTE : goal.returns-then-b-gt-GREATEST_BYTE
+returns-then-b-gt-GREATEST_BYTE c =
     let low = le-ltb _ _ c.if-b-least_byte.false in
-    let high : 126 < (get_or c.args.s.now c.loop-i.i 0) = omega (arith, c.if-b-gt126.true) in
+    let high : 126 < (get_or c.args.s.now c.loop-i.i 0) = omega (arith, c.if-b-gt-GREATEST_BYTE.true) in
     simp (left-suc _ _ c.loop-i-test.true, lt-leb _ _ c.if-s-i.false, ← c.least_byte.ensures, low, lt-ltb _ _ high)
     at c.loop-i.invariant.1
 
 pub loop-i-preserved : goal.loop-i-preserved
 loop-i-preserved c =
     let low = le-ltb _ _ c.if-b-least_byte.false in
-    let high : (get_or c.args.s.now c.loop-i.i 0) ≤ 126 = omega (arith, c.if-b-gt126.false) in (
+    let high : (get_or c.args.s.now c.loop-i.i 0) ≤ 126 = omega (arith, c.if-b-gt-GREATEST_BYTE.false) in (
       omega arith,
       simp (left-suc _ _ c.loop-i-test.true, lt-leb _ _ c.if-s-i.false, ← c.least_byte.ensures, low, le-ltb _ _ high)
           at c.loop-i.invariant.1,

@@ -33,14 +33,14 @@ pub bounds-out-at-2 : goal.bounds-out-at-2
 bounds-out-at-2 c =
     omega (arith, c.spelled_len.ensures, spell-long _ c.if-v-lt128.false c.if-v-gt-GREATEST_NUMBER.false)
 
-pub bounds-out-at-then-v-lt16384 : goal.bounds-out-at-then-v-lt16384
-bounds-out-at-then-v-lt16384 c =
+pub bounds-out-at-then-v-lt-LEAST_OF_THREE_BYTES : goal.bounds-out-at-then-v-lt-LEAST_OF_THREE_BYTES
+bounds-out-at-then-v-lt-LEAST_OF_THREE_BYTES c =
     simp length-set (omega (arith, c.spelled_len.ensures, spell-long _ c.if-v-lt128.false c.if-v-gt-GREATEST_NUMBER.false))
 
-pub returns-then-v-lt16384 : goal.returns-then-v-lt16384
-returns-then-v-lt16384 c =
+pub returns-then-v-lt-LEAST_OF_THREE_BYTES : goal.returns-then-v-lt-LEAST_OF_THREE_BYTES
+returns-then-v-lt-LEAST_OF_THREE_BYTES c =
     let a = c.args in
-    let two = spell-two a.v c.if-v-lt128.false (omega (arith, c.if-v-lt16384.true)) in
+    let two = spell-two a.v c.if-v-lt128.false (omega (arith, c.if-v-lt-LEAST_OF_THREE_BYTES.true)) in
     let room : a.at + 2 ≤ length a.out.now = omega (arith, c.spelled_len.ensures, spell-long a.v c.if-v-lt128.false c.if-v-gt-GREATEST_NUMBER.false) in
     rw two (sym (past-in _ _ _ room), put_two _ _ _ _ (omega arith))
 
@@ -50,10 +50,10 @@ bounds-out-at-3 c =
 
 pub bounds-out-at-4 : goal.bounds-out-at-4
 bounds-out-at-4 c =
-    simp (length-set, length-set) (omega (arith, c.spelled_len.ensures, spell-longest _ c.if-v-lt16384.false c.if-v-gt-GREATEST_NUMBER.false))
+    simp (length-set, length-set) (omega (arith, c.spelled_len.ensures, spell-longest _ c.if-v-lt-LEAST_OF_THREE_BYTES.false c.if-v-gt-GREATEST_NUMBER.false))
 
 pub returns : goal.returns
 returns c =
     let a = c.args in
-    let room : a.at + 3 ≤ length a.out.now = omega (arith, c.spelled_len.ensures, spell-longest a.v c.if-v-lt16384.false c.if-v-gt-GREATEST_NUMBER.false) in
-    rw (spell-three a.v c.if-v-lt16384.false c.if-v-gt-GREATEST_NUMBER.false) (sym (past-in _ _ _ room), put_three _ _ _ _ _ (omega arith))
+    let room : a.at + 3 ≤ length a.out.now = omega (arith, c.spelled_len.ensures, spell-longest a.v c.if-v-lt-LEAST_OF_THREE_BYTES.false c.if-v-gt-GREATEST_NUMBER.false) in
+    rw (spell-three a.v c.if-v-lt-LEAST_OF_THREE_BYTES.false c.if-v-gt-GREATEST_NUMBER.false) (sym (past-in _ _ _ room), put_three _ _ _ _ _ (omega arith))
