@@ -22,7 +22,7 @@ pub fn check_tree(press: usize, book: &[u8], sheet: &[u8], nodes: &[Node]) -> An
     tell(held, gather(nodes, count), count)
 }
 
-// The same of the first so many nodes of a row by value, or of all where there are fewer: to lend a row of its own a program would need a walk by hand.
+// The same of the first so many nodes of a row by value, or of all where there are fewer.
 pub fn check_copied(
     press: usize,
     book: &[u8],

@@ -1,5 +1,4 @@
-// Nodes as rows of two numbers: a function that is passed records by reference is proved by hand, so that a lent row of nodes is copied by the one loop here,
-// and then judged by functions that are lent rows of numbers.
+// Nodes as rows of two numbers: a lent row of nodes is copied once, by the loops here, and then judged by functions that are lent rows of numbers.
 ghost use Rattle.std.specs.Prelude.{◌≡◌, ◌≤◌, length, replicate};
 ghost use Rattle.trees.specs.inner.Gather.{most_nodes, row_of, first_nodes};
 ghost use Rattle.trees.specs.inner.OnSheets.{node};
