@@ -6,9 +6,6 @@ use lib.ListN.{length, drop}
 use Rattle.names.proofs.ByteByByte.{same-lengths, same-past, same_step, same_stop, same_end}
 use Rattle.names.proofs.name.same_bytes.Goals as goal
 
-pub returns-then-a-b : goal.returns-then-a-b
-returns-then-a-b c = sym (same-lengths c.args.a.now c.args.b.now (λ e. omega (arith, c.if-a-b.true)))
-
 pub loop-i-init : goal.loop-i-init
 loop-i-init c =
     let a = c.args.a.now in
@@ -32,3 +29,6 @@ returns c =
     let b = c.args.b.now in
     let front : c.loop-i.i ≡ 0 = omega arith in
     sym (same_end a b (subst (λ (k : ℕ). drop k a ≡ drop k b) front c.loop-i.invariant.1))
+
+pub returns-then-a-b : goal.returns-then-a-b
+returns-then-a-b c = sym (same-lengths c.args.a.now c.args.b.now (λ e. omega (arith, c.if-a-b.true)))
