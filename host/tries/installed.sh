@@ -37,7 +37,7 @@ tries_by() {
 tries_by druvelstek "${link[@]}"
 echo "header: the installed examples link version $version by pkg-config"
 
-# Under an emulator there is no C library to be loaded, so that nothing shared runs there.
+# Under an emulator nothing shared is tried.
 if [ ${#emulator[@]} -eq 0 ]; then
     tries_by druvelstek-shared -Wl,-rpath,"$prefix/lib"
     needed=$("$objdump" -p "$place/example" | awk '$1 == "NEEDED" { print $2 }')

@@ -29,7 +29,7 @@ called b c n = (
 -- Derivations are what the rules give.
 pub derives-gives : {b : Contents} {a : ℕ} {p : Picture} → Derives b a p → Gives (pictures b) b.rules a p
 derives-gives (paint c h hr hc e) = paint_given c h (hr, hc, e)
-derives-gives (join d l r k h hk hs x y) = join_given d l r k h hk hs (derives-gives x) (derives-gives y)
+derives-gives (join d l r k h hk hs x y) = join_given d l r k h (omega (arith, hk)) hs (derives-gives x) (derives-gives y)
 
 pub gives-derives : {b : Contents} {a : ℕ} {p : Picture} → Gives (pictures b) b.rules a p → Derives b a p
 gives-derives (paint_given c h (hr, hc, e)) = paint c h hr hc e
