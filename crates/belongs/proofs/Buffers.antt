@@ -6,7 +6,7 @@ use mathlib.Core.List.{List}
 use lib.Dec.{eqb, ltb}
 use lib.ListN.{take}
 use Rattle.names.specs.Pick.{pick}
-use Rattle.names.specs.declared.number.Fault.{Fault}
+use Rattle.names.specs.Fault.{Fault}
 use Rattle.books.specs.Answer.{plain, blaming}
 use Rattle.books.specs.Book.{book_of}
 use Rattle.books.specs.Contents.{Contents}

@@ -2,54 +2,35 @@
 // number, blamed input and place on one line, then on 0 one line for each node of the derivation, rule and cut.
 #![tactic(auto)]
 
-ghost use Rattle.std.specs.Prelude.{◌≡◌, ◌*◌, ◌<◌, ◌≤◌, ℕ, length, take, IfOk, OnErr};
-ghost use Rattle.std.specs.Io.KnownBytes.{Consumes, IsAtEnd};
+ghost use Rattle.std.specs.Prelude.{◌≡◌, ◌*◌, ◌≤◌, length};
 ghost use Rattle.belongs.specs.Nodes.{nodes_of};
 
 use books::answer::Answer;
 use books::sheet::sheet_size;
-use std::io::Read;
 use std::rt::Files;
 use std::{fs, io};
 
-// Reads until the slice is full or the reader ends, and gives how many bytes there are. Where a read fails, what was read before stands at the front.
-fn fill<R: Read>(reader: &mut R, bytes: &mut [u8]) -> io::Result<usize>
-    ensures room { IfOk result (λ n. n ≤ length bytes.old) }
-    ensures front { IfOk result (λ n. Consumes (R.remaining reader.old) (R.remaining reader.new)
-        (take n bytes.new)) }
-    ensures whole { IfOk result (λ n. n < length bytes.old → IsAtEnd (R.remaining reader.new)) }
-    ensures err { OnErr result ((n : ℕ) × Consumes (R.remaining reader.old) (R.remaining reader.new)
-        (take n bytes.new)) }
-{
-    let mut n = 0;
-    while n < bytes.len() {
-        let more = reader.read(&mut bytes[n..])?;
-        if more == 0 {
-            return Ok(n);
-        }
-        n += more;
-    }
-    Ok(n)
-}
+// No book or sheet that is accepted is longer, and what lies beyond cannot change the answer (proofs/Buffers).
+const ROOM: usize = 8192;
 
-// A file's bytes; one that cannot be opened counts as empty. What lies beyond the buffers of main cannot change the answer (proofs/Buffers).
-fn load(rt: &impl Files, path: &str, bytes: &mut [u8]) -> io::Result<usize>
-    ensures { IfOk result (λ n. n ≤ length bytes.old) }
-{
+// A file's bytes, as far as there is room; one that cannot be opened counts as empty.
+fn load<'a>(rt: &impl Files, path: &str, room: &'a mut [u8; ROOM]) -> io::Result<&'a [u8]> {
     match fs::open(rt, path) {
-        Ok(mut file) => fill(&mut file, bytes),
-        Err(_) => Ok(0),
+        Ok(mut file) => {
+            let length = input::fill(&mut file, room)?;
+            Ok(&room[..length])
+        }
+        Err(_) => Ok(&[]),
     }
 }
 
-fn print(rt: &impl Print, number: u64, after: &str) -> io::Result<()> {
-    print!(rt; "{number}{after}")
-}
-
-fn print_answer(rt: &impl Print, a: Answer) -> io::Result<()> {
-    print(rt, a.number as u64, " ")?;
-    print(rt, a.blamed as u64, " ")?;
-    print(rt, a.place as u64, "\n")
+fn print_answer(rt: &impl Print, answer: Answer) -> io::Result<()> {
+    let Answer {
+        number,
+        blamed,
+        place,
+    } = answer;
+    println!(rt; "{number} {blamed} {place}")
 }
 
 // How many nodes the derivation of a sheet has: one for each cell, and one for each join of two parts.
@@ -58,45 +39,32 @@ fn nodes(sheet: &[u8]) -> usize
 {
     let size = sheet_size(0, sheet);
     let cells = size.rows * size.cols;
-    if cells == 0 {
-        return 0;
-    }
-    2 * cells - 1
+    (2 * cells).saturating_sub(1)
 }
 
-fn print_node(rt: &impl Print, rule: u16, cut: u16) -> io::Result<()> {
-    print(rt, rule as u64, " ")?;
-    print(rt, cut as u64, "\n")
-}
-
-// So many nodes of a tree.
+// So many nodes of a tree, two numbers each.
 fn print_nodes(rt: &impl Print, tree: &[u16], nodes: usize) -> io::Result<()>
     requires { 2 * nodes ≤ length tree.now }
 {
-    for i in 0..nodes {
-        print_node(rt, tree[2 * i], tree[2 * i + 1])?;
+    for node in tree[..2 * nodes].chunks_exact(2) {
+        if let [rule, cut] = node {
+            println!(rt; "{rule} {cut}")?;
+        }
     }
     Ok(())
 }
 
 fn main(rt: HostRuntime) -> io::Result<()> {
-    let mut book = [0u8; 8192];
-    let book_len = load(&rt, "book.bin", &mut book)?;
-    let mut sheet = [0u8; 8192];
-    let sheet_len = load(&rt, "sheet.bin", &mut sheet)?;
-    let mut work = [0u32; 6084];
-    let mut tree = [0u16; 574];
-    let d = pieces::derive::derive(
-        0,
-        &book[..book_len],
-        &sheet[..sheet_len],
-        &mut work,
-        &mut tree,
-    );
-    let a = d.answer;
-    print_answer(&rt, a)?;
-    if a.number == 0 {
-        print_nodes(&rt, &tree, nodes(&sheet[..sheet_len]))?;
+    let mut book = [0; ROOM];
+    let book = load(&rt, "book.bin", &mut book)?;
+    let mut sheet = [0; ROOM];
+    let sheet = load(&rt, "sheet.bin", &mut sheet)?;
+    let mut work = [0; 6084];
+    let mut tree = [0; 574];
+    let answer = pieces::derive::derive(0, book, sheet, &mut work, &mut tree).answer;
+    print_answer(&rt, answer)?;
+    if answer.number == 0 {
+        print_nodes(&rt, &tree, nodes(sheet))?;
     }
     Ok(())
 }

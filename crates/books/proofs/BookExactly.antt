@@ -13,8 +13,8 @@ use Rattle.names.specs.Pick.{fault}
 use Rattle.names.specs.Number.{number_in, number_below}
 use Rattle.names.specs.Colours.{colours_of}
 use Rattle.names.specs.ReadsList.{ListRead}
-use Rattle.names.specs.declared.number.Fault.{Fault}
-use Rattle.names.specs.declared.number.Read.TheVariants.{Value}
+use Rattle.names.specs.Fault.{Fault}
+use Rattle.names.specs.Read.{Value}
 use Rattle.names.specs.declared.colours.Colours.{Colours}
 use Rattle.names.proofs.Picking.{pick_ind}
 use Rattle.names.proofs.Onwards.{onward-ind}
@@ -31,11 +31,8 @@ use Rattle.books.specs.Rules.{no_rules, refused_rules, rule_at, repeats, rules_a
 use Rattle.books.specs.Book.{figures_at, ruled_at, figured_at, book_by, book_of}
 use Rattle.books.specs.ReadsBook.{RuleStands, MotifsRead, motifs_read, StartRead, start_read, rules_so_far}
 use Rattle.books.specs.ReadsBook.{BookFaultBy, BookFault, no_list, no_motifs, no_start, no_count, no_rule, equal_rule, more_bytes}
-use Rattle.books.specs.declared.rules.RulesRead.{RulesRead}
-use Rattle.books.specs.declared.book.Figures.{Figures}
-use Rattle.books.specs.declared.book.FiguresRead.{FiguresRead}
-use Rattle.books.specs.declared.book.FiguresRead.TheVariants.{Refused}
-use Rattle.books.specs.declared.book.BookRead.{BookRead}
+use Rattle.books.specs.RuleRead.{RulesRead}
+use Rattle.books.specs.BookRead.{Figures, FiguresRead, Refused, BookRead}
 use Rattle.books.proofs.Onwards.{after_rule-ind}
 use Rattle.books.proofs.ReadingRules.{rule-refused}
 use Rattle.books.proofs.ReadingBooks.{book-lies-by, book-accepted-by}

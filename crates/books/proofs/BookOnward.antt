@@ -11,7 +11,7 @@ use Rattle.names.specs.Onward.{onward}
 use Rattle.names.specs.Number.{number_in, number_below}
 use Rattle.names.specs.Colours.{colours_of}
 use Rattle.names.specs.ReadsList.{ListRead}
-use Rattle.names.specs.declared.number.Fault.{Fault}
+use Rattle.names.specs.Fault.{Fault}
 use Rattle.names.specs.declared.colours.Colours.{Colours}
 use Rattle.names.proofs.ReadingNumbers.{number_in_lem}
 use Rattle.names.proofs.Exactly.{number_in-exactly, number_below-exactly}
@@ -22,10 +22,7 @@ use Rattle.books.specs.Book.{refused_book, figures_at, after_figures, ruled_at, 
 use Rattle.books.specs.ReadsBook.{RuleStands, MotifsRead, motifs_read, StartRead, start_read, RulesSoFar, rules_so_far}
 use Rattle.books.specs.ReadsBook.{BookFaultBy, no_list, no_motifs, no_start, no_count, no_rule, equal_rule, more_bytes}
 use Rattle.books.specs.declared.rule.Rule.{Rule}
-use Rattle.books.specs.declared.book.Figures.{Figures}
-use Rattle.books.specs.declared.book.FiguresRead.{FiguresRead}
-use Rattle.books.specs.declared.book.FiguresRead.TheVariants.{Whole, Refused}
-use Rattle.books.specs.declared.book.BookRead.{BookRead}
+use Rattle.books.specs.BookRead.{Figures, FiguresRead, Whole, Refused, BookRead}
 use Rattle.books.proofs.ReadingRules.{rule-refused}
 use Rattle.books.proofs.EqualRules.{repeats-forth, copies-less, copies-new}
 use Rattle.books.proofs.RulesHeld.{Held, held_more}

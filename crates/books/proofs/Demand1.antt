@@ -11,7 +11,7 @@ use borrow.Author.Tests.{eqb-true, eqb-false}
 use lib.Dec.{eqb}
 use lib.ListN.{length}
 use Rattle.names.specs.Pick.{fault, ReadersNumber}
-use Rattle.names.specs.declared.number.Fault.{Fault}
+use Rattle.names.specs.Fault.{Fault}
 use Rattle.names.proofs.Picking.{pick_ind}
 use Rattle.names.proofs.ReadingNumbers.{BlamedBy}
 use Rattle.names.specs.Bytes.{Bytes}

@@ -1,17 +1,18 @@
 -- An equal rule stands earlier exactly where an equal number does: a rule that fits the counts of a book is taken back from its number.
 use Prim.Native.Nat.{ℕ, suc, ◌+◌, ◌-◌, ◌^◌, ◌≤◌, ◌<◌}
-use native.Mathlib.Numerals.{add-one}
 use native.Mathlib.Omega.{arith}
 use mathlib.Core.Path.{◌≡◌, refl, sym, ◌∙◌, ap, subst}
+use Rattle.std.specs.Prelude.{nat_eq, ◌||◌}
+use Rattle.std.specs.List.{list_any}
 use mathlib.Core.Bool.{Bool, true, false}
 use mathlib.Core.List.Memᴰ
 use mathlib.Core.List.{List, [], ◌∷◌, ◌++◌, map, map-append, append_assoc, Memᴰ}
-use borrow.Author.Tests.{eqb-true, eq-eqb, ne_eqb}
+use borrow.Author.Tests.{eqb-true, eq-eqb}
 use lib.Dec.{eqb}
-use lib.ListN.{length, get_or, take, drop, replicate, length-append, length-map, length-replicate, take-append-drop, drop_of_length-le}
-use lib.Seq.{split_at, drop-cons, get_or-take, get_or_at, take_at, length-take-le}
+use lib.ListN.{length, get_or, take, drop, replicate, length-append, length-map, length-replicate, take-append-drop}
+use lib.Seq.{split_at, get_or-take, get_or_at, take_at, length-take-le}
 use Rattle.names.specs.Pick.{or_else}
-use Rattle.names.proofs.Tests.{both_ways, or_right}
+use Rattle.names.proofs.Tests.{both_ways}
 use Rattle.books.specs.Keeps.{most_rules}
 use Rattle.books.specs.Rules.{no_rule}
 use Rattle.books.specs.declared.rule.Rule.{Rule}
@@ -87,28 +88,15 @@ unfolding numbers_of
 numbers-before rules count few =
     take_at (map rule_number (take count rules)) _ count (length-map (take count rules) rule_number ∙ there-length rules count few)
 
--- ── The loop over numbers ──
+-- ── A number looked for ──
 
--- whether a number was found before a place, or stands from there on
-abbrev pub found_from : List ℕ → ℕ → Bool → ℕ → Bool
-found_from ns n found i = or_else found (λ _. among (drop i ns) n)
+either : (t u : Bool) → or_else t (λ _. u) ≡ (t || u)
+unfolding or_else
+either true u = refl
+either false u = refl
 
-module _ (ns : List ℕ) (n i : ℕ) where
-  among-left : i < length ns → among (drop i ns) n ≡ or_else (eqb (get_or ns i 0) n) (λ _. among (drop (i + 1) ns) n)
-  unfolding among
-  among-left h = ap (λ (l : List ℕ). among l n) (drop-cons ns i 0 h ∙ ap (λ (k : ℕ). get_or ns i 0 ∷ drop k ns) (sym (add-one i)))
-
-  pub among-found : i < length ns → (found : Bool) → get_or ns i 0 ≡ n → found_from ns n found i ≡ true
-  unfolding or_else
-  among-found h found e =
-      or_right found _ (among-left h ∙ ap (λ (t : Bool). or_else t (λ _. among (drop (i + 1) ns) n)) (eq-eqb _ _ e))
-
-  pub among_next : i < length ns → (found : Bool) → (get_or ns i 0 ≡ n → ⊥) → found_from ns n found i ≡ found_from ns n found (i + 1)
-  unfolding or_else
-  among_next h found e =
-      ap (λ (t : Bool). or_else found (λ _. t)) (among-left h ∙ ap (λ (t : Bool). or_else t (λ _. among (drop (i + 1) ns) n)) (ne_eqb _ _ e))
-
-  pub among_none : length ns ≤ i → (found : Bool) → found_from ns n found i ≡ found
-  unfolding among or_else
-  among_none h true = refl
-  among_none h false = ap (λ (l : List ℕ). among l n) (drop_of_length-le ns {i = i} h)
+-- a number stands in a list where one of it is equal
+pub among_any : (ns : List ℕ) (n : ℕ) → list_any (λ y. nat_eq y n) ns ≡ among ns n
+unfolding among
+among_any [] n = refl
+among_any (k ∷ ks) n = sym (either (nat_eq k n) (list_any (λ y. nat_eq y n) ks)) ∙ ap (λ (t : Bool). or_else (nat_eq k n) (λ _. t)) (among_any ks n)

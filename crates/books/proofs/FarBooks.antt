@@ -10,7 +10,7 @@ use Rattle.names.specs.Pick.{pick, fault}
 use Rattle.names.specs.Onward.{ending}
 use Rattle.names.specs.Number.{number_in, number_below}
 use Rattle.names.specs.Colours.{colours_of}
-use Rattle.names.specs.declared.number.Fault.{Fault}
+use Rattle.names.specs.Fault.{Fault}
 use Rattle.names.specs.declared.colours.Colours.{Colours}
 use Rattle.names.proofs.ReadingNumbers.{number_in_lem, number_below_lem}
 use Rattle.names.proofs.ReadingColours.{colours-lie}
@@ -19,12 +19,9 @@ use Rattle.books.specs.Rules.{colour_number_at, join_at, body_at, rule_at, refus
 use Rattle.books.specs.Book.{refused_book, figures_at, after_figures, ruled_at, figured_at, book_by}
 use Rattle.books.specs.Keeps.{most_motifs, most_rules}
 use Rattle.books.specs.declared.rule.Rule.{Rule}
-use Rattle.books.specs.declared.bodies.BodyRead.TheVariants.{Refused as RefusedBody}
-use Rattle.books.specs.declared.rules.RuleRead.{RuleRead}
-use Rattle.books.specs.declared.rules.RuleRead.TheVariants.{Whole as WholeRule, Refused as RefusedRule}
-use Rattle.books.specs.declared.book.Figures.{Figures}
-use Rattle.books.specs.declared.book.FiguresRead.{FiguresRead}
-use Rattle.books.specs.declared.book.FiguresRead.TheVariants.{Whole as WholeFigures, Refused as RefusedFigures}
+use Rattle.books.specs.BodyRead.{Refused as RefusedBody}
+use Rattle.books.specs.RuleRead.{RuleRead, Whole as WholeRule, Refused as RefusedRule}
+use Rattle.books.specs.BookRead.{Figures, FiguresRead, Whole as WholeFigures, Refused as RefusedFigures}
 use Rattle.books.proofs.ReadingRules.{rule-near, rules-lie}
 use Rattle.books.proofs.ReadingFigures.{figures-lie}
 use Rattle.books.proofs.ReadingBooks.{farthest_book}

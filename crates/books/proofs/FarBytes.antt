@@ -14,8 +14,8 @@ use Rattle.books.specs.Lent.{contents_of}
 use Rattle.books.specs.ContentsIn.{grid_in}
 use Rattle.books.specs.Book.{book_of}
 use Rattle.books.specs.Sheet.{sheet_of}
-use Rattle.books.specs.declared.book.BookRead.{BookRead}
-use Rattle.books.specs.declared.sheet.SheetRead.{SheetRead}
+use Rattle.books.specs.BookRead.{BookRead}
+use Rattle.books.specs.SheetRead.{SheetRead}
 use Rattle.books.proofs.Area.{room_enough}
 use Rattle.books.proofs.ReadingBooks.{farthest_book, book-places}
 use Rattle.books.proofs.ReadingSheets.{farthest, sheet-places}

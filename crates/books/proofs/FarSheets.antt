@@ -7,7 +7,7 @@ use lib.ListN.{length, set}
 use Rattle.names.specs.Onward.{onward}
 use Rattle.names.specs.Number.{number_at, number_in, number_below}
 use Rattle.names.specs.Colours.{colours_of}
-use Rattle.names.specs.declared.number.Fault.{Fault}
+use Rattle.names.specs.Fault.{Fault}
 use Rattle.names.specs.declared.colours.Colours.{Colours}
 use Rattle.names.proofs.ReadingNumbers.{number-lies, number_in_lem, number_below_lem}
 use Rattle.names.proofs.ReadingColours.{colours-lie}
@@ -17,9 +17,8 @@ use Rattle.books.specs.Size.{size_at, after_size}
 use Rattle.books.specs.Cells.{refused_cells, cells_onward, cells_at}
 use Rattle.books.specs.Sheet.{refused_sheet, filled_at, sheet_of}
 use Rattle.books.specs.declared.size.Size.{Size}
-use Rattle.books.specs.declared.size.SizeRead.{SizeRead}
-use Rattle.books.specs.declared.size.SizeRead.TheVariants.{By, Refused as RefusedSize}
-use Rattle.books.specs.declared.sheet.SheetRead.{SheetRead}
+use Rattle.books.specs.SizeRead.{SizeRead, By, Refused as RefusedSize}
+use Rattle.books.specs.SheetRead.{SheetRead}
 use Rattle.books.proofs.Area.{within-area}
 use Rattle.books.proofs.ReadingSizes.{size-lies}
 use Rattle.books.proofs.ReadingCells.{cells-lie}

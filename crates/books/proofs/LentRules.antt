@@ -1,18 +1,20 @@
 -- Rules that are lent in rows of four bytes are the rules: each is taken back from its row.
-use Prim.Native.Nat.{ℕ, ◌+◌, ◌-◌, ◌≤◌, ◌<◌}
+use Prim.Native.Nat.{ℕ, ◌+◌, ◌-◌, ◌≤◌, ◌<◌, min}
 use mathlib.Core.Path.{◌≡◌, refl, ap, ap₂, ◌∙◌}
 use mathlib.Core.List.{List, [], ◌∷◌, ◌++◌, map, map-append, append_assoc}
+use mathlib.Core.Logic.{⊎_elim}
 use native.Mathlib.Numerals.{add-one}
 use native.Mathlib.Omega.{arith}
+use Rattle.std.proofs.lemmas.Bool.{cases_lt}
 use lib.ListN.{length, get_or, take, set, replicate, length-append, length-map, length-replicate, get_or-map}
-use lib.Seq.{take-suc, take_all, take_at, set_at, length-take-le}
+use lib.Seq.{take-suc, take_all, take_at, set_at, length-take-le, get_or-take}
 use borrow.Author.Tests.{eq-eqb, ne_eqb}
 use Rattle.books.specs.Book.{book_of}
 use Rattle.books.specs.Equal.{four_of}
 use Rattle.books.specs.Keeps.{most_rules}
 use Rattle.books.specs.Lent.{contents_of}
 use Rattle.books.specs.Picture.{joins}
-use Rattle.books.specs.declared.lent.BookFigures.{BookFigures}
+use Rattle.books.specs.BookRead.{BookFigures}
 use Rattle.books.specs.declared.rule.Rule.{Rule}
 use Rattle.books.specs.declared.rule.Body.TheVariants.{Colour, Across, Down}
 use Rattle.books.specs.Rules.{no_rule}
@@ -90,11 +92,6 @@ laid_next {A} form none rules x i h g e =
     let left : most_rules - i ≡ most_rules - (i + 1) + 1 = omega arith in
     rw (left, add-one (most_rules - (i + 1)), one, append_assoc) (set_at (map form (take i rules)) _ _ x i long)
 
-pub lent-next : (rules : List Rule) (x : List ℕ) (i : ℕ) → i < length rules → i < most_rules → x ≡ four_of (get_or rules i no_rule)
-    → set (lent_rules rules i) i x ≡ lent_rules rules (i + 1)
-unfolding lent_rules
-lent-next = laid_next four_of (replicate 4 0)
-
 -- more than all cannot be laid out
 pub laid-all : {A : Type 0} (form : Rule → A) (none : A) (rules : List Rule) (count : ℕ) → length rules ≤ most_rules → most_rules ≤ count
     → map form (take most_rules rules) ++ replicate (most_rules - most_rules) none ≡ map form (take count rules) ++ replicate (most_rules - count) none
@@ -102,6 +99,20 @@ laid-all form none rules count h g =
     let nothing : most_rules - count ≡ 0 = omega arith in
     rw (nothing, take_all most_rules rules h, take_all count rules (omega arith))
 
-pub lent-all : (rules : List Rule) (count : ℕ) → length rules ≤ most_rules → most_rules ≤ count → lent_rules rules most_rules ≡ lent_rules rules count
-unfolding lent_rules
-lent-all = laid-all four_of (replicate 4 0)
+-- a loop over the first n, of which there are as many as are asked for, and no more than all
+module _ {A : Type 0} (form : Rule → A) (none : A) (rules : List Rule) (all : length rules ≡ most_rules) (count n : ℕ) (least : n ≡ min count most_rules) where
+  abbrev laid : ℕ → List A
+  laid i = map form (take i rules) ++ replicate (most_rules - i) none
+
+  pub laid-more : (x : A) (i : ℕ) → i < length (take n rules) → x ≡ form (get_or (take n rules) i no_rule) → set (laid i) i x ≡ laid (i + 1)
+  laid-more x i h e =
+      let inside : i < n = omega (arith, length-take-le n rules (omega arith)) in
+      laid_next form none rules x i (omega arith) (omega arith) (e ∙ ap form (get_or-take n rules i no_rule inside))
+
+  pub laid-whole : (i : ℕ) → i ≤ length (take n rules) → length (take n rules) ≤ i → laid i ≡ laid count
+  laid-whole i h g =
+      let end : i ≡ min count most_rules = omega (arith, length-take-le n rules (omega arith)) in
+      ⊎_elim
+      (λ (few : count < most_rules). let same : i ≡ count = omega arith in ap laid same)
+      (λ (many : most_rules ≤ count). let same : i ≡ most_rules = omega arith in ap laid same ∙ laid-all form none rules count (omega arith) many)
+      (cases_lt count most_rules)

@@ -49,6 +49,7 @@ pub mod Tickets
 pub mod Demand1
 pub mod Settled
 pub mod SheetInParts
+pub mod Following
 pub mod CellsOver
 pub mod NumberedCells
 pub mod FarBooks

@@ -8,7 +8,10 @@ use borrow.Author.Tests.{ltb-false, le-ltb}
 use lib.Dec.{ltb}
 use lib.ListN.{length, get_or, get_or-replicate, replicate, take, drop, set, length-append, length-drop, length-map, get_or-append}
 use lib.Seq.{length-take-le, take-suc, drop-cons, set_at, get_or_at, get_or-take}
+use Rattle.std.specs.Prelude.{Option, Some, None}
+use Rattle.std.specs.Option.{unwrap_or}
 use Rattle.names.specs.Colours.{name_in}
+use Rattle.names.specs.Told.{told_found}
 use Rattle.names.specs.Spelling.{most_colours}
 use Rattle.names.specs.declared.colours.Colours.{Colours}
 use Rattle.names.proofs.Finding.{find-few}
@@ -18,8 +21,7 @@ use Rattle.books.specs.Numbering.{number_of, numbers_of, numbers_for, Numbers}
 use Rattle.books.specs.Sheet.{sheet_of, over}
 use Rattle.books.specs.Size.{room}
 use Rattle.books.specs.declared.sheet.Sheet.{Sheet}
-use Rattle.books.specs.declared.sheet.SheetFigures.{SheetFigures}
-use Rattle.books.specs.declared.sheet.SheetRead.{SheetRead}
+use Rattle.books.specs.SheetRead.{SheetFigures, SheetRead}
 use Rattle.books.specs.inner.Key.{Key, numbered}
 use Rattle.books.proofs.ReadingCells.{no_cells_lem}
 use Rattle.books.proofs.CellsOver.{SheetFits, sheet-cells, over-fresh, cells-room}
@@ -60,6 +62,11 @@ not_yet f cells i h = rw (drop-cons cells i 0 h) (get_or_at (map f (take i cells
 same_numbers : (f h : ℕ → ℕ) (l : List ℕ) → ((i : ℕ) → i < length l → f (get_or l i 0) ≡ h (get_or l i 0)) → map f l ≡ map h l
 same_numbers f h [] e = refl
 same_numbers f h (x ∷ l) e = ap₂ (λ (v : ℕ) (r : List ℕ). v ∷ r) (e 0 (omega arith)) (same_numbers f h l (λ i p. e (suc i) (omega arith)))
+
+-- a colour that was looked for, or the count where there is none
+pub unwrapped : (count : ℕ) (r : Option ℕ) → unwrap_or r count ≡ told_found count r
+unwrapped count (Some j) = refl
+unwrapped count None = refl
 
 -- ── The numbers of a sheet ──
 

@@ -1,22 +1,17 @@
 -- What holds of a fault, and of what follows where there is none, holds of reading onward after a size, figures, a body or a rule.
 use Prim.Native.Nat.{ℕ}
 use mathlib.Core.Path.{◌≡◌, refl}
-use Rattle.names.specs.declared.number.Fault.{Fault}
+use Rattle.names.specs.Fault.{Fault}
 use Rattle.books.specs.Size.{after_size}
 use Rattle.books.specs.Rules.{after_body, after_rule}
 use Rattle.books.specs.Book.{after_figures}
 use Rattle.books.specs.declared.rule.Rule.{Rule}
 use Rattle.books.specs.declared.rule.Body.{Body}
 use Rattle.books.specs.declared.size.Size.{Size}
-use Rattle.books.specs.declared.size.SizeRead.{SizeRead}
-use Rattle.books.specs.declared.size.SizeRead.TheVariants.{By, Refused as RefusedSize}
-use Rattle.books.specs.declared.bodies.BodyRead.{BodyRead}
-use Rattle.books.specs.declared.bodies.BodyRead.TheVariants.{Whole as WholeBody, Refused as RefusedBody}
-use Rattle.books.specs.declared.rules.RuleRead.{RuleRead}
-use Rattle.books.specs.declared.rules.RuleRead.TheVariants.{Whole as WholeRule, Refused as RefusedRule}
-use Rattle.books.specs.declared.book.Figures.{Figures}
-use Rattle.books.specs.declared.book.FiguresRead.{FiguresRead}
-use Rattle.books.specs.declared.book.FiguresRead.TheVariants.{Whole as WholeFigures, Refused as RefusedFigures}
+use Rattle.books.specs.SizeRead.{SizeRead, By, Refused as RefusedSize}
+use Rattle.books.specs.BodyRead.{BodyRead, Whole as WholeBody, Refused as RefusedBody}
+use Rattle.books.specs.RuleRead.{RuleRead, Whole as WholeRule, Refused as RefusedRule}
+use Rattle.books.specs.BookRead.{Figures, FiguresRead, Whole as WholeFigures, Refused as RefusedFigures}
 
 module _ {ℓ κ} {A : Type ℓ} (P : A → Type κ) (refuse : Fault → A) where
   pub after_size-ind : (r : SizeRead) (go : Size → ℕ → A) → ((f : Fault) → r ≡ RefusedSize f → P (refuse f))

@@ -1,7 +1,6 @@
 -- What is used of the greatest rows and columns of a press, whichever it is: they are no more than those of the widest, and there is one of each exactly where there
 -- is such a press. Each press is looked at.
 use Prim.Native.Nat.{ℕ, zero, suc, ◌≤◌}
-use mathlib.Core.Path.{◌≡◌, refl}
 use mathlib.Core.Logic.{◌↔◌}
 use native.Mathlib.Omega.{arith}
 use Rattle.books.specs.Press.{widest, greatest_of, IsPress}
@@ -17,9 +16,3 @@ unfolding greatest_of
 greatest-some zero = (λ h. omega arith, λ h. omega arith)
 greatest-some (suc zero) = (λ h. omega arith, λ h. omega arith)
 greatest-some (suc (suc press)) = (λ h. absurd (omega arith), λ h. absurd (omega arith))
-
-pub no-greatest : (press : ℕ) → (press ≡ 0 → ⊥) → (press ≡ 1 → ⊥) → 0 ≡ greatest_of press
-unfolding greatest_of
-no-greatest zero h g = absurd (h refl)
-no-greatest (suc zero) h g = absurd (g refl)
-no-greatest (suc (suc press)) h g = refl

@@ -8,8 +8,8 @@ use lib.Dec.{eqb}
 use lib.ListN.{length}
 use borrow.Author.Tests.{eqb-true, eqb-false}
 use Rattle.names.specs.Number.{number_below, spell_number}
-use Rattle.names.specs.declared.number.Fault.{Fault}
-use Rattle.names.specs.declared.number.Read.TheVariants.{Value}
+use Rattle.names.specs.Fault.{Fault}
+use Rattle.names.specs.Read.{Value}
 use Rattle.names.proofs.Picking.{pick_ind}
 use Rattle.names.proofs.Onwards.{onward-ind}
 use Rattle.names.proofs.ReadingNumbers.{Blamed, blamed-later, number_below_lem, number_below-refused}
@@ -19,8 +19,7 @@ use Rattle.books.specs.Rules.{colour_number_at, join_body, join_at, body_at}
 use Rattle.books.specs.SpellBook.{spell_body}
 use Rattle.books.specs.declared.rule.Body.{Body}
 use Rattle.books.specs.declared.rule.Body.TheVariants.{Across, Down}
-use Rattle.books.specs.declared.bodies.BodyRead.{BodyRead}
-use Rattle.books.specs.declared.bodies.BodyRead.TheVariants.{Whole as WholeBody, Refused as RefusedBody}
+use Rattle.books.specs.BodyRead.{BodyRead, Whole as WholeBody, Refused as RefusedBody}
 use Rattle.books.proofs.StandingNumbers.{Between, below-spelled, between-both}
 
 -- a body whose kind stands at a place: it fits the counts, ends within the input, and stands there as it is spelled

@@ -13,7 +13,7 @@ use lib.Seq.{get_or-take, length-take-le}
 use Rattle.names.specs.Pick.{fault}
 use Rattle.names.specs.Spelling.{spell_colours}
 use Rattle.names.specs.Colours.{names_in, colours_of}
-use Rattle.names.specs.declared.number.Fault.{Fault}
+use Rattle.names.specs.Fault.{Fault}
 use Rattle.names.proofs.Picking.{pick_ind}
 use Rattle.names.proofs.Listing.{get_or-mem}
 use Rattle.names.proofs.ReadingNumbers.{BlamedBy, blamed-later}
@@ -28,9 +28,8 @@ use Rattle.books.specs.Rules.{no_rule, rules_at}
 use Rattle.books.specs.Book.{no_family, refused_book, figures_at, family_of, ruled_at, figured_at, book_by, book_of}
 use Rattle.books.specs.SpellBook.{spell_book}
 use Rattle.books.specs.Answer.{NumberBy}
-use Rattle.books.specs.declared.rules.RulesRead.{RulesRead}
-use Rattle.books.specs.declared.book.Figures.{Figures}
-use Rattle.books.specs.declared.book.BookRead.{BookRead}
+use Rattle.books.specs.RuleRead.{RulesRead}
+use Rattle.books.specs.BookRead.{Figures, BookRead}
 use Rattle.books.proofs.StandingNumbers.{Between, between-both}
 use Rattle.books.proofs.Onwards.{after_figures-ind}
 use Rattle.books.proofs.ReadingFigures.{FiguresLie, figures-lie, figures-refused}

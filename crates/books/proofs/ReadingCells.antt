@@ -11,10 +11,10 @@ use lib.ListN.{length, length-replicate, get_or, take, drop, set}
 use lib.Seq.{sets, sets-eq, take-append_seam, drop-append_seam}
 use Rattle.names.specs.Pick.{fault}
 use Rattle.names.specs.Number.{number_below}
-use Rattle.names.specs.declared.number.Fault.{Fault}
+use Rattle.names.specs.Fault.{Fault}
 use Rattle.names.specs.Onward.{onward}
-use Rattle.names.specs.declared.number.Read.{Read}
-use Rattle.names.specs.declared.number.Read.TheVariants.{Value, Refused}
+use Rattle.names.specs.Read.{Read}
+use Rattle.names.specs.Read.{Value, Refused}
 use Rattle.names.proofs.Onwards.{onward-ind}
 use Rattle.names.proofs.ReadingNumbers.{Blamed, blamed-later, number_below_lem, number_below-there, number_below-refused}
 use Rattle.names.specs.Bytes.{Bytes}

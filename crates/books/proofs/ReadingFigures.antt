@@ -6,15 +6,13 @@ use mathlib.Core.List.{List, ◌++◌}
 use native.Mathlib.Omega.{arith}
 use lib.ListN.{length}
 use Rattle.names.specs.Number.{number_in, number_below, spell_number}
-use Rattle.names.specs.declared.number.Fault.{Fault}
+use Rattle.names.specs.Fault.{Fault}
 use Rattle.names.proofs.Onwards.{onward-ind}
 use Rattle.names.proofs.ReadingNumbers.{Blamed, blamed-later, number_in_lem, number_in-refused, number_below_lem, number_below-refused}
 use Rattle.names.specs.Bytes.{Bytes}
 use Rattle.books.specs.Book.{figures_at}
 use Rattle.books.specs.Keeps.{most_motifs, most_rules}
-use Rattle.books.specs.declared.book.Figures.{Figures}
-use Rattle.books.specs.declared.book.FiguresRead.{FiguresRead}
-use Rattle.books.specs.declared.book.FiguresRead.TheVariants.{Whole, Refused}
+use Rattle.books.specs.BookRead.{Figures, FiguresRead, Whole, Refused}
 use Rattle.books.proofs.StandingNumbers.{Between, in-spelled, below-spelled, between-both}
 
 -- the figures keep their ranges, end within the input, and stand there as they are spelled

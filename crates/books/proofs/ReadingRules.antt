@@ -11,7 +11,7 @@ use lib.ListN.{length, get_or, take, set, replicate, length-append, length-repli
 use lib.Seq.{set_at, take_at}
 use Rattle.names.specs.Pick.{and_then, fault, ReadersNumber}
 use Rattle.names.specs.Number.{number_below}
-use Rattle.names.specs.declared.number.Fault.{Fault}
+use Rattle.names.specs.Fault.{Fault}
 use Rattle.names.proofs.Picking.{pick_ind}
 use Rattle.names.proofs.Onwards.{onward-ind}
 use Rattle.names.proofs.ReadingNumbers.{BlamedBy, Blamed, blamed-later, number_below_lem, number_below-refused}
@@ -21,9 +21,7 @@ use Rattle.books.specs.Rules.{body_at, rule_at, no_rule, no_rules, refused_rules
 use Rattle.books.specs.SpellBook.{spell_rule, spell_rules}
 use Rattle.books.specs.Answer.{NumberBy}
 use Rattle.books.specs.declared.rule.Rule.{Rule}
-use Rattle.books.specs.declared.rules.RuleRead.{RuleRead}
-use Rattle.books.specs.declared.rules.RuleRead.TheVariants.{Whole as WholeRule, Refused as RefusedRule}
-use Rattle.books.specs.declared.rules.RulesRead.{RulesRead}
+use Rattle.books.specs.RuleRead.{RuleRead, Whole as WholeRule, Refused as RefusedRule, RulesRead}
 use Rattle.books.proofs.Onwards.{after_body-ind, after_rule-ind}
 use Rattle.books.proofs.EqualRules.{copies-more, copies-none}
 use Rattle.books.proofs.ReadingBodies.{body-lies, body_refused}

@@ -13,8 +13,8 @@ use lib.Seq.{length-sets, get_or-take}
 use Rattle.names.specs.Pick.{fault}
 use Rattle.names.specs.Number.{greatest_number, number_at}
 use Rattle.names.specs.Colours.{colours_of}
-use Rattle.names.specs.declared.number.Fault.{Fault}
-use Rattle.names.specs.declared.number.Read.TheVariants.{Value}
+use Rattle.names.specs.Fault.{Fault}
+use Rattle.names.specs.Read.{Value}
 use Rattle.names.proofs.Picking.{pick_ind}
 use Rattle.names.proofs.Tests.{true-or-false}
 use Rattle.names.proofs.Onwards.{onward-ind}
@@ -26,7 +26,7 @@ use Rattle.books.specs.Size.{room, Within, size_at}
 use Rattle.books.specs.Cells.{CellsRead, no_cells, cells_at}
 use Rattle.books.specs.Sheet.{no_sheet, refused_sheet, filled_at, sheet_of}
 use Rattle.books.specs.declared.size.Size.{Size}
-use Rattle.books.specs.declared.sheet.SheetRead.{SheetRead}
+use Rattle.books.specs.SheetRead.{SheetRead}
 use Rattle.books.proofs.Area.{within-area, within-room}
 use Rattle.books.proofs.Presses.{greatest-some}
 use Rattle.books.proofs.Onwards.{after_size-ind}

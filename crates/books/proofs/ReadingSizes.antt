@@ -6,14 +6,13 @@ use mathlib.Core.List.{List}
 use native.Mathlib.Omega.{arith}
 use lib.ListN.{length}
 use Rattle.names.specs.Number.{number_in}
-use Rattle.names.specs.declared.number.Fault.{Fault}
-use Rattle.names.specs.declared.number.Read.TheVariants.{Value}
+use Rattle.names.specs.Fault.{Fault}
+use Rattle.names.specs.Read.{Value}
 use Rattle.names.proofs.Onwards.{onward-ind}
 use Rattle.names.proofs.ReadingNumbers.{Blamed, blamed-later, number_in_lem, number_in-refused}
 use Rattle.books.specs.Size.{Within, size_at}
 use Rattle.books.specs.declared.size.Size.{Size}
-use Rattle.books.specs.declared.size.SizeRead.{SizeRead}
-use Rattle.books.specs.declared.size.SizeRead.TheVariants.{By, Refused as RefusedSize}
+use Rattle.books.specs.SizeRead.{SizeRead, By, Refused as RefusedSize}
 
 -- rows at a place, columns between them and the place after both
 pub record SizeLies (s : List ℕ) (at most : ℕ) (z : Size) (next : ℕ) : Type 0 where

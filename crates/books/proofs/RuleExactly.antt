@@ -10,7 +10,7 @@ use lib.Dec.{eqb}
 use Rattle.names.specs.Pick.{pick}
 use Rattle.names.specs.Onward.{onward}
 use Rattle.names.specs.Number.{number_below}
-use Rattle.names.specs.declared.number.Fault.{Fault}
+use Rattle.names.specs.Fault.{Fault}
 use Rattle.names.proofs.Picking.{pick_ind}
 use Rattle.names.proofs.Onwards.{onward-ind}
 use Rattle.names.proofs.ReadingNumbers.{number_below_lem}
@@ -20,10 +20,8 @@ use Rattle.books.specs.ReadsBook.{HeadRead, KindRead, kind_read, FirstRead, firs
 use Rattle.books.specs.ReadsBook.{RuleFault, no_head, no_kind, no_colour, no_first, no_second}
 use Rattle.books.specs.declared.rule.Rule.{Rule}
 use Rattle.books.specs.declared.rule.Body.{Body}
-use Rattle.books.specs.declared.bodies.BodyRead.{BodyRead}
-use Rattle.books.specs.declared.bodies.BodyRead.TheVariants.{Whole as WholeBody, Refused as RefusedBody}
-use Rattle.books.specs.declared.rules.RuleRead.{RuleRead}
-use Rattle.books.specs.declared.rules.RuleRead.TheVariants.{Whole as WholeRule, Refused as RefusedRule}
+use Rattle.books.specs.BodyRead.{BodyRead, Whole as WholeBody, Refused as RefusedBody}
+use Rattle.books.specs.RuleRead.{RuleRead, Whole as WholeRule, Refused as RefusedRule}
 
 -- ── What stands there is read ──
 

@@ -12,14 +12,13 @@ use lib.ListN.{length, take, set, replicate, length-set}
 use lib.Seq.{take-set-le, take-suc-set, get_or-set_same}
 use Rattle.names.specs.Pick.{and_then, fault}
 use Rattle.names.specs.Spelling.{most_colours}
-use Rattle.names.specs.declared.number.Fault.{Fault}
-use Rattle.names.proofs.Count.{left-suc, left-all, left-none}
+use Rattle.names.proofs.Count.{left-suc, left-all}
 use Rattle.books.specs.Keeps.{most_motifs, most_rules}
 use Rattle.books.specs.RuleNumbers.{rule_number, FitsBytes, AllFit, numbers_of, among}
 use Rattle.books.specs.Rules.{no_rule, no_rules, rule_at, refused_rules, repeats, number_repeats, rules_from, rules_at}
 use Rattle.books.specs.declared.rule.Rule.{Rule}
-use Rattle.books.specs.declared.rules.RuleRead.TheVariants.{Whole as WholeRule, Refused as RefusedRule}
-use Rattle.books.proofs.EqualNumbers.{among-stands, numbers-before, numbers-length}
+use Rattle.books.specs.RuleRead.{Whole as WholeRule}
+use Rattle.books.proofs.EqualNumbers.{among-stands, numbers-before}
 use Rattle.books.proofs.GreaterCounts.{rule-more}
 use Rattle.books.proofs.LentRules.{laid_next}
 use Rattle.books.proofs.ReadingRules.{rule_fits}
@@ -61,15 +60,6 @@ module _ (strict : Bool) (s : List ℕ) (from motifs colours count : ℕ) where
   going-begins = record { few = omega arith; all = refl; fit = λ r m. absurd (Memᴰ.not-nil m); laid = refl; left = simp left-all }
 
   module _ {rules : List Rule} {numbers : List ℕ} {at i : ℕ} (g : Going strict s from motifs colours count rules numbers at i) where
-    pub going-long : i ≤ most_rules → length numbers ≡ most_rules
-    going-long h = ap length g.laid ∙ numbers-length rules i (omega (arith, g.all)) h
-
-    pub going-ends : count ≤ i → record { fault = fault 0 0; rules = rules; next = at } ≡ rules_at strict s from motifs colours count
-    going-ends h = simp (left-none _ _ h) at g.left
-
-    pub going-refused : i < count → {f : Fault} → rule_at s at motifs colours ≡ RefusedRule f → refused_rules f ≡ rules_at strict s from motifs colours count
-    going-refused h e = simp (left-suc _ _ h, e) at g.left
-
     module _ (h : i < count) (few_motifs : motifs ≤ most_motifs) (few_colours : colours ≤ most_colours) (few_rules : count ≤ most_rules)
         {x : Rule} {next : ℕ} (e : rule_at s at motifs colours ≡ WholeRule x next) {n : ℕ} (number : n ≡ rule_number x) {front : List ℕ} (first : front ≡ take i numbers) where
       fits : FitsBytes x

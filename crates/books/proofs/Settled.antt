@@ -1,9 +1,15 @@
 -- Two outcomes that a contract allows are equal. Each line has the name of a public function and cites the very definition that the function's contract does.
 use Prim.Native.Nat.{ℕ}
-use mathlib.Core.Path.{◌≡◌}
+use mathlib.Core.Path.{◌≡◌, refl, sym, ap, ap₂, ◌∙◌}
 use mathlib.Core.List.{List}
 use Rattle.names.specs.declared.colours.Colours.{Colours}
-use Rattle.names.specs.declared.number.Fault.{Fault}
+use lib.Dec.{eqb}
+use Rattle.std.specs.Prelude.{Result, Ok, Err}
+use Rattle.names.specs.Pick.{pick}
+use Rattle.names.specs.Fault.{Fault, number_of, told_fault}
+use Rattle.names.specs.declared.fault.Fault.{Fault as CodeFault}
+use Rattle.names.specs.declared.fault.Refusal.{Refusal}
+use Rattle.names.specs.declared.fault.Refusal.TheVariants.{EndsEarly, Misspelt, OutOfRange, BadByte, TwiceInList, Unlisted, UnknownKind, MoreFollows, RuleAgain}
 use Rattle.names.proofs.Settled.{Settles, settles}
 pub use Rattle.names.proofs.Settled.{settled}
 use Rattle.books.specs.Book.{no_family, book_of}
@@ -14,10 +20,16 @@ use Rattle.books.specs.RuleBytes.{lent_rules, BookInto, kind_dir}
 use Rattle.books.specs.Answer.{plain, blaming, packed}
 use Rattle.books.specs.Calls.{book_answer, sheet_answer, ticket_of, size_of}
 use Rattle.books.specs.declared.answer.Answer.{Answer}
-use Rattle.books.specs.declared.lent.BookFigures.{BookFigures}
+use Rattle.books.specs.BookRead.{BookRead, BookFigures}
+use Rattle.books.specs.Told.{told_book, told_sheet, told_figures, told_book_figures}
+use Rattle.books.specs.declared.family.Family.{Family}
+use Rattle.books.specs.declared.lent.BookFigures.{BookFigures as CodeBookFigures}
+use Rattle.books.specs.declared.sheet.Sheet.{Sheet}
+use Rattle.books.specs.declared.sheet.SheetFigures.{SheetFigures as CodeSheetFigures}
 use Rattle.books.specs.declared.rule.Rule.{Rule}
-use Rattle.books.specs.declared.sheet.SheetFigures.{SheetFigures}
+use Rattle.books.specs.SheetRead.{SheetRead, SheetFigures}
 use Rattle.books.specs.declared.size.Size.{Size}
+use Rattle.books.proofs.Following.{told-some}
 
 -- ── Answers ──
 
@@ -68,6 +80,65 @@ read_rules-settled book r q rows others x y = (settled x.figures y.figures, sett
 
 pub direction-settled : (kind : ℕ) → Settles (kind_dir kind)
 direction-settled kind = settles _
+
+-- ── What the code gives ──
+
+-- A refusal is known by its number, and so what the code gives is known by what is told of it: the contracts settle it too.
+refusal_of : ℕ → Refusal
+refusal_of n =
+    pick (eqb n 1) EndsEarly
+    (pick (eqb n 2) Misspelt
+    (pick (eqb n 3) OutOfRange
+    (pick (eqb n 4) BadByte
+    (pick (eqb n 5) TwiceInList (pick (eqb n 6) Unlisted (pick (eqb n 7) UnknownKind (pick (eqb n 8) MoreFollows RuleAgain)))))))
+
+refusal-back : (r : Refusal) → refusal_of (number_of r) ≡ r
+unfolding refusal_of
+refusal-back EndsEarly = refl
+refusal-back Misspelt = refl
+refusal-back OutOfRange = refl
+refusal-back BadByte = refl
+refusal-back TwiceInList = refl
+refusal-back Unlisted = refl
+refusal-back UnknownKind = refl
+refusal-back MoreFollows = refl
+refusal-back RuleAgain = refl
+
+fault-one : (f g : CodeFault) → told_fault f ≡ told_fault g → f ≡ g
+fault-one f g e =
+    let refusals : f.refusal ≡ g.refusal =
+    sym (refusal-back f.refusal) ∙ (ap (λ (x : Fault). refusal_of x.number) e ∙ refusal-back g.refusal) in
+    let fault_at : Refusal → ℕ → CodeFault = λ r n. record { refusal = r; place = n } in
+    ap₂ fault_at refusals (ap (λ (x : Fault). x.place) e)
+
+-- a value is no fault
+no-fault : (f : CodeFault) → 0 ≡ (told_fault f).number → ⊥
+no-fault f e = told-some f (sym e)
+
+pub book-one : (q r : Result Family CodeFault) → told_book q ≡ told_book r → q ≡ r
+book-one (Ok f) (Ok g) e = ap Ok (ap (λ (b : BookRead). b.family) e)
+book-one (Err f) (Err g) e = ap Err (fault-one f g (ap (λ (b : BookRead). b.fault) e))
+book-one (Ok f) (Err g) e = absurd (no-fault g (ap (λ (b : BookRead). b.fault.number) e))
+book-one (Err f) (Ok g) e = absurd (told-some f (ap (λ (b : BookRead). b.fault.number) e))
+
+pub sheet-one : (q r : Result Sheet CodeFault) → told_sheet q ≡ told_sheet r → q ≡ r
+sheet-one (Ok f) (Ok g) e = ap Ok (ap (λ (b : SheetRead). b.sheet) e)
+sheet-one (Err f) (Err g) e = ap Err (fault-one f g (ap (λ (b : SheetRead). b.fault) e))
+sheet-one (Ok f) (Err g) e = absurd (no-fault g (ap (λ (b : SheetRead). b.fault.number) e))
+sheet-one (Err f) (Ok g) e = absurd (told-some f (ap (λ (b : SheetRead). b.fault.number) e))
+
+pub figures-one : (q r : Result CodeSheetFigures CodeFault) → told_figures q ≡ told_figures r → q ≡ r
+figures-one (Ok f) (Ok g) e =
+    ap (λ (b : SheetFigures). Ok (record { colours = b.colours; ticket = b.ticket; most = b.most; size = b.size })) e
+figures-one (Err f) (Err g) e = ap Err (fault-one f g (ap (λ (b : SheetFigures). b.fault) e))
+figures-one (Ok f) (Err g) e = absurd (no-fault g (ap (λ (b : SheetFigures). b.fault.number) e))
+figures-one (Err f) (Ok g) e = absurd (told-some f (ap (λ (b : SheetFigures). b.fault.number) e))
+
+pub rows-one : (q r : Result CodeBookFigures CodeFault) → told_book_figures q ≡ told_book_figures r → q ≡ r
+rows-one (Ok f) (Ok g) e = ap (λ (b : BookFigures). Ok (record { colours = b.colours; start = b.start; rules = b.rules })) e
+rows-one (Err f) (Err g) e = ap Err (fault-one f g (ap (λ (b : BookFigures). b.fault) e))
+rows-one (Ok f) (Err g) e = absurd (no-fault g (ap (λ (b : BookFigures). b.fault.number) e))
+rows-one (Err f) (Ok g) e = absurd (told-some f (ap (λ (b : BookFigures). b.fault.number) e))
 
 -- ── Calls ──
 

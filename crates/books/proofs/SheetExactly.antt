@@ -13,8 +13,8 @@ use Rattle.names.specs.Onward.{onward}
 use Rattle.names.specs.Number.{number_at, number_in, number_below}
 use Rattle.names.specs.Colours.{colours_of}
 use Rattle.names.specs.ReadsList.{ListRead}
-use Rattle.names.specs.declared.number.Fault.{Fault}
-use Rattle.names.specs.declared.number.Read.TheVariants.{Value}
+use Rattle.names.specs.Fault.{Fault}
+use Rattle.names.specs.Read.{Value}
 use Rattle.names.specs.declared.colours.Colours.{Colours}
 use Rattle.names.proofs.Picking.{pick_ind}
 use Rattle.names.proofs.Onwards.{onward-ind}
@@ -32,9 +32,8 @@ use Rattle.books.specs.Cells.{CellsRead, no_cells, refused_cells, cells_onward, 
 use Rattle.books.specs.Sheet.{refused_sheet, filled_at, sheet_of}
 use Rattle.books.specs.ReadsSheet.{TicketRead, ticket_read, RowsRead, rows_read, CellStands, CellsSoFar, cells_so_far, SheetFault, no_list, no_ticket, no_rows, no_columns, no_cell, more_bytes}
 use Rattle.books.specs.declared.size.Size.{Size}
-use Rattle.books.specs.declared.size.SizeRead.{SizeRead}
-use Rattle.books.specs.declared.size.SizeRead.TheVariants.{By, Refused as RefusedSize}
-use Rattle.books.specs.declared.sheet.SheetRead.{SheetRead}
+use Rattle.books.specs.SizeRead.{SizeRead, By, Refused as RefusedSize}
+use Rattle.books.specs.SheetRead.{SheetRead}
 use Rattle.books.proofs.ReadingSheets.{sheet-lies}
 use Rattle.books.proofs.SpellingSheets.{sheet-accepted, sheet-read-back}
 use Rattle.books.proofs.OneByOne.{in-turn-on, in-turn-out}

@@ -24,8 +24,7 @@ use Rattle.books.specs.Rules.{no_rule}
 use Rattle.books.specs.Book.{figures_at, family_of, ruled_at, figured_at, book_by, book_of}
 use Rattle.books.specs.SpellBook.{spell_rules, spell_book}
 use Rattle.books.specs.declared.rule.Rule.{Rule}
-use Rattle.books.specs.declared.book.Figures.{Figures}
-use Rattle.books.specs.declared.book.FiguresRead.TheVariants.{Whole}
+use Rattle.books.specs.BookRead.{Figures, Whole}
 use Rattle.books.proofs.ReadingBooks.{book-accepted}
 use Rattle.books.proofs.StandingNumbers.{Stands, past-stands, in-read, below-read}
 use Rattle.books.proofs.SpellingRules.{rules-read}

@@ -17,8 +17,8 @@ use Rattle.books.specs.SpellBook.{spell_body, spell_rule, spell_rules}
 use Rattle.books.specs.declared.rule.Rule.{Rule}
 use Rattle.books.specs.declared.rule.Body.{Body}
 use Rattle.books.specs.declared.rule.Body.TheVariants.{Colour, Across, Down}
-use Rattle.books.specs.declared.bodies.BodyRead.TheVariants.{Whole as WholeBody}
-use Rattle.books.specs.declared.rules.RuleRead.TheVariants.{Whole as WholeRule}
+use Rattle.books.specs.BodyRead.{Whole as WholeBody}
+use Rattle.books.specs.RuleRead.{Whole as WholeRule}
 use Rattle.books.proofs.EqualRules.{copies-new}
 use Rattle.books.proofs.ReadingRules.{no_rules-split}
 use Rattle.books.proofs.StandingNumbers.{Stands, past-stands, below-read}

@@ -14,8 +14,8 @@ use Rattle.names.specs.Number.{greatest_number, number_in, spell_number}
 use Rattle.names.specs.Name.{Name}
 use Rattle.names.specs.Colours.{colours_of}
 use Rattle.names.specs.Spelling.{spell_colours}
-use Rattle.names.specs.declared.number.Fault.{Fault}
-use Rattle.names.specs.declared.number.Read.TheVariants.{Value}
+use Rattle.names.specs.Fault.{Fault}
+use Rattle.names.specs.Read.{Value}
 use Rattle.names.proofs.ReadingNumbers.{number-there, number-most, number_in-range, number_below-count}
 use Rattle.names.specs.Bytes.{Bytes}
 use Rattle.names.proofs.SpellingNumbers.{number_spelled, number-reads-at}
@@ -28,7 +28,7 @@ use Rattle.books.specs.Size.{size_by, Within, size_at}
 use Rattle.books.specs.Cells.{no_cells, cells_onward, cells_at}
 use Rattle.books.specs.Sheet.{filled_at, sheet_of}
 use Rattle.books.specs.SpellSheet.{spell_cells, spell_sheet}
-use Rattle.books.specs.declared.size.SizeRead.TheVariants.{By}
+use Rattle.books.specs.SizeRead.{By}
 use Rattle.books.specs.declared.sheet.Sheet.{Sheet}
 use Rattle.books.proofs.Presses.{greatest-few}
 use Rattle.books.proofs.Area.{within-room}

@@ -5,7 +5,7 @@ use mathlib.Core.Path.{◌≡◌, sym, ap, ◌∙◌}
 use mathlib.Core.List.{List, ◌++◌, append_assoc}
 use lib.ListN.{length, drop}
 use Rattle.names.specs.Number.{greatest_number, number_in, number_below, spell_number}
-use Rattle.names.specs.declared.number.Read.TheVariants.{Value}
+use Rattle.names.specs.Read.{Value}
 use Rattle.names.proofs.ReadingNumbers.{number-there, number_in-range, number_below-there, number_below-count}
 use Rattle.names.specs.Bytes.{Bytes}
 use Rattle.names.proofs.SpellingNumbers.{number_spelled, number-reads-at}

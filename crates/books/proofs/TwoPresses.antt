@@ -5,7 +5,7 @@ use mathlib.Core.Path.{◌≡◌, sym, ap, ◌∙◌, subst}
 use mathlib.Core.List.{List}
 use Rattle.names.specs.Bytes.{Bytes}
 use Rattle.names.specs.Pick.{fault}
-use Rattle.names.specs.declared.number.Fault.{Fault}
+use Rattle.names.specs.Fault.{Fault}
 use Rattle.books.specs.Contents.{Contents}
 use Rattle.books.specs.ContentsIn.{grid_in}
 use Rattle.books.specs.Grid.{Grid, GridKeeps, picture}

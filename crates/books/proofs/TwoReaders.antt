@@ -11,7 +11,7 @@ use lib.Dec.{eqb}
 use lib.ListN.{take, set}
 use Rattle.names.specs.Pick.{pick, and_then, fault}
 use Rattle.names.specs.Colours.{colours_of}
-use Rattle.names.specs.declared.number.Fault.{Fault}
+use Rattle.names.specs.Fault.{Fault}
 use Rattle.names.specs.declared.colours.Colours.{Colours}
 use Rattle.names.proofs.Picking.{pick_ind}
 use Rattle.names.proofs.Tests.{true-or-false}
@@ -20,13 +20,8 @@ use Rattle.books.specs.ContentsIn.{contents_in}
 use Rattle.books.specs.Lent.{contents_by, contents_of}
 use Rattle.books.specs.Rules.{rule_at, after_rule, refused_rules, repeats, rules_from, rules_at}
 use Rattle.books.specs.declared.rule.Rule.{Rule}
-use Rattle.books.specs.declared.rules.RuleRead.{RuleRead}
-use Rattle.books.specs.declared.rules.RuleRead.TheVariants.{Whole as WholeRule, Refused as RefusedRule}
-use Rattle.books.specs.declared.rules.RulesRead.{RulesRead}
-use Rattle.books.specs.declared.book.Figures.{Figures}
-use Rattle.books.specs.declared.book.FiguresRead.{FiguresRead}
-use Rattle.books.specs.declared.book.FiguresRead.TheVariants.{Whole, Refused}
-use Rattle.books.specs.declared.book.BookRead.{BookRead}
+use Rattle.books.specs.RuleRead.{RuleRead, Whole as WholeRule, Refused as RefusedRule, RulesRead}
+use Rattle.books.specs.BookRead.{Figures, FiguresRead, Whole, Refused, BookRead}
 
 -- ── Rules ──
 

@@ -1,7 +1,7 @@
 -- What a call answers, and the one number that a C host gets.
 use Rattle.std.specs.Prelude.{ℕ, ◌+◌, ◌*◌, ◌/◌, ◌%◌, ◌^◌, ◌<◌, ◌≡◌, Bool, true, false, ◌⊎◌, eqb}
 use Rattle.names.specs.Pick.{pick, ReadersNumber}
-use Rattle.names.specs.declared.number.Fault.{Fault}
+use Rattle.names.specs.Fault.{Fault}
 use Rattle.books.specs.declared.answer.Answer.{Answer}
 
 -- a number that reading a book gives: 18, an equal rule stood earlier, is given by a strict reader alone

@@ -4,17 +4,14 @@ use Rattle.names.specs.Pick.{fault}
 use Rattle.names.specs.Onward.{onward, ending}
 use Rattle.names.specs.Number.{number_in, number_below}
 use Rattle.names.specs.Colours.{no_colours, colours_of, after_colours}
-use Rattle.names.specs.declared.number.Fault.{Fault}
+use Rattle.names.specs.Fault.{Fault}
 use Rattle.names.specs.declared.colours.Colours.{Colours}
 use Rattle.books.specs.Rules.{no_rules, rules_at, after_rules}
 use Rattle.books.specs.Keeps.{most_motifs, most_rules}
 use Rattle.books.specs.declared.rule.Rule.{Rule}
 use Rattle.books.specs.declared.family.Family.{Family}
-use Rattle.books.specs.declared.rules.RulesRead.{RulesRead}
-use Rattle.books.specs.declared.book.Figures.{Figures}
-use Rattle.books.specs.declared.book.FiguresRead.{FiguresRead}
-use Rattle.books.specs.declared.book.FiguresRead.TheVariants.{Whole, Refused}
-use Rattle.books.specs.declared.book.BookRead.{BookRead}
+use Rattle.books.specs.RuleRead.{RulesRead}
+use Rattle.books.specs.BookRead.{Figures, FiguresRead, Whole, Refused, BookRead}
 
 -- a refused book has no colours, no motifs and no rules
 abbrev pub no_family : Family

@@ -7,7 +7,7 @@ use Rattle.names.specs.declared.colours.Colours.{Colours}
 use Rattle.books.specs.Cells.{no_cells}
 use Rattle.books.specs.Sheet.{sheet_of, over, sheet_figures}
 use Rattle.books.specs.declared.sheet.Sheet.{Sheet}
-use Rattle.books.specs.declared.sheet.SheetFigures.{SheetFigures}
+use Rattle.books.specs.SheetRead.{SheetFigures}
 
 -- the number that colour i of a sheet has in a book, or the count of the book's colours where none has its name
 abbrev pub number_of : List ℕ → Colours → List ℕ → Colours → ℕ → ℕ

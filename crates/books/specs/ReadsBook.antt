@@ -4,8 +4,8 @@ use mathlib.Core.List.{List, Memᴰ}
 use Rattle.names.specs.Pick.{fault}
 use Rattle.names.specs.Reads.{ReadsIn, ReadsBelow}
 use Rattle.names.specs.ReadsList.{ListRead, ListFault}
-use Rattle.names.specs.declared.number.Fault.{Fault}
-use Rattle.names.specs.declared.number.Read.TheVariants.{Value, Refused}
+use Rattle.names.specs.Fault.{Fault}
+use Rattle.names.specs.Read.{Value, Refused}
 use Rattle.books.specs.InTurn.{InTurn}
 use Rattle.books.specs.Keeps.{most_motifs, most_rules, NoCopies}
 use Rattle.books.specs.declared.rule.Rule.{Rule}

@@ -3,8 +3,8 @@ use Rattle.std.specs.Prelude.{ℕ, ◌*◌, ◌<◌, ◌≡◌, List, length}
 use Rattle.names.specs.Pick.{fault}
 use Rattle.names.specs.Reads.{Reads, ReadsIn, ReadsBelow}
 use Rattle.names.specs.ReadsList.{ListRead, ListFault}
-use Rattle.names.specs.declared.number.Fault.{Fault}
-use Rattle.names.specs.declared.number.Read.TheVariants.{Value, Refused}
+use Rattle.names.specs.Fault.{Fault}
+use Rattle.names.specs.Read.{Value, Refused}
 use Rattle.books.specs.InTurn.{InTurn}
 use Rattle.books.specs.Press.{greatest_of}
 

@@ -5,8 +5,7 @@ use Rattle.books.specs.Book.{book_of}
 use Rattle.books.specs.Equal.{four_of}
 use Rattle.books.specs.Keeps.{most_rules}
 use Rattle.books.specs.Picture.{joins}
-use Rattle.books.specs.declared.book.BookRead.{BookRead}
-use Rattle.books.specs.declared.lent.BookFigures.{BookFigures}
+use Rattle.books.specs.BookRead.{BookRead, BookFigures}
 use Rattle.books.specs.declared.rule.Rule.{Rule}
 use Rattle.books.specs.declared.rule.Body.TheVariants.{Colour}
 use Rattle.books.specs.declared.rule.Dir.{Dir}

@@ -3,18 +3,15 @@ use Rattle.std.specs.Prelude.{ℕ, zero, suc, ◌+◌, Bool, List, take, set, re
 use Rattle.names.specs.Pick.{pick, and_then, fault}
 use Rattle.names.specs.Onward.{onward, faultless}
 use Rattle.names.specs.Number.{number_below}
-use Rattle.names.specs.declared.number.Fault.{Fault}
+use Rattle.names.specs.Fault.{Fault}
 use Rattle.books.specs.Equal.{stands}
 use Rattle.books.specs.Keeps.{most_rules}
 use Rattle.books.specs.RuleNumbers.{among}
 use Rattle.books.specs.declared.rule.Rule.{Rule}
 use Rattle.books.specs.declared.rule.Body.{Body}
 use Rattle.books.specs.declared.rule.Body.TheVariants.{Colour, Across, Down}
-use Rattle.books.specs.declared.bodies.BodyRead.{BodyRead}
-use Rattle.books.specs.declared.bodies.BodyRead.TheVariants.{Whole as WholeBody, Refused as RefusedBody}
-use Rattle.books.specs.declared.rules.RuleRead.{RuleRead}
-use Rattle.books.specs.declared.rules.RuleRead.TheVariants.{Whole as WholeRule, Refused as RefusedRule}
-use Rattle.books.specs.declared.rules.RulesRead.{RulesRead}
+use Rattle.books.specs.BodyRead.{BodyRead, Whole as WholeBody, Refused as RefusedBody}
+use Rattle.books.specs.RuleRead.{RuleRead, Whole as WholeRule, Refused as RefusedRule, RulesRead}
 
 -- a colour number
 unfoldable pub colour_number_at : List ℕ → ℕ → ℕ → BodyRead

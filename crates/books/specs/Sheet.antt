@@ -4,15 +4,14 @@ use Rattle.names.specs.Pick.{pick, fault}
 use Rattle.names.specs.Onward.{onward, ending}
 use Rattle.names.specs.Number.{number_at}
 use Rattle.names.specs.Colours.{no_colours, colours_of, after_colours}
-use Rattle.names.specs.declared.number.Fault.{Fault}
+use Rattle.names.specs.Fault.{Fault}
 use Rattle.names.specs.declared.colours.Colours.{Colours}
 use Rattle.books.specs.Press.{greatest_of}
 use Rattle.books.specs.Size.{size_by, size_at, after_size}
 use Rattle.books.specs.Cells.{CellsRead, no_cells, cells_at, after_cells}
 use Rattle.books.specs.declared.size.Size.{Size}
 use Rattle.books.specs.declared.sheet.Sheet.{Sheet}
-use Rattle.books.specs.declared.sheet.SheetFigures.{SheetFigures}
-use Rattle.books.specs.declared.sheet.SheetRead.{SheetRead}
+use Rattle.books.specs.SheetRead.{SheetFigures, SheetRead}
 
 -- no sheet, and a refused one
 abbrev pub no_sheet : Sheet

@@ -3,11 +3,10 @@ use Rattle.std.specs.Prelude.{ℕ, ◌*◌, ◌≤◌, Bool, List, ltb, leb}
 use Rattle.names.specs.Pick.{and_then}
 use Rattle.names.specs.Onward.{onward}
 use Rattle.names.specs.Number.{number_in}
-use Rattle.names.specs.declared.number.Fault.{Fault}
+use Rattle.names.specs.Fault.{Fault}
 use Rattle.books.specs.Press.{widest}
 use Rattle.books.specs.declared.size.Size.{Size}
-use Rattle.books.specs.declared.size.SizeRead.{SizeRead}
-use Rattle.books.specs.declared.size.SizeRead.TheVariants.{By, Refused as RefusedSize}
+use Rattle.books.specs.SizeRead.{SizeRead, By, Refused as RefusedSize}
 
 -- the cells that an array has room for: those of a sheet with the greatest number of rows and columns of any press
 abbrev pub room : ℕ

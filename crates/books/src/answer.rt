@@ -1,10 +1,11 @@
 // What a call answers.
 ghost use Rattle.std.specs.Prelude.{◌≡◌};
+ghost use Rattle.names.specs.Fault.{told_fault};
 ghost use Rattle.books.specs.Answer.{plain, blaming, packed};
 
-use names::number::Fault;
+use names::fault::Fault;
 
-// A number of the answers in docs/RULES.md, the input it blames (1 the first, 2 the second, 0 neither), and a place in that input.
+/// A number of the answers in docs/RULES.md, the input it blames (1 the first, 2 the second, 0 neither), and a place in that input.
 #[derive(Clone, Copy)]
 pub struct Answer {
     pub number: u8,
@@ -12,7 +13,7 @@ pub struct Answer {
     pub place: usize,
 }
 
-// An answer that blames no input.
+/// An answer that blames no input.
 pub fn unblamed(number: u8) -> Answer
     ensures { result ≡ plain number }
 {
@@ -23,26 +24,23 @@ pub fn unblamed(number: u8) -> Answer
     }
 }
 
-// A reader's fault, blamed on an input; where there is no fault nothing is blamed.
+/// A reader's fault, blamed on an input.
 pub fn blame(input: u8, f: Fault) -> Answer
-    ensures { result ≡ blaming input f }
+    ensures { result ≡ blaming input (told_fault f) }
 {
-    if f.number == 0 {
-        return unblamed(0);
-    }
     Answer {
-        number: f.number,
+        number: f.refusal.number(),
         blamed: input,
         place: f.place,
     }
 }
 
-// The answer with the call's own count as the one number that a C host gets. Every call's answer fits its bits, so that nothing of it is cut.
+/// The answer with the call's own count as the one number that a C host gets: the C interface. Every call's answer fits its bits, so that nothing of it is cut.
 pub fn pack(a: Answer, count: usize) -> u64
     ensures { result ≡ packed a count }
 {
-    let number = a.number as u64;
-    let blamed = (a.blamed % 16) as u64;
+    let number = u64::from(a.number);
+    let blamed = u64::from(a.blamed % 16);
     let place = (a.place % 1048576) as u64;
     number + 256 * blamed + 4096 * place + 4294967296 * ((count % 4294967296) as u64)
 }

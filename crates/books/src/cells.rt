@@ -1,55 +1,30 @@
 // The cells of a sheet: a colour number each, row by row.
-ghost use Rattle.std.specs.Prelude.{◌≤◌};
+ghost use Rattle.std.specs.Prelude.{◌≡◌, ◌≤◌};
 ghost use Rattle.names.specs.Spelling.{most_colours};
 ghost use Rattle.books.specs.Size.{room};
-ghost use Rattle.books.specs.Cells.{refused_cells, cells_onward};
-ghost use Rattle.books.specs.inner.Parts.{CellsInto};
+ghost use Rattle.books.specs.Cells.{cells_onward};
+ghost use Rattle.books.specs.inner.Parts.{told_cells};
 
+use crate::listed::read_listed;
 use crate::size::ROOM;
-use names::fault::fault;
-use names::number;
-use names::number::{Fault, Read};
+use names::fault::Fault;
+use names::reader::Reader;
 
-// Cells that went into a lent array: the place after them, 0 where they are refused.
-#[derive(Clone, Copy)]
-pub(crate) struct CellsEnd {
-    pub(crate) fault: Fault,
-    pub(crate) next: usize,
-}
-
-// Refused cells leave nothing in the array.
-fn refuse_cells(f: Fault, cells: &mut [u8; ROOM]) -> CellsEnd
-    ensures { CellsInto (refused_cells f) result cells.new }
-{
-    *cells = [0; ROOM];
-    CellsEnd { fault: f, next: 0 }
-}
-
-// So many cells from a place on, each the number of one of so many colours, read into a lent array. Past the last it stays as it was, since a run reads
-// thousands of small sheets into one array.
+// So many cells, each the number of one of so many colours, read into a lent array. Past the last it stays as it was, since a run reads thousands of
+// small sheets into one array; where the cells are refused, some are left in it.
 pub(crate) fn read_cells(
-    s: &[u8],
-    from: usize,
+    reader: &mut Reader<'_>,
     colours: usize,
     count: usize,
     cells: &mut [u8; ROOM],
-) -> CellsEnd
+) -> Result<(), Fault>
     requires { (colours ≤ most_colours) × (count ≤ room) }
-    ensures { CellsInto (cells_onward s.now colours cells.old 0 from count) result cells.new }
+    ensures read { told_cells result cells.new reader.new.at ≡ cells_onward reader.old.bytes.now colours cells.old 0 reader.old.at count }
+    ensures same { reader.new.bytes ≡ reader.old.bytes }
 {
-    let mut at = from;
-    for i in 0..count {
-        let r = number::read_below(s, at, colours, 6);
-        match r {
-            Read::Refused(f) => return refuse_cells(f, cells),
-            Read::Value(v, next) => {
-                cells[i] = v as u8;
-                at = next;
-            }
-        }
+    let own = &mut cells[..count];
+    for cell in own.iter_mut() {
+        *cell = read_listed(reader, colours)?;
     }
-    CellsEnd {
-        fault: fault(0, 0),
-        next: at,
-    }
+    Ok(())
 }

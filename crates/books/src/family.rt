@@ -1,13 +1,10 @@
 // A family as it is read from a book.
-ghost use Rattle.std.specs.Prelude.{◌≡◌};
-ghost use Rattle.books.specs.Book.{no_family};
+ghost use Rattle.std.specs.Prelude.{◌≡◌, take};
 
 use crate::rule::{MOST_RULES, Rule};
-use crate::rules;
-use names::colours;
 use names::colours::Colours;
 
-// The colours are places in the lent book; the first `count` rules stand, and the others are fixed.
+/// The colours are places in the lent book; the first `count` rules stand, and the others are fixed. There is no heap, and `no_family` and `family_of` name these fields.
 #[derive(Clone, Copy)]
 pub struct Family {
     pub colours: Colours,
@@ -17,17 +14,11 @@ pub struct Family {
     pub rules: [Rule; MOST_RULES],
 }
 
-// The family of a refused book.
-pub(crate) fn no_family() -> Family
-    ensures { result ≡ no_family }
-{
-    let c = colours::no_colours();
-    let rules = rules::no_rules();
-    Family {
-        colours: c,
-        motifs: 0,
-        start: 0,
-        count: 0,
-        rules,
+impl Family {
+    /// The rules that stand.
+    pub fn rules(&self) -> &[Rule]
+        ensures { result.now ≡ take self.now.count self.now.rules }
+    {
+        &self.rules[..self.count.min(MOST_RULES)]
     }
 }

@@ -3,17 +3,16 @@
 ghost use Rattle.std.specs.Prelude.{◌≡◌};
 ghost use Rattle.books.specs.RuleBytes.{lent_rules, BookInto, kind_dir};
 ghost use Rattle.books.specs.Equal.{four_of};
+ghost use Rattle.books.specs.Told.{told_book_figures};
 
 use crate::book::read_book;
 use crate::rule::{Body, Dir, MOST_RULES, Rule};
 use names::colours::Colours;
-use names::number::Fault;
+use names::fault::Fault;
 
-// What is told of a book whose rules went into lent rows: its colours are places in it, and so many rules stand. A refused book has no colours, the
-// start 0 and no rules.
+/// What is told of a book whose rules went into lent rows: its colours are places in it, and so many rules stand.
 #[derive(Clone, Copy)]
 pub struct BookFigures {
-    pub fault: Fault,
     pub colours: Colours,
     pub start: u8,
     pub rules: usize,
@@ -23,54 +22,45 @@ pub struct BookFigures {
 fn four(r: Rule) -> [u8; 4]
     ensures { result ≡ four_of r }
 {
-    let b = r.body;
-    match b {
+    match r.body {
         Body::Colour(c) => [r.head, 0, c, 0],
         Body::Across(x, y) => [r.head, 1, x, y],
         Body::Down(x, y) => [r.head, 2, x, y],
     }
 }
 
-// The rows of the first rules, in order, and rows of zeros behind them, whatever rows there were.
+/// The rows of the first rules, in order, and rows of zeros behind them, whatever rows there were.
+#[tactic(auto, unfolding(crate::specs::RuleBytes::lent_rules))]
 pub fn lend(rules: [Rule; MOST_RULES], count: usize, rows: &mut [[u8; 4]; MOST_RULES])
     ensures { rows.new ≡ lent_rules rules count }
 {
-    *rows = [[0u8; 4]; MOST_RULES];
-    let mut i = 0;
-    while i < MOST_RULES {
-        if i == count {
-            return;
-        }
-        let r = rules[i];
-        rows[i] = four(r);
-        i += 1;
+    *rows = [[0; 4]; MOST_RULES];
+    for (i, rule) in rules[..count.min(MOST_RULES)].iter().enumerate() {
+        rows[i] = four(*rule);
     }
 }
 
-// Reads a book with its rules into lent rows.
-pub fn read_rules(book: &[u8], rows: &mut [[u8; 4]; MOST_RULES]) -> BookFigures
-    ensures { BookInto book.now result rows.new }
+/// Reads a book with its rules into lent rows. A refused book leaves rows of zeros.
+pub fn read_rules(book: &[u8], rows: &mut [[u8; 4]; MOST_RULES]) -> Result<BookFigures, Fault>
+    ensures { BookInto book.now (told_book_figures result) rows.new }
 {
-    let b = read_book(book);
-    let f = b.family;
-    let fault = b.fault;
-    let colours = f.colours;
-    let all = f.rules;
-    lend(all, f.count, rows);
-    BookFigures {
-        fault,
-        colours,
-        start: f.start as u8,
-        rules: f.count,
-    }
+    *rows = [[0; 4]; MOST_RULES];
+    let family = read_book(book)?;
+    lend(family.rules, family.count, rows);
+    Ok(BookFigures {
+        colours: family.colours,
+        start: family.start as u8,
+        rules: family.count,
+    })
 }
 
-// The direction of a join, by the kind in its row.
+/// The direction of a join, by the kind in its row.
+#[tactic(auto, unfolding(crate::specs::RuleBytes::kind_dir))]
 pub fn direction(kind: u8) -> Dir
     ensures { result ≡ kind_dir kind }
 {
-    if kind == 1 {
-        return Dir::Across;
+    match kind {
+        1 => Dir::Across,
+        _ => Dir::Down,
     }
-    Dir::Down
 }

@@ -2,15 +2,17 @@
 #![tactic(auto)]
 
 pub mod answer;
-mod bodies;
 pub mod book;
 pub mod calls;
 mod cells;
+mod counts;
 pub mod equal;
 pub mod family;
 pub mod lent;
+mod listed;
 pub mod numbering;
 pub mod press;
+pub mod reply;
 pub mod rule;
 mod rules;
 pub mod sheet;

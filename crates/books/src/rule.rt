@@ -1,18 +1,18 @@
 // A rule is a head motif with one of three bodies.
 
-// The greatest count of motifs, and of rules, in a book.
+/// The greatest count of motifs, and of rules, in a book.
 pub const MOST_MOTIFS: usize = 32;
 
 pub const MOST_RULES: usize = 200;
 
-// The two ways of joining: side by side, or one above the other.
+/// The two ways of joining: side by side, or one above the other.
 #[derive(Clone, Copy)]
 pub enum Dir {
     Across,
     Down,
 }
 
-// A colour; a left and a right motif; an upper and a lower motif.
+/// A colour; a left and a right motif; an upper and a lower motif.
 #[derive(Clone, Copy)]
 pub enum Body {
     Colour(u8),

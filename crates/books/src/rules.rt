@@ -1,39 +1,68 @@
-// The rules of a book, read left to right.
+// The rules of a book, read left to right: a head, then a kind, and what it carries.
 ghost use Rattle.std.specs.Prelude.{◌≡◌, ◌≤◌};
-ghost use Rattle.names.specs.Spelling.{most_colours};
-ghost use Rattle.books.specs.Rules.{rule_at, no_rule, no_rules, refused_rules, number_repeats, rules_at};
-ghost use Rattle.books.specs.Keeps.{most_motifs};
-ghost use Rattle.books.specs.inner.Parts.{FiguresFew};
+ghost use Rattle.books.specs.Keeps.{most_rules};
+ghost use Rattle.books.specs.Rules.{body_at, rule_at, no_rules, number_repeats, rules_at};
+ghost use Rattle.books.specs.Told.{strict, told_body, told_rule, told_rules};
 
-use crate::bodies::BodyRead;
+use crate::counts::Counts;
+use crate::equal;
+use crate::listed::read_listed;
 use crate::rule::{Body, MOST_RULES, Rule};
-use crate::{bodies, equal};
-use names::fault::fault;
-use names::number;
-use names::number::{Fault, Read};
+use names::fault::{Fault, Refusal};
+use names::reader::Reader;
 
-// A rule and the place after it, or the fault.
-#[derive(Clone, Copy)]
-enum RuleRead {
-    Whole(Rule, usize),
-    Refused(Fault),
+impl Body {
+    // A kind, and what it carries.
+    #[tactic(auto, unfolding(crate::specs::Rules::body_at, crate::specs::Rules::colour_number_at, crate::specs::Rules::join_at))]
+    fn read(reader: &mut Reader<'_>, counts: Counts) -> Result<Self, Fault>
+        ensures read { told_body result reader.new.at ≡ body_at reader.old.bytes.now reader.old.at counts.motifs counts.colours }
+        ensures same { reader.new.bytes ≡ reader.old.bytes }
+    {
+        Ok(match reader.below(3, Refusal::UnknownKind)? {
+            0 => Body::Colour(read_listed(reader, counts.colours)?),
+            1 => Body::Across(
+                read_listed(reader, counts.motifs)?,
+                read_listed(reader, counts.motifs)?,
+            ),
+            _ => Body::Down(
+                read_listed(reader, counts.motifs)?,
+                read_listed(reader, counts.motifs)?,
+            ),
+        })
+    }
 }
 
-// The rules with the place after them; refused ones are the fixed rules and the place 0.
-#[derive(Clone, Copy)]
-pub(crate) struct RulesRead {
-    pub(crate) fault: Fault,
-    pub(crate) rules: [Rule; MOST_RULES],
-    pub(crate) next: usize,
+impl Rule {
+    // A head, and its body.
+    #[tactic(auto, unfolding(crate::specs::Rules::rule_at))]
+    fn read(reader: &mut Reader<'_>, counts: Counts) -> Result<Self, Fault>
+        ensures read { told_rule result reader.new.at ≡ rule_at reader.old.bytes.now reader.old.at counts.motifs counts.colours }
+        ensures same { reader.new.bytes ≡ reader.old.bytes }
+    {
+        Ok(Rule {
+            head: read_listed(reader, counts.motifs)?,
+            body: Body::read(reader, counts)?,
+        })
+    }
 }
 
-// What stands in the place of a rule that is none.
-fn no_rule() -> Rule
-    ensures { result ≡ no_rule }
-{
-    Rule {
-        head: 0,
-        body: Body::Colour(0),
+// What is done with a rule that equals an earlier one: it is taken only in a book that is yet to be tidied.
+#[derive(Clone, Copy)]
+pub(crate) enum Copies {
+    Refused,
+    Taken,
+}
+
+impl Copies {
+    // Whether a rule is refused that has this number after rules with those.
+    #[tactic(auto, unfolding(crate::specs::Rules::number_repeats, names::specs::Pick::and_then))]
+    fn refuse(self, before: &[u32], number: u32) -> bool
+        ensures { result ≡ number_repeats (strict self) before.now number }
+    {
+        match self {
+            Copies::Refused => equal::stands(before, number),
+            Copies::Taken => false,
+        }
     }
 }
 
@@ -41,89 +70,35 @@ fn no_rule() -> Rule
 pub(crate) fn no_rules() -> [Rule; MOST_RULES]
     ensures { result ≡ no_rules }
 {
-    let rule = no_rule();
-    [rule; MOST_RULES]
+    [Rule {
+        head: 0,
+        body: Body::Colour(0),
+    }; MOST_RULES]
 }
 
-// Rules at the first fault in them.
-fn refused_rules(f: Fault) -> RulesRead
-    ensures { result ≡ refused_rules f }
-{
-    let rules = no_rules();
-    RulesRead {
-        fault: f,
-        rules,
-        next: 0,
-    }
-}
-
-// A head, and its body.
-fn read_rule(s: &[u8], at: usize, motifs: usize, colours: usize) -> RuleRead
-    requires { (motifs ≤ most_motifs) × (colours ≤ most_colours) }
-    ensures { result ≡ rule_at s.now at motifs colours }
-{
-    let r = number::read_below(s, at, motifs, 6);
-    match r {
-        Read::Refused(f) => RuleRead::Refused(f),
-        Read::Value(head, next) => {
-            let b = bodies::read_body(s, next, motifs, colours);
-            match b {
-                BodyRead::Refused(f) => RuleRead::Refused(f),
-                BodyRead::Whole(body, end) => RuleRead::Whole(
-                    Rule {
-                        head: head as u8,
-                        body,
-                    },
-                    end,
-                ),
-            }
-        }
-    }
-}
-
-// Whether a rule repeats one of those before it, by their numbers. Where copies are taken nothing is asked.
-fn repeats(strict: bool, before: &[u32], number: u32) -> bool
-    ensures { result ≡ number_repeats strict before.now number }
-{
-    if strict {
-        return equal::stands(before, number);
-    }
-    false
-}
-
-// So many rules from a place on. A strict reader refuses a rule that repeats an earlier one, once it is read in full.
+// So many rules. Where copies are refused, a rule that repeats an earlier one is, once it is read in full.
 pub(crate) fn read_rules(
-    strict: bool,
-    s: &[u8],
-    from: usize,
-    motifs: usize,
-    colours: usize,
+    reader: &mut Reader<'_>,
+    counts: Counts,
     count: usize,
-) -> RulesRead
-    requires { FiguresFew motifs colours count }
-    ensures { result ≡ rules_at strict s.now from motifs colours count }
+    copies: Copies,
+) -> Result<[Rule; MOST_RULES], Fault>
+    requires { count ≤ most_rules }
+    ensures read { told_rules result reader.new.at ≡ rules_at (strict copies) reader.old.bytes.now reader.old.at counts.motifs counts.colours count }
+    ensures same { reader.new.bytes ≡ reader.old.bytes }
 {
     let mut rules = no_rules();
-    let mut numbers = [0u32; MOST_RULES];
-    let mut at = from;
+    let mut numbers = [0; MOST_RULES];
+    // By index, since the numbers before a rule are looked at while it is put beside them.
     for i in 0..count {
-        let r = read_rule(s, at, motifs, colours);
-        match r {
-            RuleRead::Refused(f) => return refused_rules(f),
-            RuleRead::Whole(rule, next) => {
-                let number = equal::rule_number(rule);
-                if repeats(strict, &numbers[0..i], number) {
-                    return refused_rules(fault(18, at));
-                }
-                numbers[i] = number;
-                rules[i] = rule;
-                at = next;
-            }
+        let start = reader.at;
+        let rule = Rule::read(reader, counts)?;
+        let number = equal::rule_number(rule);
+        if copies.refuse(&numbers[..i], number) {
+            return Err(Refusal::RuleAgain.at(start));
         }
+        numbers[i] = number;
+        rules[i] = rule;
     }
-    RulesRead {
-        fault: fault(0, 0),
-        rules,
-        next: at,
-    }
+    Ok(rules)
 }

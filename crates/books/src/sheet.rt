@@ -1,22 +1,19 @@
 // A sheet as it is read: a colour list, the job ticket, rows and columns, then one colour number per cell, row by row.
-ghost use Rattle.std.specs.Prelude.{◌≡◌, ◌*◌, length};
-ghost use Rattle.names.specs.Colours.{list_of};
+ghost use Rattle.std.specs.Prelude.{◌≡◌, IfOk, IfErr};
+ghost use Rattle.names.specs.Fault.{told_fault};
 ghost use Rattle.books.specs.Calls.{size_of};
-ghost use Rattle.books.specs.Cells.{cells_at};
-ghost use Rattle.books.specs.Size.{room};
-ghost use Rattle.books.specs.Sheet.{refused_sheet, filled_at, sheet_of, over, sheet_figures, SheetInto};
-ghost use Rattle.books.specs.inner.Parts.{Fillable};
+ghost use Rattle.books.specs.Sheet.{refused_sheet, sheet_of, over, sheet_figures, SheetInto};
+ghost use Rattle.books.specs.Told.{told_figures, told_sheet};
 
+use crate::cells::read_cells;
 use crate::press::greatest;
-use crate::size::{ROOM, Size, SizeRead};
-use crate::{cells, size};
-use names::colours::{Colours, MOST_COLOURS};
-use names::fault::fault;
-use names::number::{Fault, Read};
-use names::{colours, number};
+use crate::size::{ROOM, Size};
+use names::colours::{Colours, Listed, MOST_COLOURS, read_list};
+use names::fault::Fault;
+use names::reader::Reader;
 
-// The colours are places in the lent sheet; the ticket has no part in what is derived; the first rows times columns cells stand, row by row, and
-// the others are 0. Its press has at most so many rows and columns.
+/// The colours are places in the lent sheet; the ticket has no part in what is derived; the first rows times columns cells stand, row by row, and
+/// the others are 0. Its press has at most so many rows and columns.
 #[derive(Clone, Copy)]
 pub struct Sheet {
     pub colours: Colours,
@@ -26,78 +23,47 @@ pub struct Sheet {
     pub cells: [u8; ROOM],
 }
 
-// A sheet that was read; a refused one has no colours, no rows, no columns, cells 0, and every other number 0.
-#[derive(Clone, Copy)]
-pub struct SheetRead {
-    pub fault: Fault,
-    pub sheet: Sheet,
-}
-
-// The same of a sheet whose colours and cells went into lent arrays: how many colours it has, and what is told besides.
+/// The same of a sheet whose colours and cells went into lent arrays: how many colours it has, and what is told besides.
 #[derive(Clone, Copy)]
 pub struct SheetFigures {
-    pub fault: Fault,
     pub colours: usize,
     pub ticket: usize,
     pub most: usize,
     pub size: Size,
 }
 
-// A refused sheet leaves nothing in the arrays.
-fn refuse_sheet(
-    f: Fault,
-    starts: &mut [u16; MOST_COLOURS],
-    lens: &mut [u8; MOST_COLOURS],
-    cells: &mut [u8; ROOM],
-) -> SheetFigures
-    ensures { SheetInto (refused_sheet f) result starts.new lens.new cells.new }
-{
-    *starts = [0; MOST_COLOURS];
-    *lens = [0; MOST_COLOURS];
-    *cells = [0; ROOM];
-    SheetFigures {
-        fault: f,
-        colours: 0,
-        ticket: 0,
-        most: 0,
-        size: Size { rows: 0, cols: 0 },
-    }
-}
-
-// An array has all its cells. Of a lent one that is known only where its value is passed on; nothing of this is left in the machine code.
-fn all_cells(cells: [u8; ROOM])
-    ensures { length cells ≡ room }
-{}
-
-// The cells of a sheet whose figures and colours were read: the input ends with them.
+// The sheet of a press that the input is, read into lent arrays. Where it is refused, some of it is left in them.
 #[inline(always)]
 fn fill_sheet(
+    press: usize,
     s: &[u8],
-    g: SheetFigures,
-    from: usize,
     starts: &mut [u16; MOST_COLOURS],
     lens: &mut [u8; MOST_COLOURS],
     cells: &mut [u8; ROOM],
-) -> SheetFigures
-    requires { Fillable g }
-    ensures { SheetInto (over cells.old (filled_at s.now g.most (list_of g.colours starts.old lens.old)
-        g.ticket g.size (cells_at s.now g.colours from (g.size.rows * g.size.cols))))
-        result starts.new lens.new cells.new }
+) -> Result<SheetFigures, Fault>
+    ensures ok { IfOk result (λ _. SheetInto (over cells.old (sheet_of press s.now)) (told_figures result) starts.new lens.new cells.new) }
+    ensures err { IfErr result (λ f. sheet_of press s.now ≡ refused_sheet (told_fault f)) }
 {
-    all_cells(*cells);
-    let end = cells::read_cells(s, from, g.colours, g.size.rows * g.size.cols, cells);
-    let f = end.fault;
-    if f.number != 0 {
-        return refuse_sheet(f, starts, lens, cells);
-    }
-    if end.next < s.len() {
-        return refuse_sheet(fault(8, end.next), starts, lens, cells);
-    }
-    g
+    let Listed {
+        count: colours,
+        next,
+    } = read_list(s, starts, lens)?;
+    let mut reader = Reader { bytes: s, at: next };
+    let ticket = reader.number()?;
+    let most = greatest(press);
+    let size = Size::read(&mut reader, most)?;
+    read_cells(&mut reader, colours, size.rows * size.cols, cells)?;
+    reader.end()?;
+    Ok(SheetFigures {
+        colours,
+        ticket,
+        most,
+        size,
+    })
 }
 
-// The sheet of a press that the input is, read into lent arrays. Whatever they held, those of its colours' names end with the places and lengths and 0 past
-// them. Its cells stand first in theirs, which is as it was past them; a refused sheet leaves 0 in all of it.
+/// The sheet of a press that the input is, read into lent arrays. Whatever they held, those of its colours' names end with the places and lengths and 0
+/// past them. Its cells stand first in theirs, which is as it was past them; a refused sheet leaves 0 in all three.
 #[inline(always)]
 pub fn read_sheet_into(
     press: usize,
@@ -105,77 +71,60 @@ pub fn read_sheet_into(
     starts: &mut [u16; MOST_COLOURS],
     lens: &mut [u8; MOST_COLOURS],
     cells: &mut [u8; ROOM],
-) -> SheetFigures
-    ensures { SheetInto (over cells.old (sheet_of press s.now)) result starts.new lens.new cells.new }
+) -> Result<SheetFigures, Fault>
+    ensures { SheetInto (over cells.old (sheet_of press s.now)) (told_figures result) starts.new lens.new cells.new }
 {
-    let list = colours::read_list(s, starts, lens);
-    let f = list.fault;
-    if f.number != 0 {
-        return refuse_sheet(f, starts, lens, cells);
+    let read = fill_sheet(press, s, starts, lens, cells);
+    if read.is_err() {
+        *starts = [0; MOST_COLOURS];
+        *lens = [0; MOST_COLOURS];
+        *cells = [0; ROOM];
     }
-    let job = number::read_number(s, list.next);
-    match job {
-        Read::Refused(e) => refuse_sheet(e, starts, lens, cells),
-        Read::Value(ticket, then) => {
-            let most = greatest(press);
-            let read = size::read_size(s, then, most);
-            match read {
-                SizeRead::Refused(e) => refuse_sheet(e, starts, lens, cells),
-                SizeRead::By { size, next } => {
-                    let g = SheetFigures {
-                        fault: f,
-                        colours: list.count,
-                        ticket,
-                        most,
-                        size,
-                    };
-                    fill_sheet(s, g, next, starts, lens, cells)
-                }
-            }
-        }
-    }
+    read
 }
 
-// The figures alone.
-pub fn sheet_figures(press: usize, s: &[u8]) -> SheetFigures
-    ensures { result ≡ sheet_figures (sheet_of press s.now) }
+/// The figures alone.
+pub fn sheet_figures(press: usize, s: &[u8]) -> Result<SheetFigures, Fault>
+    ensures { told_figures result ≡ sheet_figures (sheet_of press s.now) }
 {
-    let mut starts = [0u16; MOST_COLOURS];
-    let mut lens = [0u8; MOST_COLOURS];
-    let mut cells = [0u8; ROOM];
+    let mut starts = [0; MOST_COLOURS];
+    let mut lens = [0; MOST_COLOURS];
+    let mut cells = [0; ROOM];
     read_sheet_into(press, s, &mut starts, &mut lens, &mut cells)
 }
 
-// The same sheet as a value.
-pub fn read_sheet(press: usize, s: &[u8]) -> SheetRead
-    ensures { result ≡ sheet_of press s.now }
+/// The same sheet as a value.
+pub fn read_sheet(press: usize, s: &[u8]) -> Result<Sheet, Fault>
+    ensures { told_sheet result ≡ sheet_of press s.now }
 {
-    let mut starts = [0u16; MOST_COLOURS];
-    let mut lens = [0u8; MOST_COLOURS];
-    let mut cells = [0u8; ROOM];
-    let g = read_sheet_into(press, s, &mut starts, &mut lens, &mut cells);
-    let fault = g.fault;
-    let size = g.size;
-    SheetRead {
-        fault,
-        sheet: Sheet {
-            colours: Colours {
-                count: g.colours,
-                starts,
-                lens,
-            },
-            ticket: g.ticket,
-            most: g.most,
-            size,
-            cells,
+    let mut starts = [0; MOST_COLOURS];
+    let mut lens = [0; MOST_COLOURS];
+    let mut cells = [0; ROOM];
+    let SheetFigures {
+        colours: count,
+        ticket,
+        most,
+        size,
+    } = read_sheet_into(press, s, &mut starts, &mut lens, &mut cells)?;
+    Ok(Sheet {
+        colours: Colours {
+            count,
+            starts,
+            lens,
         },
-    }
+        ticket,
+        most,
+        size,
+        cells,
+    })
 }
 
-// Rows and columns of a sheet of a press. A refused one has none.
+/// Rows and columns of a sheet of a press. A refused one has none.
 pub fn sheet_size(press: usize, sheet: &[u8]) -> Size
     ensures { result ≡ size_of press sheet.now }
 {
-    let g = sheet_figures(press, sheet);
-    g.size
+    match sheet_figures(press, sheet) {
+        Ok(g) => g.size,
+        Err(_) => Size { rows: 0, cols: 0 },
+    }
 }

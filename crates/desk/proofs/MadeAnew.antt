@@ -28,7 +28,7 @@ use Rattle.pieces.specs.Pieces.{piece, Inside}
 use Rattle.pieces.specs.Rights.{Serves}
 use Rattle.pieces.specs.Refill.{HasCell, refilled, due_by}
 use Rattle.pieces.specs.Table.{cut, entry}
-use Rattle.pieces.specs.declared.asking.Split.{Split}
+use Rattle.pieces.specs.Split.{Split}
 use Rattle.pieces.specs.declared.piece.Piece.{Piece}
 use Rattle.pieces.proofs.AcceptedInputs.{as_read, cells-numbered}
 use Rattle.pieces.proofs.AskingSheets.{book-serves}

@@ -13,7 +13,7 @@ use Rattle.names.specs.Bytes.{Bytes}
 use Rattle.names.specs.Pick.{fault}
 use Rattle.names.specs.Number.{spell_number}
 use Rattle.names.specs.Spelling.{spell_colours}
-use Rattle.names.specs.declared.number.Fault.{Fault}
+use Rattle.names.specs.Fault.{Fault}
 use Rattle.names.proofs.ReadingColours.{names-count}
 use Rattle.books.specs.ContentsIn.{grid_in}
 use Rattle.books.specs.Grid.{Grid, GridKeeps, picture}

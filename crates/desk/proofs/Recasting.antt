@@ -9,14 +9,14 @@ use native.Mathlib.Omega.{arith}
 use borrow.Author.Tests.{le-ltb}
 use lib.ListN.{length, replicate}
 use Rattle.names.specs.Bytes.{Bytes}
-use Rattle.names.specs.declared.number.Fault.{Fault}
+use Rattle.names.specs.Fault.{Fault}
 use Rattle.books.specs.Answer.{plain}
 use Rattle.books.specs.Book.{book_of}
 use Rattle.books.specs.Lent.{picture_of}
 use Rattle.books.specs.Sheet.{sheet_of, sheet_figures}
 use Rattle.books.specs.Size.{Within}
 use Rattle.books.specs.declared.answer.Answer.{Answer}
-use Rattle.books.specs.declared.sheet.SheetFigures.{SheetFigures}
+use Rattle.books.specs.SheetRead.{SheetFigures}
 use Rattle.books.proofs.Presses.{greatest-few}
 use Rattle.books.proofs.ReadingSheets.{sheet-lies}
 use Rattle.books.proofs.SizesWithin.{within_more}
@@ -27,7 +27,7 @@ use Rattle.pieces.specs.Masks.{all_masks}
 use Rattle.pieces.specs.Most.{most}
 use Rattle.pieces.specs.Pieces.{total}
 use Rattle.pieces.specs.Refill.{refilled, due_by, refills?, refilled_by}
-use Rattle.pieces.specs.declared.asking.Split.{Split}
+use Rattle.pieces.specs.Split.{Split}
 use Rattle.pieces.proofs.AskingSheets.{kept-fault, kept-start, kept-colours, kept_from, book-serves}
 use Rattle.pieces.proofs.CellsFirst.{cell-before}
 use Rattle.pieces.proofs.LookedThrough.{room_fits, whole_in}

@@ -20,7 +20,7 @@ use Rattle.books.specs.Press.{IsPress}
 use Rattle.books.specs.Sheet.{sheet_of, sheet_figures}
 use Rattle.books.specs.Size.{Within}
 use Rattle.books.specs.declared.answer.Answer.{Answer}
-use Rattle.books.specs.declared.sheet.SheetFigures.{SheetFigures}
+use Rattle.books.specs.SheetRead.{SheetFigures}
 use Rattle.books.specs.declared.size.Size.{Size}
 use Rattle.books.proofs.LentEnds.{Refusal, in_sheet, refused-so, both-go-on}
 use Rattle.books.proofs.Presses.{greatest-few}

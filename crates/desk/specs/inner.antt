@@ -1,1 +1,2 @@
 pub mod ForCell
+pub mod Told

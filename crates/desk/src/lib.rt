@@ -6,9 +6,9 @@ pub mod recolour;
 ghost use Rattle.desk.specs.Recolour.{recolouring, RecoloursPacked};
 
 use crate::recolour::recolour;
-use books::answer;
+use books::answer::pack;
 
-// Recolours one cell of a sheet, as `recolour::recolour` does.
+/// Recolours one cell of a sheet, as `recolour::recolour` does.
 pub fn dv_recolour(
     press: usize,
     book: &[u8],
@@ -21,5 +21,5 @@ pub fn dv_recolour(
     ensures { RecoloursPacked (recolouring press book.now sheet.old work.old row column colour)
         result sheet.new work.new }
 {
-    answer::pack(recolour(press, book, sheet, work, row, column, colour), 0)
+    pack(recolour(press, book, sheet, work, row, column, colour), 0)
 }

@@ -1,5 +1,4 @@
 pub mod InARow
-pub mod SpellingOn
 pub mod SpellingDrafts
 pub mod Outcomes
 pub mod NewBooks

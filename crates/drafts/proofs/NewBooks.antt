@@ -12,7 +12,7 @@ use lib.Seq.{take_at, drop_at}
 use borrow.Author.Tests.{leb-false}
 use Rattle.names.specs.Bytes.{Bytes}
 use Rattle.names.specs.Put.{put}
-use Rattle.names.specs.declared.number.Fault.{Fault}
+use Rattle.names.specs.Fault.{Fault}
 use Rattle.names.proofs.Tests.{true-or-false}
 use Rattle.names.proofs.Putting.{put_in, put-out, put-length}
 use Rattle.books.specs.Answer.{plain}

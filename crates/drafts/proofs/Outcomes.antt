@@ -18,7 +18,7 @@ use Rattle.books.specs.Keeps.{Keeps}
 use Rattle.books.specs.Lent.{contents_by}
 use Rattle.books.specs.SpellBook.{spell_book}
 use Rattle.books.specs.declared.answer.Answer.{Answer}
-use Rattle.books.specs.declared.book.BookRead.{BookRead}
+use Rattle.books.specs.BookRead.{BookRead}
 use Rattle.books.proofs.LentEnds.{blamed_is, book-ends}
 use Rattle.books.proofs.LongestBook.{spelling-length}
 use Rattle.books.proofs.Packing.{apart, plain-packs, book-placed-by}

@@ -18,8 +18,8 @@ use Rattle.books.specs.SpellBook.{spell_rules, spell_three, spell_book}
 use Rattle.books.specs.Keeps.{most_rules}
 use Rattle.drafts.specs.Draft.{draft_in, DraftFits, counts_fit?, fits?, WroteBook, WroteDraft}
 use Rattle.drafts.specs.declared.draft.Draft.{Draft}
-use Rattle.drafts.specs.declared.writing.Written.{Written}
-use Rattle.drafts.proofs.SpellingOn.{spell_names-append}
+use Rattle.drafts.specs.Written.{Written}
+use Rattle.drafts.proofs.InARow.{names-turn, turn-append}
 
 -- two lists of names in one
 pub colours-spelled : (a b : List ℕ) (c e : Colours) → spell_colours (names_in a c ++ names_in b e)
@@ -27,7 +27,7 @@ pub colours-spelled : (a b : List ℕ) (c e : Colours) → spell_colours (names_
 colours-spelled a b c e =
     let all : length (names_in a c ++ names_in b e) ≡ c.count + e.count =
     length-append (names_in a c) (names_in b e) ∙ omega (arith, names-count a c, names-count b e) in
-    simp (all, spell_names-append)
+    rw (all, turn-append names-turn)
 
 -- a draft of which the test holds
 pub draft-few : (d : Draft) → fits? d ≡ true → length d.family.rules ≡ most_rules → DraftFits d

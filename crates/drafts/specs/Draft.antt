@@ -10,7 +10,7 @@ use Rattle.books.specs.Contents.{Contents}
 use Rattle.books.specs.SpellBook.{spell_book}
 use Rattle.books.specs.Keeps.{most_rules}
 use Rattle.drafts.specs.declared.draft.Draft.{Draft}
-use Rattle.drafts.specs.declared.writing.Written.{Written}
+use Rattle.drafts.specs.Written.{Written}
 
 -- the names of two lists, one after the other
 abbrev pub both_names : List ℕ → Colours → List ℕ → Colours → List Name

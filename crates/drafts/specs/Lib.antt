@@ -1,3 +1,4 @@
+pub mod Written
 pub mod Draft
 pub mod Outcome
 pub mod NewBook

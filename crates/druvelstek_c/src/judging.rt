@@ -7,7 +7,7 @@ ghost use Rattle.trees.specs.Outcome.{tree_answer};
 
 use trees::node::Node;
 
-// Whether a sheet belongs to a family, with the table of its pieces and the derivation given.
+/// Whether a sheet belongs to a family, with the table of its pieces and the derivation given.
 #[unsafe(no_mangle)]
 pub extern "C" fn dv_derive(
     press: usize,
@@ -22,7 +22,7 @@ pub extern "C" fn dv_derive(
     pieces::derive::dv_derive(press, book, sheet, work, tree)
 }
 
-// Whether a row of nodes is a tree that derives a sheet.
+/// Whether a row of nodes is a tree that derives a sheet.
 #[unsafe(no_mangle)]
 pub extern "C" fn dv_check_tree(press: usize, book: &[u8], sheet: &[u8], nodes: &[Node]) -> u64
     ensures { result ≡ packed (tree_answer press book.now sheet.now nodes.now) 0 }
@@ -30,7 +30,7 @@ pub extern "C" fn dv_check_tree(press: usize, book: &[u8], sheet: &[u8], nodes: 
     trees::calls::dv_check_tree(press, book, sheet, nodes)
 }
 
-// Whether a small sheet belongs to a family, by the plain search.
+/// Whether a small sheet belongs to a family, by the plain search.
 #[unsafe(no_mangle)]
 pub extern "C" fn dv_plain(press: usize, book: &[u8], sheet: &[u8]) -> u64
     ensures { result ≡ packed (plain_answer press book.now sheet.now) 0 }

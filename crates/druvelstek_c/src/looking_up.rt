@@ -8,7 +8,7 @@ ghost use Rattle.runs.specs.Numbered.{run_sheet_shown};
 use lookups::{book, colour, sheet};
 use runs::numbered;
 
-// The version of rules and calls.
+/// The version of rules and calls.
 #[unsafe(no_mangle)]
 pub extern "C" fn dv_version() -> u64
     ensures { result ≡ version }
@@ -16,7 +16,7 @@ pub extern "C" fn dv_version() -> u64
     book::dv_version()
 }
 
-// The counts of a book.
+/// The counts of a book.
 #[unsafe(no_mangle)]
 pub extern "C" fn dv_counts(book: &[u8]) -> u64
     ensures { result ≡ counts_shown book.now }
@@ -24,7 +24,7 @@ pub extern "C" fn dv_counts(book: &[u8]) -> u64
     book::dv_counts(book)
 }
 
-// A rule of a book.
+/// A rule of a book.
 #[unsafe(no_mangle)]
 pub extern "C" fn dv_rule(book: &[u8], number: usize) -> u64
     ensures { result ≡ rule_shown book.now number }
@@ -32,7 +32,7 @@ pub extern "C" fn dv_rule(book: &[u8], number: usize) -> u64
     book::dv_rule(book, number)
 }
 
-// Where a colour's name stands in a book.
+/// Where a colour's name stands in a book.
 #[unsafe(no_mangle)]
 pub extern "C" fn dv_colour(book: &[u8], number: usize) -> u64
     ensures { result ≡ shown_place book.now number }
@@ -40,7 +40,7 @@ pub extern "C" fn dv_colour(book: &[u8], number: usize) -> u64
     colour::dv_colour(book, number)
 }
 
-// Rows and columns of a sheet.
+/// Rows and columns of a sheet.
 #[unsafe(no_mangle)]
 pub extern "C" fn dv_sheet_size(press: usize, sheet: &[u8]) -> u64
     ensures { result ≡ size_shown press sheet.now }
@@ -48,7 +48,7 @@ pub extern "C" fn dv_sheet_size(press: usize, sheet: &[u8]) -> u64
     sheet::dv_sheet_size(press, sheet)
 }
 
-// The colour of a cell of a sheet.
+/// The colour of a cell of a sheet.
 #[unsafe(no_mangle)]
 pub extern "C" fn dv_cell(press: usize, sheet: &[u8], row: usize, column: usize) -> u64
     ensures { result ≡ cell_shown press sheet.now row column }
@@ -56,7 +56,7 @@ pub extern "C" fn dv_cell(press: usize, sheet: &[u8], row: usize, column: usize)
     sheet::dv_cell(press, sheet, row, column)
 }
 
-// Where a colour's name stands in a sheet.
+/// Where a colour's name stands in a sheet.
 #[unsafe(no_mangle)]
 pub extern "C" fn dv_sheet_colour(press: usize, sheet: &[u8], number: usize) -> u64
     ensures { result ≡ sheet_colour_shown press sheet.now number }
@@ -64,7 +64,7 @@ pub extern "C" fn dv_sheet_colour(press: usize, sheet: &[u8], number: usize) -> 
     sheet::dv_sheet_colour(press, sheet, number)
 }
 
-// Where a sheet stands in a run.
+/// Where a sheet stands in a run.
 #[unsafe(no_mangle)]
 pub extern "C" fn dv_run_sheet(run: &[u8], number: usize) -> u64
     ensures { result ≡ run_sheet_shown run.now number }

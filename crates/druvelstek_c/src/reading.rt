@@ -5,7 +5,7 @@ ghost use Rattle.books.specs.Calls.{book_answer, sheet_answer, ticket_of};
 
 use books::calls;
 
-// Whether these bytes are a book.
+/// Whether these bytes are a book.
 #[unsafe(no_mangle)]
 pub extern "C" fn dv_read_book(book: &[u8]) -> u64
     ensures { result ≡ packed (book_answer book.now) 0 }
@@ -13,7 +13,7 @@ pub extern "C" fn dv_read_book(book: &[u8]) -> u64
     calls::dv_read_book(book)
 }
 
-// Whether these bytes are a sheet of a press, and its ticket.
+/// Whether these bytes are a sheet of a press, and its ticket.
 #[unsafe(no_mangle)]
 pub extern "C" fn dv_read_sheet(press: usize, sheet: &[u8]) -> u64
     ensures { result ≡ packed (sheet_answer press sheet.now) (ticket_of press sheet.now) }

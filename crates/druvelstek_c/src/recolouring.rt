@@ -1,7 +1,7 @@
 // The call of the proofing desk.
 ghost use Rattle.desk.specs.Recolour.{recolouring, RecoloursPacked};
 
-// One cell of a sheet recoloured.
+/// One cell of a sheet recoloured.
 #[unsafe(no_mangle)]
 pub extern "C" fn dv_recolour(
     press: usize,

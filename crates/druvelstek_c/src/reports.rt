@@ -3,7 +3,7 @@ ghost use Rattle.runs.specs.Outcome.{run_report, Leaves};
 
 use runs::calls;
 
-// A run of sheets against one book, in figures.
+/// A run of sheets against one book, in figures.
 #[unsafe(no_mangle)]
 pub extern "C" fn dv_run_report(
     press: usize,

@@ -1,27 +1,37 @@
--- What was made is finished as its contents are: a draft within the limits is a draft of them.
+-- What was made is finished as its contents are: a draft of contents within the limits is written, and what exceeds them is refused.
 use Prim.Native.Nat.{ℕ}
-use mathlib.Core.Path.{◌≡◌, sym, ◌∙◌, subst}
-use mathlib.Core.Bool.{true, false}
+use mathlib.Core.Path.{◌≡◌, sym, ◌∙◌, ap, subst}
 use mathlib.Core.List.{List}
-use mathlib.Core.Logic.{⊎_elim}
-use Rattle.names.proofs.Tests.{true-or-false}
+use Rattle.std.specs.Prelude.{Option, Some, None}
+use Rattle.books.specs.Answer.{plain, packed}
 use Rattle.books.specs.Contents.{Contents}
-use Rattle.families.specs.Limits.{within_limits?}
+use Rattle.drafts.specs.Draft.{draft_in, DraftFits, WroteDraft}
+use Rattle.drafts.specs.Outcome.{Outcome, Leaves, written}
+use Rattle.drafts.specs.Written.{Written}
+use Rattle.drafts.specs.declared.draft.Draft.{Draft}
+use Rattle.drafts.proofs.NewBooks.{written-by}
+use Rattle.drafts.proofs.SpellingDrafts.{draft-wrote}
 use Rattle.families.specs.inner.Made.{Makes}
-use Rattle.drafts.specs.Outcome.{Outcome, Leaves}
 use Rattle.families.specs.Outcome.{made}
-use Rattle.families.specs.inner.Finished.{finished}
-use Rattle.families.specs.declared.making.Made.{Made}
+use Rattle.families.specs.inner.Finished.{finished, Ready}
+
+pub made-ready : (s t : List ℕ) (c : Contents) (m : Option Draft) → Makes s t c m → Ready m
+made-ready s t c None e = tt
+made-ready s t c (Some d) makes = makes.ready
+
+finished-made : (s t : List ℕ) (c : Contents) (m : Option Draft) → Makes s t c m → (out : List ℕ) → finished s t m out ≡ made c out
+unfolding made
+finished-made s t c None e out = simp e
+finished-made s t c (Some d) makes out = simp (makes.within, makes.is)
 
 -- A call that finishes what was made of contents leaves the outcome of the contents.
-module _ (s t : List ℕ) (c : Contents) (m : Made) (makes : Makes s t c m) where
-  finished-made : (out : List ℕ) → finished s t m out ≡ made c out
-  unfolding made
-  finished-made out =
-      ⊎_elim
-      (λ e. let w : m.within ≡ true = makes.tested ∙ e in simp (w, e, makes.drafted w))
-      (λ e. let w : m.within ≡ false = makes.tested ∙ e in simp (w, e))
-      (true-or-false (within_limits? c))
+pub finished-leaves : (s t : List ℕ) (c : Contents) (m : Option Draft) → Makes s t c m
+    → (o : Outcome) (out : List ℕ) (r : ℕ) (left : List ℕ) → o ≡ made c out → Leaves (finished s t m out) r left → Leaves o r left
+finished-leaves s t c m makes o out r left e = subst (λ (p : Outcome). Leaves p r left) (finished-made s t c m makes out ∙ sym e)
 
-  pub finished-leaves : (o : Outcome) (out : List ℕ) (r : ℕ) (left : List ℕ) → o ≡ made c out → Leaves (finished s t m out) r left → Leaves o r left
-  finished-leaves o out r left e = subst (λ (p : Outcome). Leaves p r left) (finished-made out ∙ sym e)
+-- A draft that fits is written, and the call answers what the writer answers.
+pub drafted-leaves : {s t out after : List ℕ} {d : Draft} {w : Written} {r : ℕ} → DraftFits d → WroteDraft s t d out w after
+    → r ≡ packed (plain w.number) w.count → Leaves (written (draft_in s t d) out) r after
+drafted-leaves fits wrote told =
+    let book = draft-wrote fits wrote in
+    rw written-by (record { answers = told ∙ ap (λ (w : Written). packed (plain w.number) w.count) book.answers; leaves = book.leaves })

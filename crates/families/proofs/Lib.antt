@@ -17,6 +17,7 @@ pub mod Inside
 pub mod Standing
 pub mod Reheading
 pub mod MergingLists
+pub mod Numbered
 pub mod AddingRules
 pub mod Testing
 pub mod Drafts

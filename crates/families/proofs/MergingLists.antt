@@ -17,7 +17,8 @@ use Rattle.names.specs.declared.colours.Colours.{Colours}
 use Rattle.names.proofs.Finding.{find-listed}
 use Rattle.names.proofs.ReadingColours.{Places, places-none, places-with, names-with, names-count, name-at}
 use Rattle.families.specs.Merged.{holds, merged}
-use Rattle.families.specs.inner.Merges.{Lists, Merges}
+use Rattle.families.specs.inner.Lists.{Lists}
+use Rattle.families.specs.inner.Merges.{Merges}
 use Rattle.families.proofs.MergingInOrder.{merged-nil, merged-next, number-held, number-new}
 
 module _ (s : List ℕ) (f : Colours) (t : List ℕ) (g : Colours) where

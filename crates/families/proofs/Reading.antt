@@ -1,16 +1,17 @@
 -- The family of an accepted book is lent: the laws of reading say so.
 use Prim.Native.Nat.{ℕ}
-use mathlib.Core.Path.{◌≡◌}
+use mathlib.Core.Path.{◌≡◌, sym, ap}
 use mathlib.Core.List.{List}
+use Rattle.std.specs.Prelude.{Ok}
 use Rattle.names.specs.Bytes.{Bytes}
 use Rattle.names.specs.Spelling.{most_colours}
 use Rattle.books.specs.Keeps.{most_motifs}
-use Rattle.books.specs.declared.book.BookRead.{BookRead}
+use Rattle.books.specs.BookRead.{BookRead}
 use Rattle.books.specs.Book.{book_of}
+use Rattle.books.specs.Told.{told_book}
 use Rattle.books.specs.declared.family.Family.{Family}
 use Rattle.books.proofs.ReadingBooks.{book-lies, book-accepted}
 use Rattle.families.specs.inner.Lent.{rules_of, Lent}
-use Rattle.families.specs.inner.Gathered.{rules_standing}
 use Rattle.families.proofs.Fitting.{fit-more}
 
 book-lent : (s : List ℕ) → Bytes s → (book_of s).fault.number ≡ 0 → Lent s (book_of s).family
@@ -25,9 +26,10 @@ book-lent s bytes z =
           colours_few = places.few;
           motifs_few = lies.motifs_few;
           start_fits = lies.start_fits;
-          rows = record { few = lies.rules_few; places_all = lies.rules_size };
+          rules_few = lies.rules_few;
+          places_all = lies.rules_size;
         };
-        fits = fit-more _ _ most_motifs most_colours (rules_standing (rules_of f)) keeps.motifs_few keeps.colours_ok.few keeps.sound.rules_fit;
+        fits = fit-more _ _ most_motifs most_colours (rules_of f) keeps.motifs_few keeps.colours_ok.few keeps.sound.rules_fit;
       };
       keeps = keeps;
       lists = record {
@@ -37,7 +39,7 @@ book-lent s bytes z =
       };
     }
 
--- The same of what the reader gave.
-module _ (s : List ℕ) (b : BookRead) (read : b ≡ book_of s) where
-  pub read-lent : Bytes s → b.fault.number ≡ 0 → Lent s b.family
-  read-lent bytes z = rw read (book-lent s bytes (rw read at z))
+-- The same of a family that the reader gave.
+pub read-lent : (s : List ℕ) {f : Family} → told_book (Ok f) ≡ book_of s → Bytes s → Lent s f
+read-lent s read bytes =
+    rw (ap (λ (b : BookRead). b.family) read) (book-lent s bytes (sym (ap (λ (b : BookRead). b.fault.number) read)))

@@ -1,4 +1,5 @@
-pub mod Counts
+pub mod Props
+pub mod Lists
 pub mod Merges
 pub mod Gathered
 pub mod Asked

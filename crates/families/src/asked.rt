@@ -1,4 +1,4 @@
-// Which combination a call asks for.
+// Which combination a call asks for. Enums and no closures: pairings differ in two steps, what the first book adds and what the second, so that each would be a pair of closures, with a clause for each.
 use books::rule::Dir;
 
 // Mirrored exchanges left and right, flipped upper and lower, transposed rows and columns.

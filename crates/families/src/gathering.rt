@@ -1,158 +1,122 @@
 // Gathering the rules of a new book from those of one or two others.
-ghost use Rattle.std.specs.Prelude.{◌≡◌, [], ◌∷◌, ◌<◌, true, false};
-ghost use Rattle.names.specs.Pick.{pick};
-ghost use Rattle.books.specs.Keeps.{most_rules};
-ghost use Rattle.books.specs.RuleNumbers.{among};
-ghost use Rattle.families.specs.Combine.{copies};
-ghost use Rattle.families.specs.inner.Counts.{headed};
-ghost use Rattle.families.specs.inner.Gathered.{rules_standing, none, missing, followed, raised_by, changed, Rows};
-ghost use Rattle.families.specs.inner.Gathered.{FollowFits, CopyFits, LeaveFits, RaiseFits, RaiseAllFits};
+ghost use Rattle.std.specs.Prelude.{◌≡◌};
+ghost use Rattle.books.specs.Picture.{joins};
+ghost use Rattle.families.specs.inner.Gathered.{raised_by, RaiseFits};
 
+use crate::asked::Pairing;
+use crate::rules::Rules;
 use books::equal;
-use books::rule::{Body, MOST_RULES, Rule};
+use books::rule::{Body, Dir, Rule};
 use names::colours::MOST_COLOURS;
 
-// The first `count` rules stand.
-#[derive(Clone, Copy)]
-pub(crate) struct Rules {
-    pub(crate) count: usize,
-    pub(crate) rules: [Rule; MOST_RULES],
-}
-
-// One rule more.
-pub(crate) fn add_rule(l: Rules, rule: Rule) -> Rules
-    requires { l.count < most_rules }
-    ensures { result ≡ followed l (rule ∷ []) }
+// The rule that joins two motifs.
+pub(crate) fn join_rule(way: Dir, head: u8, first: u8, second: u8) -> Rule
+    ensures { result ≡ record { head = head; body = joins way first second } }
 {
-    let mut rules = l.rules;
-    let count = l.count;
-    rules[count] = rule;
-    Rules {
-        count: count + 1,
-        rules,
+    Rule {
+        head,
+        body: match way {
+            Dir::Across => Body::Across(first, second),
+            Dir::Down => Body::Down(first, second),
+        },
     }
-}
-
-// All rules of another list after these.
-pub(crate) fn add_rules(l: Rules, k: Rules) -> Rules
-    requires { FollowFits l k }
-    ensures { result ≡ followed l (rules_standing k) }
-{
-    let mut rules = l.rules;
-    let from = l.count;
-    let count = k.count;
-    for i in 0..count {
-        rules[from + i] = k.rules[i];
-    }
-    Rules {
-        count: from + count,
-        rules,
-    }
-}
-
-// How many rules have a head.
-pub(crate) fn count_headed(k: Rules, head: usize) -> usize
-    requires { Rows k }
-    ensures { result ≡ headed head (rules_standing k) }
-{
-    let count = k.count;
-    let mut n = 0;
-    for i in 0..count {
-        let rule = k.rules[i];
-        if rule.head as usize == head {
-            n += 1;
-        }
-    }
-    n
-}
-
-// Copies of another list's rules with one head, under a new head, after these.
-pub(crate) fn add_copies(l: Rules, k: Rules, head: usize, new: usize) -> Rules
-    requires { CopyFits l k head new }
-    ensures { result ≡ followed l (copies new head (rules_standing k)) }
-{
-    let mut rules = l.rules;
-    let mut at = l.count;
-    let count = k.count;
-    for i in 0..count {
-        let rule = k.rules[i];
-        if rule.head as usize == head {
-            let body = rule.body;
-            rules[at] = Rule {
-                head: new as u8,
-                body,
-            };
-            at += 1;
-        }
-    }
-    Rules { count: at, rules }
-}
-
-// Whether a rule's number stands not among those of other rules.
-fn is_missing(numbers: &[u32], number: u32) -> bool
-    ensures { result ≡ pick (among numbers.now number) false true }
-{
-    if equal::stands(numbers, number) {
-        return false;
-    }
-    true
-}
-
-// The rules of another list that do not stand among these.
-pub(crate) fn leave_out(l: Rules, k: Rules) -> Rules
-    requires { LeaveFits l k }
-    ensures { result ≡ followed (none k) (missing (rules_standing l) (rules_standing k)) }
-{
-    let own = l.count;
-    let others = l.rules;
-    let numbers = equal::numbers_of(others, own);
-    let mut rules = k.rules;
-    let mut left = 0;
-    let count = k.count;
-    for i in 0..count {
-        let rule = k.rules[i];
-        let number = equal::rule_number(rule);
-        if is_missing(&numbers[0..own], number) {
-            rules[left] = rule;
-            left += 1;
-        }
-    }
-    Rules { count: left, rules }
 }
 
 // A rule of a second book as it stands after a first: its motifs raised, its colour under its number in the merged list.
-fn raised_rule(rule: Rule, by: usize, numbers: [u8; MOST_COLOURS]) -> Rule
+#[tactic(auto, unfolding(crate::specs::inner::Gathered::raised_by))]
+fn raised_rule(rule: Rule, by: u8, numbers: &[u8; MOST_COLOURS]) -> Rule
     requires { RaiseFits by rule }
-    ensures { result ≡ raised_by by numbers rule }
+    ensures { result ≡ raised_by by numbers.now rule }
 {
-    let up = by as u8;
-    let head = up + rule.head;
-    let body = rule.body;
-    match body {
-        Body::Colour(c) => Rule {
-            head,
-            body: Body::Colour(numbers[c as usize]),
-        },
-        Body::Across(left, right) => Rule {
-            head,
-            body: Body::Across(up + left, up + right),
-        },
-        Body::Down(upper, lower) => Rule {
-            head,
-            body: Body::Down(up + upper, up + lower),
+    Rule {
+        head: by + rule.head,
+        body: match rule.body {
+            Body::Colour(colour) => Body::Colour(numbers[colour as usize]),
+            Body::Across(left, right) => Body::Across(by + left, by + right),
+            Body::Down(upper, lower) => Body::Down(by + upper, by + lower),
         },
     }
 }
 
-// All rules of a second book, raised.
-pub(crate) fn raise_rules(k: Rules, by: usize, numbers: [u8; MOST_COLOURS]) -> Rules
-    requires { RaiseAllFits by k }
-    ensures { result ≡ changed (raised_by by numbers) k }
-{
-    let mut rules = k.rules;
-    let count = k.count;
-    for i in 0..count {
-        rules[i] = raised_rule(k.rules[i], by, numbers);
+impl Rules {
+    ghost use Rattle.std.specs.Prelude.{map};
+    ghost use Rattle.families.specs.Combine.{copies};
+    ghost use Rattle.families.specs.inner.Gathered.{standing, missing, LeaveFits, RaiseAllFits};
+
+    // Copies of the rules with one head, under a new head.
+    pub(crate) fn copies(&self, head: u8, new: u8) -> Rules
+        ensures { standing result ≡ copies new head (standing self.now) }
+    {
+        let mut copied = Rules::none();
+        for rule in self.as_slice() {
+            if rule.head == head {
+                copied.push(Rule { head: new, ..*rule });
+            }
+        }
+        copied
     }
-    Rules { count, rules }
+
+    // The rules that do not stand among others, by their numbers, as `books` finds equal rules (`books::equal`).
+    pub(crate) fn missing_from(&self, others: &Rules) -> Rules
+        requires { LeaveFits (standing others.now) (standing self.now) }
+        ensures { standing result ≡ missing (standing others.now) (standing self.now) }
+    {
+        let numbers = equal::numbers_of(others.rules, others.count);
+        let mut left = Rules::none();
+        for rule in self.as_slice() {
+            if !equal::stands(&numbers[..others.count], equal::rule_number(*rule)) {
+                left.push(*rule);
+            }
+        }
+        left
+    }
+
+    // All rules as they stand after those of a first book.
+    pub(crate) fn raised(&self, by: u8, numbers: &[u8; MOST_COLOURS]) -> Rules
+        requires { RaiseAllFits by (standing self.now) }
+        ensures { standing result ≡ map (raised_by by numbers.now) (standing self.now) }
+    {
+        let mut raised = Rules::none();
+        for rule in self.as_slice() {
+            raised.push(raised_rule(*rule, by, numbers));
+        }
+        raised
+    }
+}
+
+impl Pairing {
+    ghost use Rattle.families.specs.inner.Gathered.{standing, LeaveFits};
+    ghost use Rattle.families.specs.inner.Combined.{first_adds, second_adds, AddsFit};
+
+    // What a pairing adds from the first family: copies of its start's rules under the new start, or nothing.
+    pub(crate) fn first_adds(self, own: &Rules, start: u8, new: u8) -> Rules
+        ensures { standing result ≡ first_adds self start new (standing own.now) }
+    {
+        match self {
+            Pairing::EitherOf => own.copies(start, new),
+            Pairing::Joined(_) => Rules::none(),
+        }
+    }
+
+    // ... and from the second, whose rules are raised: copies of its start's rules that are not among those of the first, or the rule that joins both starts.
+    pub(crate) fn second_adds(
+        self,
+        start: u8,
+        copied: &Rules,
+        raised: &Rules,
+        other: u8,
+        new: u8,
+    ) -> Rules
+        requires { AddsFit (standing copied.now) (standing raised.now) }
+        ensures { standing result ≡ second_adds self start (standing copied.now) (standing raised.now) other new }
+    {
+        match self {
+            Pairing::EitherOf => raised.copies(other, new).missing_from(copied),
+            Pairing::Joined(way) => {
+                let mut joined = Rules::none();
+                joined.push(join_rule(way, new, start, other));
+                joined
+            }
+        }
+    }
 }

@@ -1,6 +1,5 @@
 // The colours of two lent books in one list: those of the first, then those of the second that the first lacks by name, in their order.
-ghost use Rattle.families.specs.inner.Merges.{ListsBoth, Merges};
-
+use crate::lent::LentBook;
 use names::colours::{Colours, MOST_COLOURS};
 use names::{colours, name};
 
@@ -11,28 +10,28 @@ pub(crate) struct Merged {
     pub(crate) numbers: [u8; MOST_COLOURS],
 }
 
-pub(crate) fn merge(first: &[u8], f: Colours, second: &[u8], g: Colours) -> Merged
-    requires { ListsBoth first.now f second.now g }
-    ensures { Merges first.now f second.now g result }
-{
-    let mut more = colours::no_colours();
-    let mut numbers = [0u8; MOST_COLOURS];
-    let own = f.count;
-    let count = g.count;
-    for i in 0..count {
-        let start = g.starts[i];
-        let len = g.lens[i];
-        let name = name::tail(second, start as usize);
-        let found = colours::find_name(first, own, &f.starts, &f.lens, name, len as usize);
-        if found < own {
-            numbers[i] = found as u8;
-        } else {
-            let last = more.count;
-            numbers[i] = (own + last) as u8;
-            more.starts[last] = start;
-            more.lens[last] = len;
-            more.count = last + 1;
+impl<'a> LentBook<'a> {
+    ghost use Rattle.families.specs.inner.Merges.{Merges};
+
+    pub(crate) fn merged(&self, second: &LentBook<'_>) -> Merged
+        ensures { Merges self.now.bytes.now self.now.family.now.colours second.now.bytes.now second.now.family.now.colours result }
+    {
+        let (f, g) = (&self.family.colours, &second.family.colours);
+        let mut more = colours::no_colours();
+        let mut numbers = [0u8; MOST_COLOURS];
+        let places = g.starts[..g.count].iter().zip(&g.lens[..g.count]);
+        for (i, (start, len)) in places.enumerate() {
+            let name = name::front(name::tail(second.bytes, *start as usize), *len as usize);
+            match colours::find_name(self.bytes, f.count, &f.starts, &f.lens, name) {
+                Some(found) => numbers[i] = found as u8,
+                None => {
+                    numbers[i] = (f.count + more.count) as u8;
+                    more.starts[more.count] = *start;
+                    more.lens[more.count] = *len;
+                    more.count += 1;
+                }
+            }
         }
+        Merged { more, numbers }
     }
-    Merged { more, numbers }
 }

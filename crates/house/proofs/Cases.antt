@@ -9,7 +9,7 @@ use Rattle.names.specs.Number.{last_group, longer_at, number_at, number_in, numb
 use Rattle.names.specs.Name.{least_byte, name_of, same_name, listed}
 use Rattle.names.specs.Colours.{find_name, colour_at, colours_of}
 use Rattle.names.specs.Put.{put}
-use Rattle.names.specs.declared.number.Read.TheVariants.{Value, Refused}
+use Rattle.names.specs.Read.{Value, Refused}
 use Rattle.books.specs.Lent.{contents_of}
 use Rattle.books.specs.Answer.{plain}
 use Rattle.books.specs.Equal.{same_rule, stands, firsts, without_copies}

@@ -1,26 +1,18 @@
 // The size card of a book.
+use crate::kinds::Case;
 use crate::printing;
 use std::io;
 
-// So many rows of the card; or, where none are wanted, how much of the slice was written.
-fn shown(rt: &impl Print, card: &[u32], rows: usize) -> io::Result<()> {
+// The answer, the number of sizes, and so many rows of the card; or, where none are wanted, how much of the slice was written.
+pub(crate) fn card(rt: &impl Print, case: Case<'_>, card: &mut [u32]) -> io::Result<()> {
+    let packed = sizes::calls::dv_size_card(case.press, case.first, card);
+    printing::answer_and_count(rt, packed)?;
+    let rows = case.line.number(5).min(card.len());
     if rows == 0 {
         printing::written(rt, card)?;
-        printing::end(rt)
+        println!(rt)
     } else {
-        printing::text(rt, b";")?;
-        printing::entries(rt, card, 0, rows)
+        print!(rt; ";")?;
+        printing::numbers(rt, &card[..rows])
     }
-}
-
-// The answer, the number of sizes and the card.
-pub(crate) fn card(
-    rt: &impl Print,
-    press: usize,
-    book: &[u8],
-    card: &mut [u32],
-    rows: usize,
-) -> io::Result<()> {
-    printing::answer_and_count(rt, sizes::calls::dv_size_card(press, book, card))?;
-    shown(rt, card, rows)
 }

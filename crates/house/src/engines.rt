@@ -1,35 +1,33 @@
 // The plain engine, and every colouring of a small sheet by both engines.
-ghost use Rattle.std.specs.Prelude.{◌≤◌};
-
-use crate::{lent, printing, spelling};
+use crate::kinds::Case;
+use crate::{printing, spelling};
+use arrayvec::ArrayVec;
 use std::io;
 
 // The answer of the plain engine.
-pub(crate) fn plain(rt: &impl Print, press: usize, book: &[u8], sheet: &[u8]) -> io::Result<()> {
-    printing::answer(rt, plain::calls::dv_plain(press, book, sheet))?;
-    printing::end(rt)
+pub(crate) fn plain(rt: &impl Print, case: Case<'_>) -> io::Result<()> {
+    printing::answer(
+        rt,
+        plain::calls::dv_plain(case.press, case.first, case.second),
+    )?;
+    println!(rt)
 }
 
 // How many sheets of two colours there are with so many cells.
-fn colourings(cells: usize) -> usize
-    ensures { result ≤ 65536 }
-{
-    let mut count = 1;
-    for _ in 0..cells {
-        count = count % 32769 * 2;
-    }
-    count
+fn colourings(cells: usize) -> usize {
+    (0..cells).fold(1, |count, _| count % 32769 * 2)
 }
 
-// A sheet whose cells have the bits of a number for their colours, and its length. What stands before the cells is lent.
-fn coloured(start: &[u8], cells: usize, bits: usize, out: &mut [u8]) -> usize {
-    let mut end = spelling::copy(out, 0, start);
+// A sheet whose cells have the bits of a number for their colours. What stands before the cells is lent.
+fn coloured(start: &[u8], cells: usize, bits: usize) -> ArrayVec<u8, 64> {
+    let mut sheet = ArrayVec::new();
+    spelling::add(&mut sheet, start);
     let mut left = bits;
     for _ in 0..cells {
-        end = spelling::put(out, end, (left % 2) as u8);
+        spelling::add(&mut sheet, &[(left % 2) as u8]);
         left /= 2;
     }
-    end
+    sheet
 }
 
 // Whether the plain engine accepts a sheet, and whether the first engine, whose count is its trials, gives the same answer.
@@ -39,7 +37,7 @@ struct Compared {
     same: bool,
 }
 
-fn ask(press: usize, book: &[u8], sheet: &[u8], work: &mut [u32]) -> Compared {
+fn compare(press: usize, book: &[u8], sheet: &[u8], work: &mut [u32]) -> Compared {
     let mut tree = [0u16; 62];
     let first = pieces::derive::dv_derive(press, book, sheet, work, &mut tree);
     let second = plain::calls::dv_plain(press, book, sheet);
@@ -50,26 +48,16 @@ fn ask(press: usize, book: &[u8], sheet: &[u8], work: &mut [u32]) -> Compared {
 }
 
 // How many sheets there are of a size, how many of them the family has, and to how many both engines give the same answer.
-pub(crate) fn both(
-    rt: &impl Print,
-    press: usize,
-    book: &[u8],
-    start: &[u8],
-    work: &mut [u32],
-    cells: usize,
-) -> io::Result<()> {
-    let mut sheet = [0u8; 64];
+pub(crate) fn both(rt: &impl Print, case: Case<'_>, work: &mut [u32]) -> io::Result<()> {
+    let cells = case.line.number(5);
+    let sheets = colourings(cells);
     let mut accepted = 0;
     let mut same = 0;
-    let sheets = colourings(cells);
     for bits in 0..sheets {
-        let end = coloured(start, cells, bits, &mut sheet);
-        let told = ask(press, book, lent::front(&sheet, end), work);
-        accepted += lent::one_if(told.accepted);
-        same += lent::one_if(told.same);
+        let sheet = coloured(case.second, cells, bits);
+        let compared = compare(case.press, case.first, &sheet, work);
+        accepted += usize::from(compared.accepted);
+        same += usize::from(compared.same);
     }
-    printing::group(rt, b':', sheets as u64)?;
-    printing::also(rt, accepted as u64)?;
-    printing::also(rt, same as u64)?;
-    printing::end(rt)
+    println!(rt; ": {sheets} {accepted} {same}")
 }

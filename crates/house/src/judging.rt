@@ -1,50 +1,26 @@
 // A tree held to a book and a sheet.
-use crate::{lent, lines, printing, spelling};
-use books::answer;
+use crate::kinds::Case;
+use crate::printing;
+use crate::spelling::{self, Kept};
 use std::io;
 use trees::calls;
 use trees::node::{MOST_NODES, Node};
 
-// The row that bytes spell, two for each node: its rule and its cut.
-fn row(bytes: &[u8]) -> [Node; MOST_NODES] {
+// The answer about the tree that the line spells, two bytes for each node: its rule and its cut.
+pub(crate) fn judge(rt: &impl Print, case: Case<'_>, kept: &Kept) -> io::Result<()> {
+    let bytes = spelling::spell::<2304>(case.line.part(4), kept);
     let mut nodes = [Node { rule: 0, cut: 0 }; MOST_NODES];
-    for i in 0..MOST_NODES {
-        nodes[i] = Node {
-            rule: lent::byte_at(bytes, 2 * i) as u16,
-            cut: lent::byte_at(bytes, 2 * i + 1) as u16,
-        };
+    for (node, pair) in nodes.iter_mut().zip(bytes.chunks_exact(2)) {
+        if let [rule, cut] = pair {
+            *node = Node {
+                rule: u16::from(*rule),
+                cut: u16::from(*cut),
+            };
+        }
     }
-    nodes
-}
-
-fn judged(
-    rt: &impl Print,
-    press: usize,
-    book: &[u8],
-    sheet: &[u8],
-    bytes: &[u8],
-) -> io::Result<()> {
-    let a = calls::check_copied(press, book, sheet, row(bytes), bytes.len() / 2);
-    printing::answer(rt, answer::pack(a, 0))?;
-    printing::end(rt)
-}
-
-// The answer about the row that the line spells.
-pub(crate) fn judge(
-    rt: &impl Print,
-    line: &[u8],
-    book: &[u8],
-    sheet: &[u8],
-    kept: &[u8],
-) -> io::Result<()> {
-    let mut bytes = [0u8; 2304];
-    let length = spelling::spell(line, 4, kept, &mut bytes);
-    printing::text(rt, lines::part(line, 1))?;
-    judged(
-        rt,
-        lines::number(line, 0),
-        book,
-        sheet,
-        lent::front(&bytes, length),
-    )
+    let count = (bytes.len() / 2).min(MOST_NODES);
+    rt.write_all(case.line.part(1))?;
+    let packed = calls::dv_check_tree(case.press, case.first, case.second, &nodes[..count]);
+    printing::answer(rt, packed)?;
+    println!(rt)
 }

@@ -1,114 +1,135 @@
 // Each line of the list is run by the call that it is for, which its first letter says, on the press whose number follows.
-use crate::{
-    asking, cards, combining, engines, judging, lent, lines, painting, printing, reading, reports,
-    spelling, why,
-};
+ghost use Rattle.std.specs.Prelude.{◌*◌, ◌^◌, ◌<◌};
+
+use crate::lines::Line;
+use crate::spelling::{self, Kept};
+use crate::{asking, cards, combining, engines, judging, lent, painting, reading, reports, why};
 use std::io;
 
-// The calls that are lent a work slice, and those that read. The number is what a call wants besides.
-fn call(
-    rt: &impl Print,
-    letter: u8,
-    press: usize,
-    first: &[u8],
-    second: &[u8],
-    work: &mut [u32],
-    number: usize,
-) -> io::Result<()> {
-    match letter {
-        b'd' | b't' => asking::derive(rt, press, first, second, work, number, letter == b't'),
-        b'n' => asking::trials(rt, press, first, second, work, number),
-        b'c' => cards::card(rt, press, first, work, number),
-        b'w' => why::why_not(rt, press, first, second, work),
-        b'r' => reports::run(rt, press, first, second, work, number),
-        b'u' => engines::plain(rt, press, first, second),
-        b'a' => engines::both(rt, press, first, second, work, number),
-        _ => reading::read(rt, letter, press, first, second),
+// What a line is for. One that begins with no letter of the list is passed over.
+#[derive(Clone, Copy)]
+enum Kind {
+    Keep,
+    Make,
+    Lent,
+    Paint,
+    Derive,
+    Table,
+    Number,
+    Card,
+    WhyNot,
+    Run,
+    Unaided,
+    All,
+    Book,
+    Sheet,
+    Grid,
+    Ink,
+    Figures,
+    Equal,
+    Heading,
+    Passed,
+}
+
+impl From<u8> for Kind {
+    fn from(letter: u8) -> Kind {
+        match letter {
+            b'k' => Kind::Keep,
+            b'm' => Kind::Make,
+            b'l' => Kind::Lent,
+            b'p' => Kind::Paint,
+            b'd' => Kind::Derive,
+            b't' => Kind::Table,
+            b'n' => Kind::Number,
+            b'c' => Kind::Card,
+            b'w' => Kind::WhyNot,
+            b'r' => Kind::Run,
+            b'u' => Kind::Unaided,
+            b'a' => Kind::All,
+            b'b' => Kind::Book,
+            b's' => Kind::Sheet,
+            b'g' => Kind::Grid,
+            b'i' => Kind::Ink,
+            b'f' => Kind::Figures,
+            b'e' => Kind::Equal,
+            b'h' => Kind::Heading,
+            _ => Kind::Passed,
+        }
     }
 }
 
-// What comes of a line with as much of a work slice as it says.
-fn lend(
-    rt: &impl Print,
-    line: &[u8],
-    first: &[u8],
-    second: &[u8],
-    work: &mut [u32],
-) -> io::Result<()> {
-    let room = lent::room(lines::number(line, 4), work.len());
-    call(
-        rt,
-        lent::byte_at(line, 0),
-        lines::number(line, 0),
-        first,
-        second,
-        &mut work[0..room],
-        lines::number(line, 5),
-    )
+// A line with the press and the two inputs that it names.
+#[derive(Clone, Copy)]
+pub(crate) struct Case<'a> {
+    pub(crate) line: Line<'a>,
+    pub(crate) press: usize,
+    pub(crate) first: &'a [u8],
+    pub(crate) second: &'a [u8],
 }
 
-// There are more entries than a sheet of press 0 can need, ...
-fn narrow(rt: &impl Print, line: &[u8], first: &[u8], second: &[u8]) -> io::Result<()> {
-    let mut work = [4294967295u32; 6086];
-    lend(rt, line, first, second, &mut work)
-}
-
-// ... or more than one of any press can.
-fn wide(rt: &impl Print, line: &[u8], first: &[u8], second: &[u8]) -> io::Result<()> {
-    let mut work = [4294967295u32; 90002];
-    lend(rt, line, first, second, &mut work)
-}
-
-// The words of a line, and what comes of it.
-fn asked(rt: &impl Print, line: &[u8], first: &[u8], second: &[u8]) -> io::Result<()> {
-    printing::text(rt, lines::part(line, 1))?;
-    match lines::number(line, 0) {
-        0 => narrow(rt, line, first, second),
-        _ => wide(rt, line, first, second),
+// The words of a line, and what comes of it with as much of a work slice as it says.
+fn asked(rt: &impl Print, kind: Kind, case: Case<'_>, work: &mut [u32]) -> io::Result<()> {
+    let room = lent::room(case.line.number(4), work.len());
+    let work = &mut work[..room];
+    rt.write_all(case.line.part(1))?;
+    match kind {
+        Kind::Derive => asking::derive(rt, case, work),
+        Kind::Table => asking::table(rt, case, work),
+        Kind::Number => asking::trials(rt, case, work),
+        Kind::Card => cards::card(rt, case, work),
+        Kind::WhyNot => why::why_not(rt, case, work),
+        Kind::Run => reports::run(rt, case, work),
+        Kind::Unaided => engines::plain(rt, case),
+        Kind::All => engines::both(rt, case, work),
+        Kind::Book => reading::book(rt, case),
+        Kind::Sheet => reading::sheet(rt, case),
+        Kind::Grid => reading::grid(rt, case),
+        Kind::Ink => reading::ink(rt, case),
+        Kind::Figures => reading::figures(rt, case),
+        Kind::Equal => reading::equal(rt, case),
+        Kind::Heading => println!(rt),
+        _ => Ok(()),
     }
 }
 
-// A line with its inputs. What is kept is changed by lines of three kinds only.
-fn run(
-    rt: &impl Print,
-    line: &[u8],
-    first: &[u8],
-    second: &[u8],
-    kept: &mut [u8],
-) -> io::Result<()> {
-    match lent::byte_at(line, 0) {
-        b'k' => {
-            spelling::keep(lent::byte_at(line, 5), first, kept);
+// Filling more entries than the press of a line can need would take most of the time.
+fn lend<const ENTRIES: usize>(rt: &impl Print, kind: Kind, case: Case<'_>) -> io::Result<()>
+    requires { ENTRIES * 4 < 2 ^ 63 }
+{
+    let mut work = [u32::MAX; ENTRIES];
+    asked(rt, kind, case, &mut work)
+}
+
+// What is kept is changed by lines of three kinds only.
+fn run(rt: &impl Print, case: Case<'_>, kept: &mut Kept) -> io::Result<()> {
+    match Kind::from(case.line.letter(0)) {
+        Kind::Keep => {
+            kept.keep(case.line.text.get(5).copied().unwrap_or(0), case.first);
             Ok(())
         }
-        b'm' => combining::make(rt, line, first, second, kept),
-        b'l' => judging::judge(rt, line, first, second, kept),
-        b'p' => painting::paint(rt, line, first, kept),
-        _ => asked(rt, line, first, second),
+        Kind::Make => combining::make(rt, case, kept),
+        Kind::Lent => judging::judge(rt, case, kept),
+        Kind::Paint => painting::paint(rt, case, kept),
+        // There are more entries than a sheet of press 0 can need, or more than one of any press can.
+        kind if case.press == 0 => lend::<6086>(rt, kind, case),
+        kind => lend::<90002>(rt, kind, case),
     }
 }
 
-fn case(rt: &impl Print, line: &[u8], kept: &mut [u8]) -> io::Result<()> {
-    let mut first = [0u8; 1024];
-    let mut second = [0u8; 65537];
-    let first_length = spelling::spell(line, 2, kept, &mut first);
-    let second_length = spelling::spell(line, 3, kept, &mut second);
-    run(
-        rt,
-        line,
-        lent::front(&first, first_length),
-        lent::front(&second, second_length),
-        kept,
-    )
-}
-
-// The lines of a list, in their order. The slice holds what is kept from one to the next.
-pub(crate) fn each(rt: &impl Print, list: &[u8], kept: &mut [u8]) -> io::Result<()> {
-    let mut at = 0;
-    while at < list.len() {
-        let line = lines::upto(list, at, b'\n');
-        case(rt, line, kept)?;
-        at += line.len() + 1;
+// The lines of a list, in their order.
+pub(crate) fn each(rt: &impl Print, list: &[u8]) -> io::Result<()> {
+    let mut kept = Kept::new();
+    for text in list.split(|&byte| byte == b'\n') {
+        let line = Line { text };
+        let first = spelling::spell::<1024>(line.part(2), &kept);
+        let second = spelling::spell::<65537>(line.part(3), &kept);
+        let case = Case {
+            line,
+            press: line.number(0),
+            first: &first,
+            second: &second,
+        };
+        run(rt, case, &mut kept)?;
     }
     Ok(())
 }

@@ -1,98 +1,51 @@
 // Cells of a sheet recoloured.
-use crate::{lent, lines, printing, spelling};
+use crate::kinds::Case;
+use crate::spelling::{self, Kept};
+use crate::{lent, printing};
 use std::io;
 
-// The slice gets the table of the sheet first, where the line says so.
-fn begin(word: u8, press: usize, book: &[u8], sheet: &[u8], work: &mut [u32]) {
-    let mut tree = [65535u16; 50];
-    if word == b't' {
-        pieces::derive::dv_derive(press, book, sheet, work, &mut tree);
-    }
-}
-
-// One cell: its row, its column and its new colour stand in three bytes.
-fn once(
+// The cell to recolour: its row, its column and its new colour stand in three bytes, each 0 where it is left out.
+fn recolour(
     rt: &impl Print,
-    press: usize,
-    book: &[u8],
+    case: Case<'_>,
     sheet: &mut [u8],
     work: &mut [u32],
     cell: &[u8],
 ) -> io::Result<()> {
-    let row = lent::byte_at(cell, 0) as usize;
-    let column = lent::byte_at(cell, 1) as usize;
-    let colour = lent::byte_at(cell, 2) as usize;
-    printing::answer(
-        rt,
-        desk::dv_recolour(press, book, sheet, work, row, column, colour),
-    )
+    let number = |i: usize| usize::from(cell.get(i).copied().unwrap_or(0));
+    let packed = desk::dv_recolour(
+        case.press,
+        case.first,
+        sheet,
+        work,
+        number(0),
+        number(1),
+        number(2),
+    );
+    printing::answer(rt, packed)
 }
 
-// Another, where there are bytes for it.
-fn again(
-    rt: &impl Print,
-    press: usize,
-    book: &[u8],
-    sheet: &mut [u8],
-    work: &mut [u32],
-    cells: &[u8],
-) -> io::Result<()> {
-    if 3 < cells.len() {
-        once(rt, press, book, sheet, work, &cells[3..])?;
-    }
-    Ok(())
-}
-
-// One cell, and perhaps another; then the slice.
-fn each(
-    rt: &impl Print,
-    press: usize,
-    book: &[u8],
-    sheet: &mut [u8],
-    work: &mut [u32],
-    cells: &[u8],
-) -> io::Result<()> {
-    once(rt, press, book, sheet, work, cells)?;
-    again(rt, press, book, sheet, work, cells)?;
-    printing::end(rt)?;
-    printing::text(rt, b"the slice:")?;
-    printing::entries(rt, work, 0, work.len())
-}
-
-// The sheet is kept under N.
-fn painted(
-    rt: &impl Print,
-    word: u8,
-    press: usize,
-    book: &[u8],
-    sheet: &mut [u8],
-    work: &mut [u32],
-    cells: &[u8],
-    kept: &mut [u8],
-) -> io::Result<()> {
-    begin(word, press, book, sheet, work);
-    each(rt, press, book, sheet, work, cells)?;
-    spelling::keep(b'N', sheet, kept);
-    Ok(())
-}
-
-// The answers, and the work slice as it is left.
-pub(crate) fn paint(rt: &impl Print, line: &[u8], book: &[u8], kept: &mut [u8]) -> io::Result<()> {
-    let mut sheet = [0u8; 64];
+// The answers for one cell or two, and the work slice as it is left. The slice has the table of the sheet first, where the line says so; the sheet is
+// kept under N.
+pub(crate) fn paint(rt: &impl Print, case: Case<'_>, kept: &mut Kept) -> io::Result<()> {
+    let mut sheet = [0; 64];
+    let length = spelling::spell_over(case.line.part(3), kept, &mut sheet);
+    let sheet = &mut sheet[..lent::room(length, 64)];
     let mut work = [7u32; 91];
-    let mut cells = [0u8; 6];
-    let length = lent::room(spelling::spell(line, 3, kept, &mut sheet), 64);
-    let room = lent::room(lines::number(line, 4), 91);
-    let count = spelling::spell(line, 5, kept, &mut cells);
-    printing::text(rt, lines::part(line, 1))?;
-    painted(
-        rt,
-        lent::byte_at(lines::part(line, 6), 0),
-        lines::number(line, 0),
-        book,
-        &mut sheet[0..length],
-        &mut work[0..room],
-        lent::front(&cells, count),
-        kept,
-    )
+    let work = &mut work[..lent::room(case.line.number(4), 91)];
+    let cells = spelling::spell::<6>(case.line.part(5), kept);
+    rt.write_all(case.line.part(1))?;
+    if case.line.letter(6) == b't' {
+        let mut tree = [u16::MAX; 50];
+        pieces::derive::dv_derive(case.press, case.first, sheet, work, &mut tree);
+    }
+    recolour(rt, case, sheet, work, &cells)?;
+    if cells.len() > 3 {
+        recolour(rt, case, sheet, work, &cells[3..])?;
+    }
+    println!(rt)?;
+    print!(rt; "the slice:")?;
+    printing::numbers(rt, work)?;
+    kept.keep(b'N', sheet);
+    Ok(())
 }

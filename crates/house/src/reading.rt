@@ -1,69 +1,53 @@
 // A book or a sheet read by itself, and whether two inputs are the same.
-use crate::{lent, printing};
-use names::name;
+use crate::kinds::Case;
+use crate::printing;
 use std::io;
 
-// Whether the bytes are a book.
-fn book(rt: &impl Print, bytes: &[u8]) -> io::Result<()> {
-    printing::answer(rt, books::calls::dv_read_book(bytes))?;
-    printing::end(rt)
+// Whether the first input is a book.
+pub(crate) fn book(rt: &impl Print, case: Case<'_>) -> io::Result<()> {
+    printing::answer(rt, books::calls::dv_read_book(case.first))?;
+    println!(rt)
 }
 
-// Whether the bytes are a sheet of a press, and its ticket.
-fn sheet(rt: &impl Print, press: usize, bytes: &[u8]) -> io::Result<()> {
-    printing::answer_and_count(rt, books::calls::dv_read_sheet(press, bytes))?;
-    printing::end(rt)
+// Whether the first input is a sheet of the press, and its ticket.
+pub(crate) fn sheet(rt: &impl Print, case: Case<'_>) -> io::Result<()> {
+    printing::answer_and_count(rt, books::calls::dv_read_sheet(case.press, case.first))?;
+    println!(rt)
 }
 
-// The rows and the columns of a sheet of a press.
-fn grid(rt: &impl Print, press: usize, bytes: &[u8]) -> io::Result<()> {
-    let size = lookups::sheet::dv_sheet_size(press, bytes);
-    printing::group(rt, b':', size % 4294967296)?;
-    printing::also(rt, size / 4294967296)?;
-    printing::end(rt)
+// The rows and the columns of a sheet of the press.
+pub(crate) fn grid(rt: &impl Print, case: Case<'_>) -> io::Result<()> {
+    let size = lookups::sheet::dv_sheet_size(case.press, case.first);
+    let rows = size % 4294967296;
+    let columns = size / 4294967296;
+    println!(rt; ": {rows} {columns}")
+}
+
+// The byte of an input at a place, or 0 beyond its end.
+fn byte_at(input: &[u8], i: usize) -> u8 {
+    input.get(i).copied().unwrap_or(0)
 }
 
 // The name of a colour of the book, or nothing.
-fn ink(rt: &impl Print, book: &[u8], number: &[u8]) -> io::Result<()> {
-    printing::text(
-        rt,
-        lookups::colour::colour(book, lent::byte_at(number, 0) as usize),
-    )?;
-    printing::text(rt, b"\"\n")
+pub(crate) fn ink(rt: &impl Print, case: Case<'_>) -> io::Result<()> {
+    let number = usize::from(byte_at(case.second, 0));
+    rt.write_all(lookups::colour::colour(case.first, number))?;
+    println!(rt; "\"")
 }
 
 // The motif count and the rule count of a book with the colours of the house.
-fn figures(rt: &impl Print, book: &[u8]) -> io::Result<()> {
-    printing::group(rt, b':', lent::byte_at(book, 17) as u64)?;
-    printing::also(rt, lent::byte_at(book, 19) as u64)?;
-    printing::end(rt)
+pub(crate) fn figures(rt: &impl Print, case: Case<'_>) -> io::Result<()> {
+    let motifs = byte_at(case.first, 17);
+    let rules = byte_at(case.first, 19);
+    println!(rt; ": {motifs} {rules}")
 }
 
-// Whether two inputs are the same, byte for byte.
-fn equal(rt: &impl Print, first: &[u8], second: &[u8]) -> io::Result<()> {
-    if name::same_name(first, first.len(), second, second.len()) {
-        printing::text(rt, b": yes\n")
+// Whether the two inputs are the same, byte for byte.
+pub(crate) fn equal(rt: &impl Print, case: Case<'_>) -> io::Result<()> {
+    let told = if case.first == case.second {
+        "yes"
     } else {
-        printing::text(rt, b": no\n")
-    }
-}
-
-// A call that reads, by its letter, or a heading; any other line has nothing more to it.
-pub(crate) fn read(
-    rt: &impl Print,
-    letter: u8,
-    press: usize,
-    first: &[u8],
-    second: &[u8],
-) -> io::Result<()> {
-    match letter {
-        b'b' => book(rt, first),
-        b's' => sheet(rt, press, first),
-        b'g' => grid(rt, press, first),
-        b'i' => ink(rt, first, second),
-        b'f' => figures(rt, first),
-        b'e' => equal(rt, first, second),
-        b'h' => printing::end(rt),
-        _ => Ok(()),
-    }
+        "no"
+    };
+    println!(rt; ": {told}")
 }

@@ -1,27 +1,19 @@
 // Why a sheet is not in the family.
+use crate::kinds::Case;
 use crate::printing;
 use std::io;
 
-// The answer, and a reason's kind, row, column, height and width.
-fn reason(rt: &impl Print, packed: u64) -> io::Result<()> {
-    let count = packed / 4294967296;
+// The answer, a reason's kind, row, column, height and width, and how much of the work slice was written.
+pub(crate) fn why_not(rt: &impl Print, case: Case<'_>, work: &mut [u32]) -> io::Result<()> {
+    let packed = reasons::calls::dv_why_not(case.press, case.first, case.second, work);
     printing::answer(rt, packed)?;
-    printing::group(rt, b';', count % 8)?;
-    printing::also(rt, count / 8 % 32)?;
-    printing::also(rt, count / 256 % 32)?;
-    printing::also(rt, count / 8192 % 32)?;
-    printing::also(rt, count / 262144)
-}
-
-// The answer with the reason, and how much of the work slice was written.
-pub(crate) fn why_not(
-    rt: &impl Print,
-    press: usize,
-    book: &[u8],
-    sheet: &[u8],
-    work: &mut [u32],
-) -> io::Result<()> {
-    reason(rt, reasons::calls::dv_why_not(press, book, sheet, work))?;
+    let count = packed / 4294967296;
+    let kind = count % 8;
+    let row = count / 8 % 32;
+    let column = count / 256 % 32;
+    let height = count / 8192 % 32;
+    let width = count / 262144;
+    print!(rt; "; {kind} {row} {column} {height} {width}")?;
     printing::written(rt, work)?;
-    printing::end(rt)
+    println!(rt)
 }

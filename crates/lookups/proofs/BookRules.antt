@@ -11,15 +11,12 @@ use lib.ListN.{length, get_or}
 use lib.Seq.{get_or-take, length-take-le}
 use Rattle.names.proofs.Tests.{lt-or-le}
 use Rattle.books.specs.Book.{book_of}
-use Rattle.books.specs.Keeps.{most_rules}
 use Rattle.books.specs.Lent.{contents_of}
 use Rattle.books.specs.Rules.{no_rule}
 use Rattle.books.specs.declared.rule.Rule.{Rule}
-use Rattle.books.proofs.ReadingBooks.{book-lies, book-refused, book-size}
+use Rattle.books.proofs.ReadingBooks.{book-lies, book-refused, book-size, book-count}
 use Rattle.books.proofs.RulesApart.{RuleApart, rule-apart}
-use Rattle.lookups.specs.Book.{rule_with, rule_of, packed_found, rule_shown}
-use Rattle.lookups.specs.declared.book.RuleFound.{RuleFound}
-use Rattle.lookups.specs.declared.book.RuleFound.TheVariants.{There, Missing}
+use Rattle.lookups.specs.Book.{RuleFound, There, Missing, rule_with, rule_of, packed_found, rule_shown}
 
 -- no rule has the number 0
 packed-missing : (r : RuleFound) → packed_found r ≡ 0 → r ≡ Missing
@@ -40,15 +37,8 @@ module _ (s : List ℕ) where
   has-rules : 0 < length rules → (book_of s).fault.number ≡ 0
   has-rules h = ⊎_elim (λ z. z) (λ p. absurd (omega (arith, refused-rules (λ z. omega arith)))) (eq-zero-or-pos (book_of s).fault.number)
 
-  pub count-few : (book_of s).family.count ≤ most_rules
-  count-few =
-      ⊎_elim
-      (λ z. (book-lies s z).rules_few)
-      (λ p. rw (book-refused s (λ z. omega arith)).empty (omega arith))
-      (eq-zero-or-pos (book_of s).fault.number)
-
   pub rules-count : length rules ≡ (book_of s).family.count
-  rules-count = length-take-le (book_of s).family.count (book_of s).family.rules (omega (arith, count-few, book-size s))
+  rules-count = length-take-le (book_of s).family.count (book_of s).family.rules (omega (arith, book-count s, book-size s))
 
   module _ (k : ℕ) where
     pub found : k < length rules → rule_of s k ≡ There (get_or rules k no_rule)

@@ -1,4 +1,5 @@
 pub mod Showing
+pub mod BookFamily
 pub mod BookRules
 pub mod BookCounts
 pub mod SheetSizes

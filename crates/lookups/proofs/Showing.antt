@@ -7,6 +7,8 @@ use mathlib.Core.List.{List, []}
 use native.Mathlib.Omega.{arith}
 use borrow.Author.Tests.{lt-ltb, le-ltb, eqb-true, eqb-false}
 use denote.Ref.{Bor}
+use Rattle.std.specs.Prelude.{Option, Some, None as Nowhere}
+use Rattle.std.specs.Option.{MatchOption}
 use lib.Dec.{eqb}
 use lib.ListN.{length, get_or, take, drop, length-drop, get_or-eq_default}
 use lib.Seq.{length-take-le}
@@ -23,7 +25,8 @@ use Rattle.books.specs.Book.{book_of}
 use Rattle.books.specs.Sheet.{sheet_of}
 use Rattle.lookups.specs.Colour.{name_with, start_with, place_with, shown, shown_start, shown_place}
 use Rattle.lookups.specs.Sheet.{sheet_colour_shown}
-use Rattle.lookups.specs.inner.Places.{place_read}
+use Rattle.lookups.specs.inner.Places.{PlaceFound, packed}
+use Rattle.lookups.specs.declared.colour.Place.{Place}
 use Rattle.books.proofs.Area.{room_enough}
 use Rattle.books.proofs.ReadingBooks.{book-accepted, book-places, book-refused}
 use Rattle.books.proofs.ReadingSheets.{sheet-places, sheet-refused, sheet-press}
@@ -56,13 +59,10 @@ module _ (s : List ℕ) (c : Colours) (k : ℕ) where
 
   -- ── What is shown ──
 
-  -- place and length as they were read are those of the name
-  pub place-told : Places s c → place_read c k ≡ place_with s c k
-  place-told g =
-      ⊎_elim
-      (λ (h : k < c.count). rw (start-there h, name-length g h) (simp (lt-ltb _ _ h)))
-      (λ (h : c.count ≤ k). rw (start-nowhere h, name-nothing h) (simp (le-ltb _ _ h)))
-      (lt-or-le k c.count)
+  -- the place that was found, in one number, is that of the name
+  pub place-told : Places s c → (p : Option Place) → PlaceFound c k p → (n : ℕ) → MatchOption p (n ≡ 0) (λ x. n ≡ packed x) → n ≡ place_with s c k
+  place-told g (Some p) f n e = rw (e, f.start_is, f.length_is, start-there f.below, name-length g f.below)
+  place-told g Nowhere above n e = rw (e, start-nowhere above, name-nothing above)
 
   -- the name is the part of the input that it is said to be
   record Lies : Type 0 where

@@ -1,19 +1,28 @@
 -- What a host looks up in a book, and the one number that it gets: the counts, and a rule. And the version, which it asks of no book.
-use Rattle.std.specs.Prelude.{ℕ, ◌+◌, ◌*◌, ◌^◌, List, eqb, ltb, length, get_or}
+use Rattle.std.specs.Prelude.{ℕ, ◌+◌, ◌*◌, ◌^◌, List, eqb, ltb, length, get_or, Option, Some, None}
 use Rattle.names.specs.Pick.{pick}
 use Rattle.books.specs.Book.{book_of}
 use Rattle.books.specs.Contents.{Contents}
 use Rattle.books.specs.Lent.{contents_of}
 use Rattle.books.specs.RuleNumbers.{packed_rule}
 use Rattle.books.specs.Rules.{no_rule}
-use Rattle.lookups.specs.declared.book.RuleFound.{RuleFound}
-use Rattle.lookups.specs.declared.book.RuleFound.TheVariants.{There, Missing}
+use Rattle.books.specs.declared.rule.Rule.{Rule}
 
 -- ── What is found ──
+
+-- a rule of a book, or that there is none with the number asked for
+pub data RuleFound : Type 0 where
+  There : Rule → RuleFound
+  Missing : RuleFound
 
 -- the rule with a number
 unfoldable pub rule_with : Contents → ℕ → RuleFound
 rule_with b k = pick (ltb k (length b.rules)) (There (get_or b.rules k no_rule)) Missing
+
+-- a rule that the code found or not, told so
+abbrev pub told_rule : Option Rule → RuleFound
+told_rule (Some r) = There r
+told_rule None = Missing
 
 -- that of a lent book; a refused one has no rules
 abbrev pub rule_of : List ℕ → ℕ → RuleFound

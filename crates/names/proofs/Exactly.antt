@@ -13,10 +13,10 @@ use Rattle.names.specs.Number.{last_group, longer_at, number_at, number_in, numb
 use Rattle.names.specs.Name.{least_byte, Shown, name_from, name_of}
 use Rattle.names.specs.Reads.{Reads, nothing_there, ends_after_one, ends_after_two, second_zero, third_misspelt, one_byte, two_bytes, three_bytes, ReadsIn, in_range, out_of_range, no_number}
 use Rattle.names.specs.Reads.{ReadsBelow, below_count, not_below, none_below, AllShown, ReadsName, whole, ends, bad}
-use Rattle.names.specs.declared.number.Read.{Read}
-use Rattle.names.specs.declared.number.Read.TheVariants.{Value, Refused}
-use Rattle.names.specs.declared.name.NameRead.{NameRead}
-use Rattle.names.specs.declared.name.NameRead.TheVariants.{Bad}
+use Rattle.names.specs.Read.{Read}
+use Rattle.names.specs.Read.{Value, Refused}
+use Rattle.names.specs.NameRead.{NameRead}
+use Rattle.names.specs.NameRead.{Bad}
 use Rattle.names.proofs.Picking.{pick_ind}
 use Rattle.names.proofs.Tests.{lt-or-le}
 

@@ -6,8 +6,8 @@ use Rattle.names.specs.Pick.{fault}
 use Rattle.names.specs.Number.{greatest_number, last_group, longer_at, number_at, number_in, spell_number}
 use Rattle.names.specs.Name.{Name, least_byte, name_of, same_name, listed}
 use Rattle.names.specs.Colours.{names_in, find_name, colour_at, colours_of}
-use Rattle.names.specs.declared.number.Read.TheVariants.{Value, Refused}
-use Rattle.names.specs.declared.name.NameRead.TheVariants.{Whole, Ends, Bad}
+use Rattle.names.specs.Read.{Value, Refused}
+use Rattle.names.specs.NameRead.{Whole, Ends, Bad}
 
 pub record Numbers : Type 0 where
   pub p7 : number_at (128 ∷ 0 ∷ []) 0 ≡ Refused (fault 2 0)

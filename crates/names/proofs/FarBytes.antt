@@ -15,15 +15,15 @@ use Rattle.names.specs.Number.{longer_at, number_at, number_in, number_below}
 use Rattle.names.specs.Name.{Name, name_from, name_of}
 use Rattle.names.specs.Spelling.{longest_name, most_colours}
 use Rattle.names.specs.Colours.{name_in, names_from, names_in, find_name, named_at, colour_at, after_colour, no_colours, refused_colours, with_colour, colours_from, colours_of}
-use Rattle.names.specs.declared.number.Fault.{Fault}
-use Rattle.names.specs.declared.number.Read.{Read}
-use Rattle.names.specs.declared.number.Read.TheVariants.{Value, Refused}
-use Rattle.names.specs.declared.name.NameRead.{NameRead}
-use Rattle.names.specs.declared.name.NameRead.TheVariants.{Whole, Ends, Bad}
-use Rattle.names.specs.declared.colour.ColourRead.{ColourRead}
-use Rattle.names.specs.declared.colour.ColourRead.TheVariants.{At, Refused as RefusedColour}
+use Rattle.names.specs.Fault.{Fault}
+use Rattle.names.specs.Read.{Read}
+use Rattle.names.specs.Read.{Value, Refused}
+use Rattle.names.specs.NameRead.{NameRead}
+use Rattle.names.specs.NameRead.{Whole, Ends, Bad}
+use Rattle.names.specs.ColourRead.{ColourRead}
+use Rattle.names.specs.ColourRead.{At, Refused as RefusedColour}
 use Rattle.names.specs.declared.colours.Colours.{Colours}
-use Rattle.names.specs.declared.colours.ColoursRead.{ColoursRead}
+use Rattle.names.specs.ColoursRead.{ColoursRead}
 use Rattle.names.proofs.ReadingNumbers.{number_in_lem}
 use Rattle.names.proofs.ReadingNames.{name-ends}
 use Rattle.names.proofs.ReadingColours.{colour_span, list_span, Places, places-none, places-with, colour-lies}

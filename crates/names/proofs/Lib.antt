@@ -7,14 +7,16 @@ pub mod Onwards
 pub mod SameNames
 pub mod Listing
 pub mod NothingTwice
-pub mod ByteByByte
 pub mod Putting
 pub mod ReadingNumbers
 pub mod SpellingNumbers
 pub mod Finding
+pub mod Walks
 pub mod ReadingNames
 pub mod ReadingColours
 pub mod ToldInParts
+pub mod Refusing
+pub mod Telling
 pub mod FreshNames
 pub mod SpellingColours
 pub mod Examples

@@ -13,14 +13,14 @@ use Rattle.names.specs.Spelling.{longest_name, most_colours}
 use Rattle.names.specs.Reads.{ReadsIn, ReadsName}
 use Rattle.names.specs.ReadsList.{bytes_at, Reached, counted, one_more, ListRead, NameFault, cut_short, bad_byte, twice, ListFault, no_count, no_length, no_name}
 use Rattle.names.specs.Colours.{names_in, find_name, named_at, colour_at, no_colours, refused_colours, with_colour, colours_from, colours_of}
-use Rattle.names.specs.declared.number.Fault.{Fault}
-use Rattle.names.specs.declared.number.Read.{Read}
-use Rattle.names.specs.declared.number.Read.TheVariants.{Value, Refused}
-use Rattle.names.specs.declared.name.NameRead.{NameRead}
-use Rattle.names.specs.declared.name.NameRead.TheVariants.{Whole, Ends, Bad}
-use Rattle.names.specs.declared.colour.ColourRead.TheVariants.{Refused as RefusedColour}
+use Rattle.names.specs.Fault.{Fault}
+use Rattle.names.specs.Read.{Read}
+use Rattle.names.specs.Read.{Value, Refused}
+use Rattle.names.specs.NameRead.{NameRead}
+use Rattle.names.specs.NameRead.{Whole, Ends, Bad}
+use Rattle.names.specs.ColourRead.{Refused as RefusedColour}
 use Rattle.names.specs.declared.colours.Colours.{Colours}
-use Rattle.names.specs.declared.colours.ColoursRead.{ColoursRead}
+use Rattle.names.specs.ColoursRead.{ColoursRead}
 use Rattle.names.proofs.Tests.{lt-or-le}
 use Rattle.names.proofs.FirstFault.{FirstFault, first-fault}
 use Rattle.names.proofs.ReadingColours.{Places, places-none, places-with, names-with, names-count, colour-lies, colours-lie}

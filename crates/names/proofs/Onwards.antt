@@ -3,11 +3,11 @@ use Prim.Native.Nat.{ℕ}
 use mathlib.Core.Path.{◌≡◌, refl}
 use Rattle.names.specs.Onward.{onward}
 use Rattle.names.specs.Colours.{after_colour}
-use Rattle.names.specs.declared.number.Fault.{Fault}
-use Rattle.names.specs.declared.number.Read.{Read}
-use Rattle.names.specs.declared.number.Read.TheVariants.{Value, Refused}
-use Rattle.names.specs.declared.colour.ColourRead.{ColourRead}
-use Rattle.names.specs.declared.colour.ColourRead.TheVariants.{At, Refused as RefusedColour}
+use Rattle.names.specs.Fault.{Fault}
+use Rattle.names.specs.Read.{Read}
+use Rattle.names.specs.Read.{Value, Refused}
+use Rattle.names.specs.ColourRead.{ColourRead}
+use Rattle.names.specs.ColourRead.{At, Refused as RefusedColour}
 
 pub onward-ind {ℓ κ} : {A : Type ℓ} (P : A → Type κ) (refuse : Fault → A) (r : Read) (go : ℕ → ℕ → A)
     → ((f : Fault) → r ≡ Refused f → P (refuse f)) → ((v next : ℕ) → r ≡ Value v next → P (go v next)) → P (onward refuse r go)

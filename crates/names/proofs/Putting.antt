@@ -1,13 +1,12 @@
 -- Bytes written at a place: where they fit the slice keeps its length and all else, and two writings in a row are one.
-use Prim.Native.Nat.{ℕ, suc, ◌+◌, ◌<◌, ◌≤◌}
+use Prim.Native.Nat.{ℕ, ◌+◌, ◌<◌, ◌≤◌}
 use mathlib.Core.Path.{◌≡◌, refl, sym, ap, ◌∙◌}
-use mathlib.Core.List.{List, [], ◌∷◌, ◌++◌, append_assoc}
+use mathlib.Core.List.{List, [], ◌++◌, append_assoc}
 use native.Mathlib.Omega.{arith}
-use native.Mathlib.Numerals.{add-one}
 use borrow.Author.Tests.{le-leb, lt-leb, leb-true}
 use lib.Dec.{leb}
-use lib.ListN.{length, take, drop, set, length-append, length-drop}
-use lib.Seq.{sets-eq, paste, take-length, length-take-le, take_at, drop_at, drop-drop}
+use lib.ListN.{length, take, drop, length-append, length-drop}
+use lib.Seq.{sets-eq, length-take-le, take_at, drop_at, drop-drop}
 use Rattle.names.specs.Put.{put, past}
 use Rattle.names.proofs.Picking.{pick_ind}
 
@@ -47,24 +46,7 @@ pub past-nil : (out : List ℕ) (at : ℕ) → past out at [] ≡ at
 unfolding past
 past-nil out at = pick_ind (λ (x : ℕ). x ≡ at) (leb (at + 0) (length out)) _ _ (λ _. omega arith) (λ _. refl)
 
--- one store, two and three
-pub put_one : (out : List ℕ) (at a : ℕ) → at < length out → set out at a ≡ put out at (a ∷ [])
-put_one out at a h = let room : at + 1 ≤ length out = omega arith in sets-eq (a ∷ []) out at room ∙ sym (put_in out at (a ∷ []) room)
-
-pub put_two : (out : List ℕ) (at a b : ℕ) → at + 1 < length out → set (set out at a) (at + 1) b ≡ put out at (a ∷ b ∷ [])
-put_two out at a b h =
-    let room : at + 2 ≤ length out = omega arith in
-    rw add-one (sets-eq (a ∷ b ∷ []) out at room ∙ sym (put_in out at (a ∷ b ∷ []) room))
-
-pub put_three : (out : List ℕ) (at a b c : ℕ) → at + 2 < length out → set (set (set out at a) (at + 1) b) (at + 2) c ≡ put out at (a ∷ b ∷ c ∷ [])
-put_three out at a b c h =
-    let room : at + 3 ≤ length out = omega arith in
-    let two : at + 2 ≡ suc (suc at) = omega arith in
-    rw (add-one, two) (sets-eq (a ∷ b ∷ c ∷ []) out at room ∙ sym (put_in out at (a ∷ b ∷ c ∷ []) room))
-
--- a copy of all of a list
-pub put-paste : (out : List ℕ) (at : ℕ) (l : List ℕ) → at + length l ≤ length out → paste out at l (length l) ≡ put out at l
-put-paste out at l h = ap (λ (x : List ℕ). take at out ++ x ++ drop (at + length l) out) (take-length l) ∙ sym (put_in out at l h)
+pub ruleset nothing_put = (put-nil, past-nil)
 
 -- what is written after what was written is written with it
 pub put-put : (out : List ℕ) (at : ℕ) (a b : List ℕ) → at + (length a + length b) ≤ length out → put (put out at a) (at + length a) b ≡ put out at (a ++ b)

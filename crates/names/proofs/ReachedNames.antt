@@ -12,9 +12,9 @@ use Rattle.names.specs.Spelling.{longest_name, most_colours}
 use Rattle.names.specs.Reads.{ReadsIn}
 use Rattle.names.specs.ReadsList.{bytes_at, Reached, counted, one_more}
 use Rattle.names.specs.Colours.{names_in, find_name, named_at, colour_at, no_colours, refused_colours, with_colour, colours_from, colours_of}
-use Rattle.names.specs.declared.number.Fault.{Fault}
-use Rattle.names.specs.declared.number.Read.TheVariants.{Value, Refused}
-use Rattle.names.specs.declared.colour.ColourRead.TheVariants.{At, Refused as RefusedColour}
+use Rattle.names.specs.Fault.{Fault}
+use Rattle.names.specs.Read.{Value, Refused}
+use Rattle.names.specs.ColourRead.{At, Refused as RefusedColour}
 use Rattle.names.specs.declared.colours.Colours.{Colours}
 use Rattle.names.proofs.ReadingColours.{Places, places-none, places-with, names-with, names-count, colour-lies}
 use Rattle.names.proofs.ReadingNumbers.{number_in_lem}

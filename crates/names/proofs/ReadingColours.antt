@@ -14,14 +14,14 @@ use Rattle.names.specs.Number.{number_in}
 use Rattle.names.specs.Name.{name_of}
 use Rattle.names.specs.Spelling.{longest_name, most_colours}
 use Rattle.names.specs.Colours.{name_in, names_from, names_in, find_name, named_at, colour_at, no_colours, refused_colours, with_colour, colours_from, colours_of}
-use Rattle.names.specs.declared.number.Fault.{Fault}
-use Rattle.names.specs.declared.number.Read.TheVariants.{Value}
-use Rattle.names.specs.declared.name.NameRead.{NameRead}
-use Rattle.names.specs.declared.name.NameRead.TheVariants.{Whole, Ends, Bad}
-use Rattle.names.specs.declared.colour.ColourRead.{ColourRead}
-use Rattle.names.specs.declared.colour.ColourRead.TheVariants.{At, Refused as RefusedColour}
+use Rattle.names.specs.Fault.{Fault}
+use Rattle.names.specs.Read.{Value}
+use Rattle.names.specs.NameRead.{NameRead}
+use Rattle.names.specs.NameRead.{Whole, Ends, Bad}
+use Rattle.names.specs.ColourRead.{ColourRead}
+use Rattle.names.specs.ColourRead.{At, Refused as RefusedColour}
 use Rattle.names.specs.declared.colours.Colours.{Colours}
-use Rattle.names.specs.declared.colours.ColoursRead.{ColoursRead}
+use Rattle.names.specs.ColoursRead.{ColoursRead}
 use Rattle.names.proofs.Picking.{pick_ind}
 use Rattle.names.proofs.Onwards.{onward-ind, after_colour-ind}
 use Rattle.names.proofs.ReadingNumbers.{Blamed, blamed-later, number_in_lem, number_in-refused}

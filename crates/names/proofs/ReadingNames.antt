@@ -9,8 +9,8 @@ use lib.ListN.{length, get_or}
 use lib.Dec.{ltb, leb}
 use Rattle.names.specs.Name.{least_byte, Shown, name_from, name_of}
 use Rattle.names.specs.Reads.{AllShown}
-use Rattle.names.specs.declared.name.NameRead.{NameRead}
-use Rattle.names.specs.declared.name.NameRead.TheVariants.{Whole, Ends, Bad}
+use Rattle.names.specs.NameRead.{NameRead}
+use Rattle.names.specs.NameRead.{Whole, Ends, Bad}
 use Rattle.names.proofs.Picking.{pick_ind}
 
 -- a whole name lies within the input, a name that is cut short reaches its end, and a bad byte lies within both

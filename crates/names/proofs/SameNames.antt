@@ -1,14 +1,17 @@
--- Names are the same exactly when they are equal: the test goes byte by byte, and is true only where both names end.
-use mathlib.Core.Path.{◌≡◌, refl, sym, ◌∙◌, ap₂}
+-- Names are the same exactly when they are equal, from the front or from the back: the test goes byte by byte, and is true only where both names end.
+use mathlib.Core.Path.{◌≡◌, refl, sym, ◌∙◌, ap, ap₂}
 use mathlib.Core.Bool.{Bool, true, false, true≢false}
 use mathlib.Core.List.{[], ◌∷◌}
 use mathlib.Core.Logic.{◌↔◌}
 use lib.Dec.{eqb}
 use borrow.Author.Tests.{eqb-true, eq-eqb}
+use Rattle.std.specs.Prelude.{reverse}
+use Rattle.std.specs.Bool.{Decides}
+use Rattle.std.proofs.lemmas.List.{reverse-reverse}
 use Rattle.names.specs.Pick.{pick}
 use Rattle.names.specs.Name.{Name, same_name}
 use Rattle.names.proofs.Picking.{pick_ind}
-use Rattle.names.proofs.Tests.{not-true-false}
+use Rattle.names.proofs.Tests.{not-true-false, both_ways}
 
 pub same_name-refl : (x : Name) → same_name x x ≡ true
 unfolding same_name
@@ -35,3 +38,9 @@ other_name x y = (
   λ e q. true≢false (sym ((same_name_lem x y).1 q) ∙ e),
   λ f. not-true-false (same_name x y) (λ e. f (same_name-true x y e)),
 )
+
+-- Names are the same exactly when they are equal from the back.
+pub same_back : (x y : Name) (r : Bool) → Decides r (reverse x ≡ reverse y) → r ≡ same_name x y
+same_back x y r d = both_ways r (same_name x y)
+    (λ e. (same_name_lem x y).1 (sym (reverse-reverse x) ∙ ap reverse (d.0 e) ∙ reverse-reverse y))
+    (λ e. d.1 (ap reverse (same_name-true x y e)))

@@ -12,7 +12,7 @@ use Rattle.names.specs.Put.{Puts}
 use Rattle.names.specs.Part.{Part, tail_start}
 use Rattle.names.specs.Colours.{find_name, no_colours, colours_of, ListInto}
 use Rattle.names.specs.declared.colours.Colours.{Colours}
-use Rattle.names.specs.declared.colours.ListFigures.{ListFigures}
+use Rattle.names.specs.ColoursRead.{ListFigures}
 use Rattle.names.proofs.ToldInParts.{told-rest}
 
 -- what is equal to one thing is equal
@@ -71,19 +71,19 @@ front-settled s len = part-settles s _ _
 pub read_name-settled : (s : List ℕ) (len : ℕ) → Settles (name_of s len)
 read_name-settled s len = settles _
 
-pub same_name-settled : (a : List ℕ) (a_len : ℕ) (b : List ℕ) (b_len : ℕ) → Settles (same_name (take a_len a) (take b_len b))
-same_name-settled a a_len b b_len = settles _
+pub same_name-settled : (a b : List ℕ) → Settles (same_name a b)
+same_name-settled a b = settles _
 
-pub copy_name-settled : (name : List ℕ) (len : ℕ) (out : List ℕ) (at : ℕ) → SettlesBoth (Puts out at (take len name))
-copy_name-settled name len out at = puts-settle out at (take len name)
+pub copy_name-settled : (name : List ℕ) (out : List ℕ) (at : ℕ) → SettlesBoth (Puts out at name)
+copy_name-settled name out at = puts-settle out at name
 
 -- ── Colours ──
 
 pub no_colours-settled : Settles no_colours
 no_colours-settled = settles _
 
-pub find_name-settled : (s : List ℕ) (c : Colours) (name : List ℕ) (len : ℕ) → Settles (find_name s c (take len name))
-find_name-settled s c name len = settles _
+pub find_name-settled : (s : List ℕ) (c : Colours) (name : List ℕ) → Settles (find_name s c name)
+find_name-settled s c name = settles _
 
 pub read_colours-settled : (s : List ℕ) → Settles (colours_of s)
 read_colours-settled s = settles _

@@ -14,11 +14,11 @@ use Rattle.names.specs.Number.{number_in, spell_number}
 use Rattle.names.specs.Name.{Name, name_of}
 use Rattle.names.specs.Colours.{names_in, find_name, colour_at, no_colours, refused_colours, with_colour, colours_from, colours_of}
 use Rattle.names.specs.Spelling.{longest_name, most_colours, NameOk, ColoursOk, spell_names, spell_colours}
-use Rattle.names.specs.declared.number.Fault.{Fault}
-use Rattle.names.specs.declared.name.NameRead.TheVariants.{Whole}
-use Rattle.names.specs.declared.colour.ColourRead.TheVariants.{At}
+use Rattle.names.specs.Fault.{Fault}
+use Rattle.names.specs.NameRead.{Whole}
+use Rattle.names.specs.ColourRead.{At}
 use Rattle.names.specs.declared.colours.Colours.{Colours}
-use Rattle.names.specs.declared.colours.ColoursRead.{ColoursRead}
+use Rattle.names.specs.ColoursRead.{ColoursRead}
 use Rattle.names.proofs.Picking.{pick_ind}
 use Rattle.names.proofs.Onwards.{onward-ind, after_colour-ind}
 use Rattle.names.proofs.ReadingNumbers.{number-there, number_in_lem, number_in-range, number_in-refused}

@@ -10,8 +10,8 @@ use lib.ListN.{length, get_or, take, drop, length-append, take-append-drop}
 use lib.Seq.{length-take-le, get_or-append_seam, get_or-append-add, drop-cons}
 use Rattle.names.specs.Bytes.{Bytes}
 use Rattle.names.specs.Number.{greatest_number, last_group, longer_at, number_at, spell_number}
-use Rattle.names.specs.declared.number.Read.{Read}
-use Rattle.names.specs.declared.number.Read.TheVariants.{Value, Refused}
+use Rattle.names.specs.Read.{Read}
+use Rattle.names.specs.Read.{Value, Refused}
 use Rattle.names.proofs.Tests.{lt-or-le}
 use Rattle.names.proofs.ReadingNumbers.{number-cases}
 

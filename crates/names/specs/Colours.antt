@@ -5,14 +5,14 @@ use Rattle.names.specs.Onward.{onward, faultless}
 use Rattle.names.specs.Number.{number_in}
 use Rattle.names.specs.Name.{Name, name_of, listed}
 use Rattle.names.specs.Spelling.{longest_name, most_colours}
-use Rattle.names.specs.declared.number.Fault.{Fault}
-use Rattle.names.specs.declared.name.NameRead.{NameRead}
-use Rattle.names.specs.declared.name.NameRead.TheVariants.{Whole, Ends, Bad}
-use Rattle.names.specs.declared.colour.ColourRead.{ColourRead}
-use Rattle.names.specs.declared.colour.ColourRead.TheVariants.{At, Refused as RefusedColour}
+use Rattle.names.specs.Fault.{Fault}
+use Rattle.names.specs.NameRead.{NameRead}
+use Rattle.names.specs.NameRead.{Whole, Ends, Bad}
+use Rattle.names.specs.ColourRead.{ColourRead}
+use Rattle.names.specs.ColourRead.{At, Refused as RefusedColour}
 use Rattle.names.specs.declared.colours.Colours.{Colours}
-use Rattle.names.specs.declared.colours.ColoursRead.{ColoursRead}
-use Rattle.names.specs.declared.colours.ListFigures.{ListFigures}
+use Rattle.names.specs.ColoursRead.{ColoursRead}
+use Rattle.names.specs.ColoursRead.{ListFigures}
 
 -- so many colours, with the place and the length of each name
 abbrev pub list_of : ℕ → List ℕ → List ℕ → Colours

@@ -1,8 +1,8 @@
 -- What reading a name finds, when two names are the same, and which number a name has in a list.
 use Rattle.std.specs.Prelude.{ℕ, zero, suc, ◌+◌, ◌≤◌, List, [], ◌∷◌, Bool, true, false, length, get_or, ltb, leb, eqb}
 use Rattle.names.specs.Pick.{pick}
-use Rattle.names.specs.declared.name.NameRead.{NameRead}
-use Rattle.names.specs.declared.name.NameRead.TheVariants.{Whole, Ends, Bad}
+use Rattle.names.specs.NameRead.{NameRead}
+use Rattle.names.specs.NameRead.{Whole, Ends, Bad}
 
 -- a name is its bytes
 abbrev pub Name : Type 0

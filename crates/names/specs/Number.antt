@@ -2,8 +2,8 @@
 use Rattle.std.specs.Prelude.{ℕ, ◌+◌, ◌*◌, ◌/◌, ◌%◌, List, [], ◌∷◌, length, get_or, ltb, leb, eqb}
 use Rattle.names.specs.Pick.{pick, fault}
 use Rattle.names.specs.Onward.{onward}
-use Rattle.names.specs.declared.number.Read.{Read}
-use Rattle.names.specs.declared.number.Read.TheVariants.{Value, Refused}
+use Rattle.names.specs.Read.{Read}
+use Rattle.names.specs.Read.{Value, Refused}
 
 -- the greatest number: three groups of ones
 abbrev pub greatest_number : ℕ

@@ -2,9 +2,9 @@
 -- these `refuse` takes the fault, and what was read goes on to what follows it.
 use Rattle.std.specs.Prelude.{ℕ, List, length, ltb, eqb}
 use Rattle.names.specs.Pick.{pick, fault}
-use Rattle.names.specs.declared.number.Fault.{Fault}
-use Rattle.names.specs.declared.number.Read.{Read}
-use Rattle.names.specs.declared.number.Read.TheVariants.{Value, Refused}
+use Rattle.names.specs.Fault.{Fault}
+use Rattle.names.specs.Read.{Read}
+use Rattle.names.specs.Read.{Value, Refused}
 
 -- after a number: `go` takes it and the place after it
 abbrev pub onward {ℓ} : {A : Type ℓ} → (Fault → A) → Read → (ℕ → ℕ → A) → A

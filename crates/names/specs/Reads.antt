@@ -2,11 +2,11 @@
 use Rattle.std.specs.Prelude.{ℕ, ◌+◌, ◌*◌, ◌%◌, ◌<◌, ◌≤◌, ◌≡◌, List, ◌⊎◌, length, get_or}
 use Rattle.names.specs.Pick.{fault}
 use Rattle.names.specs.Name.{Shown}
-use Rattle.names.specs.declared.number.Fault.{Fault}
-use Rattle.names.specs.declared.number.Read.{Read}
-use Rattle.names.specs.declared.number.Read.TheVariants.{Value, Refused}
-use Rattle.names.specs.declared.name.NameRead.{NameRead}
-use Rattle.names.specs.declared.name.NameRead.TheVariants.{Whole, Ends, Bad}
+use Rattle.names.specs.Fault.{Fault}
+use Rattle.names.specs.Read.{Read}
+use Rattle.names.specs.Read.{Value, Refused}
+use Rattle.names.specs.NameRead.{NameRead}
+use Rattle.names.specs.NameRead.{Whole, Ends, Bad}
 
 -- a number that is due at a place: a byte above 127 asks for another group, and there are three at most
 pub data Reads (s : List ℕ) (at : ℕ) (r : Read) : Type 0 where

@@ -5,9 +5,9 @@ use Rattle.names.specs.Pick.{fault}
 use Rattle.names.specs.Name.{Name}
 use Rattle.names.specs.Reads.{ReadsIn, ReadsName}
 use Rattle.names.specs.Spelling.{longest_name, most_colours}
-use Rattle.names.specs.declared.number.Fault.{Fault}
-use Rattle.names.specs.declared.number.Read.TheVariants.{Value, Refused}
-use Rattle.names.specs.declared.name.NameRead.TheVariants.{Whole, Ends, Bad}
+use Rattle.names.specs.Fault.{Fault}
+use Rattle.names.specs.Read.{Value, Refused}
+use Rattle.names.specs.NameRead.{Whole, Ends, Bad}
 
 -- the bytes of a name
 abbrev pub bytes_at : List ℕ → ℕ → ℕ → Name

@@ -1,18 +1,19 @@
 // A colour list: a count, then each name with its length before it. No name stands twice.
-ghost use Rattle.std.specs.Prelude.{◌≡◌, ◌≤◌, take, drop};
+ghost use Rattle.std.specs.Prelude.{◌≡◌, ◌<◌, take, drop, IfOk, IfErr, IfSome};
+ghost use Rattle.names.specs.Fault.{told_fault};
 ghost use Rattle.names.specs.Name.{same_name};
-ghost use Rattle.names.specs.Spelling.{most_colours};
-ghost use Rattle.names.specs.Colours.{list_of, find_name, no_colours, refused_colours, colours_from, colours_of, ListInto};
+ghost use Rattle.names.specs.Colours.{list_of, find_name, no_colours, refused_colours, colours_of, ListInto};
+ghost use Rattle.names.specs.Told.{told_colours, told_list, told_found};
+ghost use Rattle.names.specs.inner.Walks.{first_named};
 
-use crate::colour::ColourRead;
-use crate::fault::fault;
-use crate::number::{Fault, Read};
-use crate::{colour, name, number};
+use crate::fault::{Fault, Refusal};
+use crate::name::{front, same_name, tail};
+use crate::reader::Reader;
 
-// A list has no more colours than this.
+/// A list has no more colours than this.
 pub const MOST_COLOURS: usize = 64;
 
-// Where each name of a list starts in the input and how long it is; 0 past the count.
+/// Where each name of a list starts in the input and how long it is; 0 past the count.
 #[derive(Clone, Copy)]
 pub struct Colours {
     pub count: usize,
@@ -20,23 +21,21 @@ pub struct Colours {
     pub lens: [u8; MOST_COLOURS],
 }
 
-// A list that was read, with the place after it; a refused one has no colours and the place 0.
+/// A list that was read, with the place after it.
 #[derive(Clone, Copy)]
-pub struct ColoursRead {
-    pub fault: Fault,
+pub struct ColourList {
     pub colours: Colours,
     pub next: usize,
 }
 
-// What is told of a list whose places went into lent arrays.
+/// How many names a list has whose places went into lent arrays, with the place after it.
 #[derive(Clone, Copy)]
-pub struct ListFigures {
-    pub fault: Fault,
+pub struct Listed {
     pub count: usize,
     pub next: usize,
 }
 
-// A list with no name.
+/// A list with no name.
 pub fn no_colours() -> Colours
     ensures { result ≡ no_colours }
 {
@@ -47,119 +46,94 @@ pub fn no_colours() -> Colours
     }
 }
 
-// A refused list leaves 0 in all of both arrays.
-fn refuse_list(
-    f: Fault,
-    starts: &mut [u16; MOST_COLOURS],
-    lens: &mut [u8; MOST_COLOURS],
-) -> ListFigures
-    ensures { ListInto (refused_colours f) result starts.new lens.new }
-{
-    *starts = [0; MOST_COLOURS];
-    *lens = [0; MOST_COLOURS];
-    ListFigures {
-        fault: f,
-        count: 0,
-        next: 0,
-    }
-}
-
 // Whether the name of so many bytes at a place of s is this one.
-fn is_named(s: &[u8], start: u16, size: u8, name: &[u8], len: usize) -> bool
-    ensures { result ≡ same_name (take size (drop start s.now)) (take len name.now) }
+fn is_named(s: &[u8], start: u16, len: u8, name: &[u8]) -> bool
+    ensures { result ≡ same_name (take len (drop start s.now)) name.now }
 {
-    name::same_name(name::tail(s, start as usize), size as usize, name, len)
+    same_name(front(tail(s, usize::from(start)), usize::from(len)), name)
 }
 
-// The number of the colour with this name in a list over s, or the count where no colour has it. The list is lent in its parts, since a struct
-// would be copied at every look.
-pub fn find_name<'a>(
+// The first of the names at some places, of some lengths, that is this one.
+#[tactic(auto, unfolding(crate::specs::inner::Walks::first_named))]
+fn first_named(s: &[u8], starts: &[u16], lens: &[u8], name: &[u8]) -> Option<usize>
+    ensures { result ≡ first_named s.now name.now starts.now lens.now }
+{
+    starts
+        .iter()
+        .zip(lens)
+        .position(|(start, len)| is_named(s, *start, *len, name))
+}
+
+/// The number of the colour with this name in a list over s. The list is lent in its parts, as it stands while it is read.
+#[tactic(auto, unfolding(crate::specs::Colours::find_name))]
+pub fn find_name(
     s: &[u8],
     count: usize,
-    starts: &'a [u16; MOST_COLOURS],
-    lens: &'a [u8; MOST_COLOURS],
+    starts: &[u16; MOST_COLOURS],
+    lens: &[u8; MOST_COLOURS],
     name: &[u8],
-    len: usize,
-) -> usize
-    ensures { result ≡ find_name s.now (list_of count starts.now lens.now) (take len name.now) }
+) -> Option<usize>
+    ensures found { told_found count result ≡ find_name s.now (list_of count starts.now lens.now) name.now }
+    ensures inside { IfSome result (λ j. j < count) }
 {
-    if MOST_COLOURS < count {
-        return count;
-    }
-    for j in 0..count {
-        if is_named(s, starts[j], lens[j], name, len) {
-            return j;
-        }
-    }
-    count
+    first_named(s, starts.get(..count)?, lens.get(..count)?, name)
 }
 
-// So many names from a place near the start on.
+// The places of the names of the list that the input begins with, into arrays that hold 0.
+#[tactic(auto, unfolding(crate::specs::Colours::colours_of))]
 fn read_names(
     s: &[u8],
-    count: usize,
-    from: usize,
     starts: &mut [u16; MOST_COLOURS],
     lens: &mut [u8; MOST_COLOURS],
-) -> ListFigures
-    requires { (count ≤ most_colours) × (from ≤ 3) }
-    ensures { ListInto (colours_from s.now no_colours from count) result starts.new lens.new }
+) -> Result<Listed, Fault>
+    requires starts { starts.old ≡ no_colours.starts }
+    requires lens { lens.old ≡ no_colours.lens }
+    ensures ok { IfOk result (λ _. ListInto (colours_of s.now) (told_list result) starts.new lens.new) }
+    ensures err { IfErr result (λ f. colours_of s.now ≡ refused_colours (told_fault f)) }
 {
-    *starts = [0; MOST_COLOURS];
-    *lens = [0; MOST_COLOURS];
-    let mut at = from;
+    let mut reader = Reader::new(s);
+    let count = reader.within(1, MOST_COLOURS)?;
     for i in 0..count {
-        let r = colour::read_colour(s, at);
-        match r {
-            ColourRead::Refused(f) => return refuse_list(f, starts, lens),
-            ColourRead::At(start, len) => {
-                if find_name(s, i, starts, lens, name::tail(s, start), len) < i {
-                    return refuse_list(fault(5, start), starts, lens);
-                }
-                starts[i] = start as u16;
-                lens[i] = len as u8;
-                at = start + len;
-            }
+        let span = reader.colour()?;
+        let name = front(tail(s, span.start), span.len);
+        if find_name(s, i, starts, lens, name).is_some() {
+            return Err(Refusal::TwiceInList.at(span.start));
         }
+        starts[i] = span.start as u16;
+        lens[i] = span.len as u8;
     }
-    ListFigures {
-        fault: fault(0, 0),
+    Ok(Listed {
         count,
-        next: at,
-    }
+        next: reader.at,
+    })
 }
 
-// The colour list that the input begins with, read into lent arrays: whatever they held, they end with the places of the list and 0 past its
-// count.
+/// The colour list that the input begins with, read into lent arrays: whatever they held, they end with the places of the list and 0 past its
+/// count. A refused list leaves 0 in all of both arrays.
 pub fn read_list(
     s: &[u8],
     starts: &mut [u16; MOST_COLOURS],
     lens: &mut [u8; MOST_COLOURS],
-) -> ListFigures
-    ensures { ListInto (colours_of s.now) result starts.new lens.new }
+) -> Result<Listed, Fault>
+    ensures { ListInto (colours_of s.now) (told_list result) starts.new lens.new }
 {
-    let r = number::read_in(s, 0, 1, MOST_COLOURS);
-    match r {
-        Read::Refused(f) => refuse_list(f, starts, lens),
-        Read::Value(count, at) => read_names(s, count, at, starts, lens),
+    *starts = [0; MOST_COLOURS];
+    *lens = [0; MOST_COLOURS];
+    let read = read_names(s, starts, lens);
+    if read.is_err() {
+        *starts = [0; MOST_COLOURS];
+        *lens = [0; MOST_COLOURS];
     }
+    read
 }
 
-// The same list as a value.
-pub fn read_colours(s: &[u8]) -> ColoursRead
-    ensures { result ≡ colours_of s.now }
+/// The same list as a value.
+#[tactic(auto, using(crate::proofs::Refusing::refused_list))]
+pub fn read_colours(s: &[u8]) -> Result<ColourList, Fault>
+    ensures { told_colours result ≡ colours_of s.now }
 {
-    let mut starts = [0u16; MOST_COLOURS];
-    let mut lens = [0u8; MOST_COLOURS];
-    let r = read_list(s, &mut starts, &mut lens);
-    let fault = r.fault;
-    ColoursRead {
-        fault,
-        colours: Colours {
-            count: r.count,
-            starts,
-            lens,
-        },
-        next: r.next,
-    }
+    let mut colours = no_colours();
+    let Listed { count, next } = read_list(s, &mut colours.starts, &mut colours.lens)?;
+    colours.count = count;
+    Ok(ColourList { colours, next })
 }

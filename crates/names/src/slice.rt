@@ -1,13 +1,9 @@
 // A lent slice of numbers.
 ghost use Rattle.std.specs.Prelude.{◌≡◌, length, replicate};
 
-// Sets every entry to 0.
+/// Sets every entry to 0.
 pub fn clear(slice: &mut [u32])
     ensures { slice.new ≡ replicate (length slice.old) 0 }
 {
-    let mut i = 0;
-    while i < slice.len() {
-        slice[i] = 0;
-        i += 1;
-    }
+    slice.fill(0);
 }

@@ -2,13 +2,10 @@
 ghost use Rattle.std.specs.Prelude.{◌≡◌};
 ghost use Rattle.names.specs.Bits.{is_set};
 
-// Whether a bit is set. A word has 32 bits.
+/// Whether a bit is set. A word has 32 bits.
+#[tactic(auto, unfolding(crate::specs::Bits::is_set, crate::specs::Bits::bit))]
 pub fn is_set(word: u32, bit: u8) -> bool
     ensures { result ≡ is_set word bit }
 {
-    if bit < 32 {
-        (word >> (bit as u32)) % 2 == 1
-    } else {
-        false
-    }
+    bit < 32 && (word >> bit) % 2 == 1
 }

@@ -9,14 +9,19 @@ use native.Mathlib.Omega.{arith}
 use borrow.Author.Tests.{eq-eqb, ne_eqb, lt-ltb, le-ltb}
 use lib.ListN.{length, get_or}
 use Rattle.names.proofs.Settled.{Settles, settles, SettlesBoth, settled}
+use Rattle.std.specs.Prelude.{Result, Ok, Err}
 use Rattle.names.specs.Bytes.{Bytes}
+use Rattle.names.specs.declared.fault.Fault.{Fault as CodeFault}
 use Rattle.names.proofs.Tests.{true-or-false}
 use Rattle.books.specs.Press.{IsPress}
 use Rattle.books.specs.Contents.{Contents}
 use Rattle.books.specs.Picture.{Picture}
 use Rattle.books.specs.Derives.{Derives, Member}
 use Rattle.books.specs.Decide.{derives?}
-use Rattle.books.specs.Book.{book_of}
+use Rattle.books.specs.Book.{book_of, refused_book}
+use Rattle.books.specs.declared.family.Family.{Family}
+use Rattle.books.proofs.Following.{told-some}
+use Rattle.books.proofs.Settled.{book-one}
 use Rattle.books.specs.Sheet.{sheet_of}
 use Rattle.books.specs.Answer.{plain, blaming}
 use Rattle.books.specs.declared.answer.Answer.{Answer}
@@ -25,7 +30,9 @@ use Rattle.books.proofs.Deciding.{decided, refused}
 use Rattle.books.proofs.LentEnds.{Refusal, no_press, in_book, in_sheet}
 use Rattle.books.proofs.ReadingBooks.{book-accepted}
 use Rattle.pieces.specs.declared.asking.Asked.{Asked}
-use Rattle.pieces.specs.declared.asking.Split.{Split}
+use Rattle.pieces.specs.Split.{Split, told_split}
+use Rattle.pieces.specs.Masks.{no_joins}
+use Rattle.pieces.specs.declared.asking.Split.{Split as CodeSplit}
 use Rattle.pieces.specs.declared.masks.Joins.{Joins}
 use Rattle.pieces.specs.declared.piece.Piece.{Piece}
 use Rattle.pieces.specs.Pieces.{Inside, slot_of}
@@ -138,6 +145,17 @@ module _ (press : ℕ) (book sheet entries numbers : List ℕ) (fine : (book_of 
 
 pub split_book-settled : (book masks : List ℕ) → SettlesBoth (λ (r : Split) (left : List ℕ). kept_with r left ≡ split_book book masks)
 split_book-settled book masks r q x y e f = let same = settled e f in (ap (λ (s : SplitBook). s.split) same, ap (λ (s : SplitBook). s.masks) same)
+
+-- and what the code gives is told with nothing left out
+pub split-one : (q r : Result CodeSplit CodeFault) → told_split q ≡ told_split r → q ≡ r
+split-one (Ok s) (Ok t) e = ap (λ (x : Split). Ok (record { colours = x.colours; start = x.start; joins = x.joins })) e
+split-one (Err f) (Err g) e = ap again (book-one (Err f) (Err g) (ap (λ (x : Split). refused_book x.fault) e))
+  where
+    again : Result Family CodeFault → Result CodeSplit CodeFault
+    again (Ok x) = Ok (record { colours = x.colours; start = x.start; joins = no_joins })
+    again (Err f) = Err f
+split-one (Ok s) (Err g) e = absurd (told-some g (sym (ap (λ (x : Split). x.fault.number) e)))
+split-one (Err f) (Ok t) e = absurd (told-some f (ap (λ (x : Split). x.fault.number) e))
 
 pub ask_sheet-settled : (press : ℕ) (book : List ℕ) (split : Split) (masks sheet before entries : List ℕ) (r q : Asked) (cells numbers left after : List ℕ)
     → asked_with r cells left ≡ ask_sheet press book split masks sheet before entries → asked_with q numbers after ≡ ask_sheet press book split masks sheet before entries

@@ -1,14 +1,17 @@
 -- By what is kept of an accepted book, a sheet is told what asking the book says: the masks serve the book's rules, so that the table is that of the book, and the bit
 -- of the start motif at the whole sheet says whether it derives the sheet.
 use Prim.Native.Nat.{ℕ, ◌≤◌, ◌<◌}
-use mathlib.Core.Path.{◌≡◌, sym, ap, ◌∙◌, subst}
+use mathlib.Core.Path.{◌≡◌, sym, ap, ap₂, ◌∙◌, subst}
 use mathlib.Core.List.{List}
 use native.Mathlib.Decide.{dec_lt, ℕ_discrete}
 use native.Mathlib.Omega.{arith}
 use borrow.Author.Tests.{eq-eqb, ne_eqb, lt-ltb, le-ltb}
 use lib.ListN.{length, take}
 use Rattle.names.specs.declared.colours.Colours.{Colours}
-use Rattle.names.specs.declared.number.Fault.{Fault}
+use Rattle.std.specs.Prelude.{Ok, Err}
+use Rattle.names.specs.Pick.{fault}
+use Rattle.names.specs.Fault.{Fault, told_fault}
+use Rattle.names.specs.declared.fault.Fault.{Fault as CodeFault}
 use Rattle.names.specs.Bytes.{Bytes}
 use Rattle.books.specs.Book.{book_of}
 use Rattle.books.specs.Contents.{Contents}
@@ -16,14 +19,14 @@ use Rattle.books.specs.Numbering.{numbers_of, numbers_for, Numbers}
 use Rattle.books.specs.Picture.{Picture}
 use Rattle.books.specs.Sheet.{sheet_of, over, sheet_figures}
 use Rattle.books.specs.declared.family.Family.{Family}
-use Rattle.books.specs.declared.sheet.SheetFigures.{SheetFigures}
+use Rattle.books.specs.SheetRead.{SheetFigures}
+use Rattle.books.specs.Answer.{blaming}
+use Rattle.books.specs.Told.{told_book, told_figures}
+use Rattle.books.proofs.Following.{told-some}
 use Rattle.books.specs.declared.sheet.Sheet.{Sheet}
 use Rattle.books.proofs.NumberedCells.{numbers_for_lem, numbers-long, numbers-few}
 use Rattle.books.proofs.Presses.{greatest-few}
 use Rattle.books.proofs.SizesWithin.{within_more}
-use Rattle.books.proofs.LentRules.{rows_back}
-use Rattle.books.specs.RuleBytes.{BookInto, rules_in}
-use Rattle.books.specs.declared.lent.BookFigures.{BookFigures}
 use Rattle.books.proofs.ReadingBooks.{book-places}
 use Rattle.books.proofs.ReadingSheets.{sheet-lies}
 use Rattle.pieces.specs.Area.{whole}
@@ -34,7 +37,7 @@ use Rattle.pieces.specs.Largest.{marked}
 use Rattle.pieces.specs.Masks.{all_masks, Masked, split_of, laid}
 use Rattle.pieces.specs.Rights.{Serves}
 use Rattle.pieces.specs.declared.asking.Asked.{Asked}
-use Rattle.pieces.specs.declared.asking.Split.{Split}
+use Rattle.pieces.specs.Split.{Split, told_split}
 use Rattle.pieces.specs.inner.ForTable.{Shows}
 use Rattle.pieces.proofs.AcceptedInputs.{rules-read, as_read, cells_over}
 use Rattle.pieces.proofs.Cutting.{whole-inside, cut-whole}
@@ -46,11 +49,14 @@ use Rattle.pieces.proofs.WholeTable.{whole-table}
 
 -- ── What was read ──
 
-pub read-split : (book before : List ℕ) {b : BookFigures} {rows : List (List ℕ)} {s : Masked} → BookInto book b rows
-    → s ≡ laid b.fault.number (rules_in (take b.rules rows)) before
-    → kept_with (record { fault = b.fault; colours = b.colours; start = b.start; joins = s.joins }) s.masks ≡ split_book book before
+pub read-split : (book before : List ℕ) {f : Family} {s : Masked} → told_book (Ok f) ≡ book_of book → s ≡ laid 0 (take f.count f.rules) before
+    → kept_with (record { fault = fault 0 0; colours = f.colours; start = f.start; joins = s.joins }) s.masks ≡ split_book book before
 unfolding split_book
-read-split book before read is = rw (is, rows_back book read, read.figures)
+read-split book before read is = rw (is, ← read)
+
+pub refused-split : (book before : List ℕ) (f : CodeFault) → told_book (Err f) ≡ book_of book → kept_with (told_split (Err f)) before ≡ split_book book before
+unfolding split_book laid
+refused-split book before f read = rw (← read, ne_eqb (told_fault f).number 0 (told-some f))
 
 pub read-shows : (press : ℕ) (book : List ℕ) (c : Colours) (sheet before : List ℕ) {g : SheetFigures} {cells : List ℕ} → Numbers press book c sheet before g cells
     → g.fault.number ≡ 0 → Shows g cells
@@ -63,6 +69,19 @@ read-shows press book c sheet before n = rw (n.figures, n.cells) shows
           sizes = within_more (greatest-few press) k.within;
           painted = record { all = numbers-long press book c sheet before; low = λ i h. omega (arith, numbers-few press book c sheet before i h) };
         }
+
+-- a refused sheet has no ticket and no size
+pub refused-sheet : (press : ℕ) (book : List ℕ) (split : Split) (masks sheet before entries : List ℕ) (f : CodeFault) {cells : List ℕ}
+    → Numbers press book split.colours sheet before (told_figures (Err f)) cells
+    → asked_with (record { answer = blaming 2 (told_fault f); ticket = 0; size = record { rows = 0; cols = 0 } }) cells entries
+    ≡ ask_sheet press book split masks sheet before entries
+unfolding ask_sheet told_by
+refused-sheet press book split masks sheet before entries f {cells} n =
+    blamed ∙ ap₂ (λ (g : SheetFigures) (x : List ℕ). sheet_told g x (told_by g x split.start split.joins masks entries)) n.figures n.cells
+  where
+    blamed : asked_with (record { answer = blaming 2 (told_fault f); ticket = 0; size = record { rows = 0; cols = 0 } }) cells entries
+        ≡ sheet_told (told_figures (Err f)) cells (told_by (told_figures (Err f)) cells split.start split.joins masks entries)
+    blamed = rw (ne_eqb (told_fault f).number 0 (told-some f))
 
 -- ── What is kept of a book ──
 

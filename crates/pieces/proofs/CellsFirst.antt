@@ -20,11 +20,11 @@ slot-last-cell m n hm hn =
     let a : (m - 1 + 1) * n ≡ m * n = ap (λ (x : ℕ). x * n) (omega arith) in
     omega (arith, slot-cell m n (m - 1) (n - 1), add-mul (m - 1) 1 n, one-mul n)
 
-pub last-cell-inside : (m n : ℕ) → 1 ≤ m → 1 ≤ n → Inside m n (piece 1 1 (m - 1) (n - 1))
-last-cell-inside m n hm hn = record { tall = omega arith; wide = omega arith; low = omega arith; right = omega arith }
+pub last-cell_inside : (m n : ℕ) → 1 ≤ m → 1 ≤ n → Inside m n (piece 1 1 (m - 1) (n - 1))
+last-cell_inside m n hm hn = record { tall = omega arith; wide = omega arith; low = omega arith; right = omega arith }
 
 pub cells-few : (m n : ℕ) → 1 ≤ m → 1 ≤ n → m * n ≤ total m n
-cells-few m n hm hn = omega (arith, slot-last-cell m n hm hn, slot_lt m n (piece 1 1 (m - 1) (n - 1)) (last-cell-inside m n hm hn))
+cells-few m n hm hn = omega (arith, slot-last-cell m n hm hn, slot_lt m n (piece 1 1 (m - 1) (n - 1)) (last-cell_inside m n hm hn))
 
 pub cell-before : (m n t l : ℕ) → t < m → l < n → t * n + l < m * n
 cell-before m n t l ht hl =

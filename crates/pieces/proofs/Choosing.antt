@@ -94,7 +94,7 @@ pub suits-taken : (v : View) (rules : List Rule) (a : ℕ) (q : Piece) (i : ℕ)
 unfolding taken takes
 suits-taken v rules a q i x e s = rw e (and-make _ _ (eq-eqb a a refl) ((fits-suits v q x).1 s))
 
-lowest-below : (v : View) (rules : List Rule) (a : ℕ) (q : Piece) → SomeFits v rules a q → lowest v rules a q < length rules
+pub lowest-below : (v : View) (rules : List Rule) (a : ℕ) (q : Piece) → SomeFits v rules a q → lowest v rules a q < length rules
 unfolding lowest
 lowest-below v rules a q f =
     let low : Least (taken v rules a q) 0 (length rules) (lowest v rules a q) = least-is (taken v rules a q) 0 (length rules) in
@@ -103,10 +103,6 @@ lowest-below v rules a q f =
     (λ h. absurd (true≢false (sym here ∙ low.lower f.number (omega arith) h)))
     (λ h. omega (arith, f.below))
     (lt-or-le f.number (lowest v rules a q))
-
-pub still-below : (v : View) (rules : List Rule) (a : ℕ) (q : Piece) → SomeFits v rules a q → (i n : ℕ) → least (taken v rules a q) i n ≡ lowest v rules a q
-    → i < length rules
-still-below v rules a q f i n e = omega (arith, (least-is (taken v rules a q) i n).from, lowest-below v rules a q f)
 
 -- A body that fits is chosen as it should be.
 chosen-right : (v : View) (rules : List Rule) (a : ℕ) (q : Piece) (i : ℕ) (x : Body) → Taken v rules a q i x → Right v rules a q (chosen v.has q i x)

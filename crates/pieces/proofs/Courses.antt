@@ -28,9 +28,13 @@ shorter-le : (d : Dir) {m n : ℕ} {p : Piece} → Inside m n p → shorter d n 
 shorter-le across i = omega arith
 shorter-le down {m} {n} {p} i = stretches-mono n p.width n (omega arith)
 
-reach-le : (d : Dir) {m n : ℕ} {p : Piece} → Inside m n p → reach d p ≤ cells d m n
+pub reach-le : (d : Dir) {m n : ℕ} {p : Piece} → Inside m n p → reach d p ≤ cells d m n
 reach-le across i = omega arith
 reach-le down i = omega arith
+
+pub reach_some : (d : Dir) {m n : ℕ} {p : Piece} → Inside m n p → 1 ≤ reach d p
+reach_some across i = i.wide
+reach_some down i = i.tall
 
 -- some changes are at least one
 some : (x c e : ℕ) → 1 ≤ x → e ≤ c → e ≤ x * c

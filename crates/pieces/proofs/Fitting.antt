@@ -1,25 +1,22 @@
 -- What fits a piece and what is taken there, one case at a time.
-use Prim.Native.Nat.{ℕ, ◌≤◌, ◌<◌}
+use Prim.Native.Nat.{ℕ}
 use mathlib.Core.Path.{◌≡◌, refl, ap, ◌∙◌}
 use mathlib.Core.Bool.{Bool, true, false}
-use mathlib.Core.List.{List, []}
 use lib.Dec.{ltb}
-use lib.ListN.{get_or}
-use borrow.Author.Tests.{eq-eqb, ne_eqb, lt-ltb, le-ltb}
+use borrow.Author.Tests.{eq-eqb, ne_eqb}
 use Rattle.books.specs.declared.rule.Rule.{Rule}
-use Rattle.books.specs.declared.rule.Body.{Body}
+use Rattle.books.specs.declared.rule.Body.TheVariants.{Colour}
 use Rattle.pieces.specs.declared.piece.Piece.{Piece}
 use Rattle.books.specs.declared.rule.Dir.{Dir}
 use Rattle.books.specs.declared.rule.Dir.TheVariants.{Across as across, Down as down}
+use Rattle.pieces.specs.declared.choice.Choice.{Choice}
 use Rattle.pieces.specs.declared.choice.Choice.TheVariants.{Leaf, Join}
-use Rattle.pieces.specs.declared.choice.Tried.{Tried}
-use Rattle.pieces.specs.declared.choice.Tried.TheVariants.{Taken, Passed}
+use Rattle.std.specs.declared.option.Option.{Option}
+use Rattle.std.specs.declared.option.Option.TheVariants.{Some, None}
 use Rattle.pieces.specs.Parts.{reach}
 use Rattle.pieces.specs.View.{View}
 use Rattle.books.specs.Picture.{joins}
-use Rattle.books.specs.RuleBytes.{kind_dir, rule_in, rules_in}
-use Rattle.books.proofs.LentRules.{colour_in, join-in, rule_of-row}
-use Rattle.pieces.specs.Choice.{cut_of, covers, fits, takes, taken, lowest, chosen, choose}
+use Rattle.pieces.specs.Choice.{cut_of, covers, fits, takes, chosen}
 use Rattle.pieces.specs.inner.Tried.{tried}
 use Rattle.names.proofs.Picking.{pick_ind}
 use Rattle.names.proofs.Tests.{and-on, and-off}
@@ -49,63 +46,19 @@ unfolding chosen
 joins-chosen has q i across l r = refl
 joins-chosen has q i down l r = refl
 
--- The rule in a row is held to its head first, and then to its body: it is taken where both fit, and passed over else.
-module _ (v : View) (a : ℕ) (q : Piece) (i : ℕ) (row : List ℕ) where
-  by-body : get_or row 0 0 ≡ a → {x : Body} → (rule_in row).body ≡ x → takes v a q (rule_in row) ≡ fits v q x
-  unfolding takes rule_in
-  by-body own e = and-on _ _ (eq-eqb _ _ own) ∙ ap (fits v q) e
-
-  taken_as : {x : Body} → (rule_in row).body ≡ x → takes v a q (rule_in row) ≡ true → Taken (chosen v.has q i x) ≡ tried v a q i (rule_in row)
-  unfolding tried
-  taken_as e t = rw (t, e)
-
-  passed-as : takes v a q (rule_in row) ≡ false → Passed ≡ tried v a q i (rule_in row)
-  unfolding tried
-  passed-as t = rw t
-
-  pub other-passed : (get_or row 0 0 ≡ a → ⊥) → Passed ≡ tried v a q i (rule_in row)
-  unfolding takes rule_in
-  other-passed other = passed-as (and-off _ _ (ne_eqb _ _ other))
-
-  module _ (own : get_or row 0 0 ≡ a) (colour : get_or row 1 0 ≡ 0) where
-    pub colour-taken : covers v.paints q (get_or row 2 0) ≡ true → Taken (Leaf i) ≡ tried v a q i (rule_in row)
-    unfolding fits chosen
-    colour-taken e = let body = colour_in row colour in taken_as body (by-body own body ∙ e)
-
-    pub colour-passed : covers v.paints q (get_or row 2 0) ≡ false → Passed ≡ tried v a q i (rule_in row)
-    unfolding fits
-    colour-passed e = passed-as (by-body own (colour_in row colour) ∙ e)
-
-  module _ (own : get_or row 0 0 ≡ a) (join : get_or row 1 0 ≡ 0 → ⊥) {d : Dir} (e : d ≡ kind_dir (get_or row 1 0))
-      {k : ℕ} (f : k ≡ cut_of v.has d (get_or row 2 0) (get_or row 3 0) q) where
-    body : (rule_in row).body ≡ joins d (get_or row 2 0) (get_or row 3 0)
-    body = rw (e, join-in row join)
-
-    by-cut : takes v a q (rule_in row) ≡ ltb k (reach d q)
-    by-cut = by-body own body ∙ joins-fit v q d (get_or row 2 0) (get_or row 3 0) ∙ rw f
-
-    pub join-taken : k < reach d q → Taken (Join i d k (get_or row 2 0) (get_or row 3 0)) ≡ tried v a q i (rule_in row)
-    join-taken h = rw (← taken_as body (by-cut ∙ lt-ltb _ _ h), joins-chosen, f)
-
-    pub join-passed : reach d q ≤ k → Passed ≡ tried v a q i (rule_in row)
-    join-passed h = passed-as (by-cut ∙ le-ltb _ _ h)
-
--- What came of trying a rule tells whether it is taken.
+-- What a rule gives tells whether it is taken.
 module _ (v : View) (a : ℕ) (q : Piece) (i : ℕ) (r : Rule) where
-  abbrev pub Tells : Tried → Type 0
-  Tells (Taken o) = (takes v a q r ≡ true) × (o ≡ chosen v.has q i r.body)
-  Tells Passed = takes v a q r ≡ false
+  abbrev pub Tells : Option Choice → Type 0
+  Tells (Some o) = (takes v a q r ≡ true) × (o ≡ chosen v.has q i r.body)
+  Tells None = takes v a q r ≡ false
 
-  pub tried-tells : (o : Tried) → o ≡ tried v a q i r → Tells o
+  pub tried-tells : (o : Option Choice) → tried v a q i r ≡ o → Tells o
   unfolding tried
-  tried-tells o e = rw e (pick_ind Tells (takes v a q r) _ _ (λ f. (f, refl)) (λ f. f))
+  tried-tells o e = rw (← e) (pick_ind Tells (takes v a q r) _ _ (λ f. (f, refl)) (λ f. f))
 
-pub row-taken : (v : View) (rows : List (List ℕ)) (a : ℕ) (q : Piece) (i : ℕ) → taken v (rules_in rows) a q i ≡ takes v a q (rule_in (get_or rows i []))
-unfolding taken
-row-taken v rows a q i = ap (takes v a q) (rule_of-row rows i)
-
--- The lowest rule is taken, with its body.
-pub row-chosen : (v : View) (rows : List (List ℕ)) (a : ℕ) (q : Piece) (i : ℕ) → i ≡ lowest v (rules_in rows) a q
-    → choose v (rules_in rows) a q ≡ chosen v.has q i (rule_in (get_or rows i [])).body
-unfolding choose
-row-chosen v rows a q i low = rw (← low, rule_of-row rows i)
+  -- a colour rule with the motif for its head is taken where the piece is one cell of the colour
+  pub colour-taken : {c : ℕ} → r.head ≡ a → r.body ≡ Colour c → covers v.paints q c ≡ true → tried v a q i r ≡ Some (Leaf i)
+  unfolding tried takes fits chosen
+  colour-taken own body e =
+      let fit : takes v a q r ≡ true = and-on _ _ (eq-eqb _ _ own) ∙ ap (fits v q) body ∙ e in
+      rw (fit, body)

@@ -12,6 +12,7 @@ pub mod Refilled
 pub mod Passing
 pub mod CellsFirst
 pub mod MakingTrials
+pub mod MapErr
 pub mod PartSlots
 pub mod Courses
 pub mod Gathered
@@ -56,3 +57,5 @@ pub mod Demand1
 pub mod Demand2
 pub mod Demand2Numbers
 pub mod NodesFit
+pub mod Finding
+pub mod PassingPieces

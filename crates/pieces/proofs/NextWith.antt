@@ -11,7 +11,7 @@ use borrow.Author.Tests.{ltb-true, lt-ltb}
 use Rattle.names.proofs.Tests.{lt-or-le, and_both, and-make}
 use Rattle.pieces.specs.Pieces.{piece, Inside, total, slot_at, slot_of}
 use Rattle.pieces.specs.Refill.{HasCell}
-use Rattle.pieces.specs.inner.Refill.{further?, NextWith}
+use Rattle.pieces.specs.inner.Refill.{goes_further, NextWith}
 use Rattle.pieces.specs.declared.piece.Piece.{Piece}
 use Rattle.pieces.proofs.InOrder.{After, taller, wider, lower, righter, after-later, later-after}
 use Rattle.pieces.proofs.NextPiece.{next-right, last}
@@ -20,13 +20,13 @@ use Rattle.pieces.proofs.Slots.{slot_lt}
 -- ── One place further ──
 
 module _ (n cell from long : ℕ) where
-  pub goes_on : further? n cell from long ≡ true → (from < cell) × (from + long < n)
-  unfolding further?
+  pub goes_on : goes_further n cell from long ≡ true → (from < cell) × (from + long < n)
+  unfolding goes_further
   goes_on e = let (x, y) = and_both _ _ e in (ltb-true _ _ x, ltb-true _ _ y)
 
   -- no stretch of the same length further on has the cell
-  pub goes-no-further : further? n cell from long ≡ false → (to : ℕ) → from < to → to ≤ cell → to + long ≤ n → ⊥
-  unfolding further?
+  pub goes-no-further : goes_further n cell from long ≡ false → (to : ℕ) → from < to → to ≤ cell → to + long ≤ n → ⊥
+  unfolding goes_further
   goes-no-further e to h l r = true≢false (sym (and-make _ _ (lt-ltb from cell (omega arith)) (lt-ltb (from + long) n (omega arith))) ∙ e)
 
 -- ── The first of a size ──
@@ -45,7 +45,7 @@ module _ (m n row column : ℕ) (p : Piece) (i : Inside m n p) (has : HasCell ro
   abbrev Next : Piece → Type 0
   Next q = NextWith m n row column p q
 
-  pub one_right : further? n column p.left p.width ≡ true → Next (piece p.height p.width p.top (p.left + 1))
+  pub one_right : goes_further n column p.left p.width ≡ true → Next (piece p.height p.width p.top (p.left + 1))
   one_right e =
       let (a, b) = goes_on n column p.left p.width e in
       let one = (next-right m n p i b).one in
@@ -59,7 +59,7 @@ module _ (m n row column : ℕ) (p : Piece) (i : Inside m n p) (has : HasCell ro
         ended = λ h. absurd (omega (arith, i.low));
       }
 
-  module _ (no_right : further? n column p.left p.width ≡ false) where
+  module _ (no_right : goes_further n column p.left p.width ≡ false) where
     past-right : {x : Piece} → Inside m n x → HasCell row column x → p.width ≡ x.width → p.left < x.left → ⊥
     past-right {x} inx hx w l = goes-no-further n column p.left p.width no_right x.left l hx.from_left (omega (arith, inx.right))
 
@@ -68,7 +68,7 @@ module _ (m n row column : ℕ) (p : Piece) (i : Inside m n p) (has : HasCell ro
     abbrev below : Piece
     below = piece p.height p.width (p.top + 1) (column + 1 - p.width)
 
-    module _ (on : further? m row p.top p.height ≡ true) where
+    module _ (on : goes_further m row p.top p.height ≡ true) where
       below-inside : Inside m n below
       below-inside =
           let (a, b) = goes_on m row p.top p.height on in
@@ -93,7 +93,7 @@ module _ (m n row column : ℕ) (p : Piece) (i : Inside m n p) (has : HasCell ro
             ended = λ h. absurd (omega (arith, i.low));
           }
 
-    module _ (no_lower : further? m row p.top p.height ≡ false) where
+    module _ (no_lower : goes_further m row p.top p.height ≡ false) where
       past-below : {x : Piece} → Inside m n x → HasCell row column x → p.height ≡ x.height → p.top < x.top → ⊥
       past-below {x} inx hx h t = goes-no-further m row p.top p.height no_lower x.top t hx.from_top (omega (arith, inx.low))
 

@@ -7,6 +7,10 @@ use Rattle.books.specs.declared.rule.Dir.{Dir}
 use Rattle.pieces.specs.Pieces.{piece, Inside, slot_of}
 use Rattle.pieces.specs.Parts.{reach, first_part, rest_part}
 use Rattle.pieces.specs.declared.piece.Piece.{Piece}
+use native.Mathlib.Nat.{le_of_lt}
+use Rattle.books.specs.declared.size.Size.{Size}
+use Rattle.pieces.specs.inner.Seen.{On, BothOn}
+use Rattle.pieces.specs.inner.PartsOf.{parts_of}
 use Rattle.pieces.proofs.Slots.{narrower, flatter}
 
 pub first-inside : (d : Dir) {m n : ℕ} {p : Piece} (k : ℕ) → Inside m n p → 1 ≤ k → k ≤ reach d p → Inside m n (first_part d k p)
@@ -45,3 +49,6 @@ rest-before across {m} {n} {p} k i h l =
 rest-before down {m} {n} {p} k i h l =
     flatter m n (p.height - k - 1) (p.width - 1) (p.top + k) p.left (omega arith) (omega arith) (omega arith)
     (p.height - 1) (p.width - 1) p.top p.left (omega arith)
+
+pub parts_on : (s : Size) (d : Dir) (k l r : ℕ) (q : Piece) → On s q → 1 ≤ k → k < reach d q → BothOn s (parts_of d k l r q)
+parts_on s d k l r q on some h = record { first_on = first-inside d _ on some (le_of_lt h); rest_on = rest-inside d _ on h }

@@ -4,7 +4,7 @@ use Prim.Native.Nat.{ℕ, ◌≤◌}
 use mathlib.Core.Path.{◌≡◌, sym, ap, ap₂, ◌∙◌}
 use mathlib.Core.List.{List}
 use Rattle.names.specs.Number.{greatest_number}
-use Rattle.names.specs.declared.number.Fault.{Fault}
+use Rattle.names.specs.Fault.{Fault}
 use Rattle.books.specs.Grid.{Grid, GridKeeps}
 use Rattle.books.specs.SpellSheet.{spell_sheet}
 use Rattle.books.proofs.SpellingSheets.{sheet-read-back}

@@ -11,8 +11,8 @@ use Rattle.books.specs.Sheet.{sheet_of, over, sheet_figures}
 use Rattle.books.specs.Numbering.{numbers_of, numbers_for}
 use Rattle.books.specs.Answer.{plain, blaming}
 use Rattle.books.specs.declared.answer.Answer.{Answer}
-use Rattle.books.specs.declared.book.BookRead.{BookRead}
-use Rattle.books.specs.declared.sheet.SheetFigures.{SheetFigures}
+use Rattle.books.specs.BookRead.{BookRead}
+use Rattle.books.specs.SheetRead.{SheetFigures}
 use Rattle.pieces.specs.Pieces.{total}
 use Rattle.pieces.specs.Area.{whole}
 use Rattle.pieces.specs.Derivation.{entries_needed, filled}
@@ -21,7 +21,7 @@ use Rattle.pieces.specs.Firing.{fitting}
 use Rattle.pieces.specs.Filling.{filled_by}
 use Rattle.pieces.specs.Largest.{marked, fits_table}
 use Rattle.pieces.specs.declared.asking.Asked.{Asked}
-use Rattle.pieces.specs.declared.asking.Split.{Split}
+use Rattle.pieces.specs.Split.{Split}
 use Rattle.pieces.specs.declared.masks.Joins.{Joins}
 
 -- ── The book ──

@@ -16,6 +16,7 @@ pub mod Filling
 pub mod Rights
 pub mod Largest
 pub mod OnSheet
+pub mod Split
 pub mod Asking
 pub mod Refill
 pub mod inner

@@ -14,3 +14,6 @@ pub mod TreeWrote
 pub mod Due
 pub mod Larger
 pub mod Refill
+pub mod Known
+pub mod Passing
+pub mod Left

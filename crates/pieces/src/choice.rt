@@ -1,17 +1,12 @@
 // What is taken at a piece and its motif: the lowest-numbered rule that fits, and for a join the smallest cut that works.
-// The rules are lent, and colours has for each cell the number of its colour in the book; the rest is as for the cuts.
-ghost use Rattle.std.specs.Prelude.{◌≡◌};
-ghost use Rattle.pieces.specs.Choice.{covers, cut_of, choose};
-ghost use Rattle.books.specs.RuleBytes.{rule_in, rules_in};
-ghost use Rattle.pieces.specs.inner.Due.{ChoiceDue};
-ghost use Rattle.pieces.specs.inner.Tried.{tried};
-ghost use Rattle.pieces.specs.inner.Seen.{Coloured, TabledAt, ReadyAt, has_bit, has_colour, seen};
+ghost use Rattle.std.specs.Prelude.{◌≡◌, ◌≤◌, length};
+ghost use Rattle.books.specs.Keeps.{most_rules};
+ghost use Rattle.pieces.specs.inner.Seen.{Celled, On};
 
-use crate::cut::both_have;
+use crate::cut::Table;
 use crate::part::{Part, parts_of, reach};
 use crate::piece::{Piece, times};
-use books::lent::direction;
-use books::rule::Dir;
+use books::rule::{Body, Dir, Rule};
 use books::size::Size;
 
 // A colour rule, by its number; or a join, by its number, direction, cut and the motifs of its two parts.
@@ -27,84 +22,149 @@ pub(crate) enum Choice {
     },
 }
 
-// A rule that is tried at a piece is taken where it fits, and passed over where it does not.
+// The colours of the cells of a sheet, by their numbers in the book, row by row.
 #[derive(Clone, Copy)]
-enum Tried {
-    Taken(Choice),
-    Passed,
+pub(crate) struct Cells<'a> {
+    pub(crate) size: Size,
+    pub(crate) colours: &'a [u8],
+    ghost celled: { Celled size colours.now },
 }
 
-// Whether a piece is one cell of a colour.
-pub(crate) fn covers(colours: &[u8], size: Size, p: Piece, colour: u8) -> bool
-    requires { Coloured size colours.now p }
-    ensures { result ≡ covers (has_colour size colours.now) p colour }
-{
-    if p.height == 1 {
-        if p.width == 1 {
-            let at = times(p.top, size.cols) + p.left;
-            return colours[at] == colour;
-        }
+impl<'a> Cells<'a> {
+    ghost use Rattle.pieces.specs.Choice.{covers};
+    ghost use Rattle.pieces.specs.inner.Seen.{has_colour};
+
+    // Whether a piece is one cell of a colour.
+    #[tactic(auto, unfolding(crate::specs::Choice::covers, crate::specs::inner::Seen::has_colour, names::specs::Pick::and_then))]
+    pub(crate) fn covers(&self, piece: Piece, colour: u8) -> bool
+        requires { On self.now.size piece }
+        ensures { result ≡ covers (has_colour self.now.size self.now.colours.now) piece colour }
+    {
+        piece.height == 1
+            && piece.width == 1
+            && self.colours[times(piece.top, self.size.cols) + piece.left] == colour
     }
-    false
 }
 
-// The smallest cut of a piece that works for a join's motifs, or its reach where none does.
-fn smallest_cut(work: &[u32], size: Size, p: Piece, d: Dir, l: u8, r: u8) -> usize
-    requires { TabledAt size work.now p }
-    ensures { result ≡ cut_of (has_bit size work.now) d l r p }
-{
-    let end = reach(p, d);
-    let mut k = 1;
-    while k < end {
-        if both_have(work, size, parts_of(p, d, k, l, r)) {
-            return k;
-        }
-        k += 1;
-    }
-    k
+// The rules of a book, and a sheet with its table: what a tree is written by.
+#[derive(Clone, Copy)]
+pub(crate) struct Chooser<'a> {
+    pub(crate) rules: &'a [Rule],
+    pub(crate) table: Table<'a>,
+    pub(crate) cells: Cells<'a>,
+    ghost few: { length rules.now ≤ most_rules },
+    ghost one_size: { cells.size ≡ table.size },
 }
 
-// A rule is tried at a piece and its motif, by its number and its row: one with another head is passed over; a colour fits where the piece is one cell
-// of it, and a join where a cut works, and is taken with the smallest.
-fn try_rule(work: &[u32], colours: &[u8], size: Size, x: Part, i: usize, rule: [u8; 4]) -> Tried
-    requires { ReadyAt size work.now colours.now x.piece }
-    ensures { result ≡ tried (seen size work.now colours.now) x.motif x.piece i (rule_in rule) }
-{
-    if rule[0] != x.motif {
-        return Tried::Passed;
-    }
-    if rule[1] == 0 {
-        if covers(colours, size, x.piece, rule[2]) {
-            return Tried::Taken(Choice::Leaf(i));
-        }
-        return Tried::Passed;
-    }
-    let d = direction(rule[1]);
-    let k = smallest_cut(work, size, x.piece, d, rule[2], rule[3]);
-    if k < reach(x.piece, d) {
-        return Tried::Taken(Choice::Join {
-            rule: i,
-            direction: d,
-            cut: k,
-            first: rule[2],
-            second: rule[3],
-        });
-    }
-    Tried::Passed
-}
+impl<'a> Chooser<'a> {
+    ghost use Rattle.std.specs.Option.{option_map};
+    ghost use Rattle.pieces.specs.declared.choice.Choice.TheVariants.{Join};
+    ghost use Rattle.std.specs.Prelude.{◌<◌};
+    ghost use Rattle.pieces.specs.Choice.{choose, works};
+    ghost use Rattle.pieces.specs.Suiting.{SomeFits};
+    ghost use Rattle.pieces.specs.Parts.{reach};
+    ghost use Rattle.pieces.specs.inner.Tried.{smallest, tried, FirstRule};
+    ghost use Rattle.pieces.specs.inner.Seen.{has_bit};
+    ghost use Rattle.pieces.specs.inner.Known.{view_of};
 
-// What is taken at a piece where a rule fits: of the rules that have the motif for their head the first that fits. There is one, so that the search ends.
-pub(crate) fn choose(rules: &[[u8; 4]], work: &[u32], colours: &[u8], size: Size, x: Part) -> Choice
-    requires { ChoiceDue size work.now colours.now (rules_in rules.now) x }
-    ensures { result ≡ choose (seen size work.now colours.now) (rules_in rules.now) x.motif x.piece }
-{
-    let mut i = 0;
-    loop {
-        let rule = rules[i];
-        let tried = try_rule(work, colours, size, x, i, rule);
-        if let Tried::Taken(choice) = tried {
-            return choice;
+    pub(crate) fn new(rules: &'a [Rule], table: Table<'a>, cells: Cells<'a>) -> Self
+        requires few { length rules.now ≤ most_rules }
+        requires one_size { cells.size ≡ table.size }
+        ensures rules { result.rules.now ≡ rules.now }
+        ensures table { result.table ≡ table.entry }
+        ensures cells { result.cells ≡ cells.entry }
+    {
+        Chooser {
+            rules,
+            table,
+            cells,
         }
-        i += 1;
+    }
+
+    // Whether both parts of a cut have their bits.
+    #[tactic(auto, unfolding(crate::specs::Choice::works), using(crate::proofs::PartsOfPieces::parts_on, crate::proofs::Cutting::cut_in))]
+    #[inline(always)]
+    fn works(&self, piece: Piece, d: Dir, l: u8, r: u8, k: usize) -> bool
+        requires on { On self.now.table.size piece }
+        requires from_one { 1 ≤ k }
+        requires inside { k < reach d piece }
+        ensures { result ≡ works (has_bit self.now.table.size self.now.table.entries.now) d l r piece k }
+    {
+        self.table.both_have(parts_of(piece, d, k, l, r))
+    }
+
+    // The smallest cut of a piece that works for a join's motifs.
+    #[inline(always)]
+    fn smallest_cut(&self, piece: Piece, d: Dir, l: u8, r: u8) -> Option<usize>
+        requires { On self.now.table.size piece }
+        ensures { result ≡ smallest (has_bit self.now.table.size self.now.table.entries.now) d l r piece }
+    {
+        let reach = reach(piece, d);
+        (1..reach).find(|k| self.works(piece, d, l, r, *k))
+    }
+
+    #[inline(always)]
+    fn try_join(
+        &self,
+        piece: Piece,
+        rule: usize,
+        direction: Dir,
+        first: u8,
+        second: u8,
+    ) -> Option<Choice>
+        requires { On self.now.table.size piece }
+        ensures { result ≡ option_map (λ k. Join rule direction k first second)
+            (smallest (has_bit self.now.table.size self.now.table.entries.now) direction first second piece) }
+    {
+        let cut = self.smallest_cut(piece, direction, first, second)?;
+        Some(Choice::Join {
+            rule,
+            direction,
+            cut,
+            first,
+            second,
+        })
+    }
+
+    // What a rule, by its number, gives at a piece and its motif: nothing where its head is another; a colour where the piece is one cell of it, and a join
+    // where a cut works, with the smallest.
+    #[tactic(auto, unfolding(crate::specs::inner::Tried::tried, crate::specs::inner::Tried::smallest, crate::specs::Choice::takes, crate::specs::Choice::fits, crate::specs::Choice::chosen, names::specs::Pick::and_then))]
+    #[inline(always)]
+    fn try_rule(&self, x: Part, i: usize, rule: &Rule) -> Option<Choice>
+        requires { On self.now.table.size x.piece }
+        ensures { result ≡ tried (view_of self.now) x.motif x.piece i rule.now }
+    {
+        if rule.head != x.motif {
+            return None;
+        }
+        match rule.body {
+            Body::Colour(colour) => self
+                .cells
+                .covers(x.piece, colour)
+                .then_some(Choice::Leaf(i)),
+            Body::Across(left, right) => self.try_join(x.piece, i, Dir::Across, left, right),
+            Body::Down(upper, lower) => self.try_join(x.piece, i, Dir::Down, upper, lower),
+        }
+    }
+
+    // What the first rule that gives something gives.
+    #[inline(always)]
+    fn first_choice(&self, x: Part) -> Option<Choice>
+        requires { On self.now.table.size x.piece }
+        ensures { FirstRule (tried (view_of self.now) x.motif x.piece) self.now.rules.now result }
+    {
+        self.rules
+            .iter()
+            .enumerate()
+            .find_map(|(i, rule)| self.try_rule(x, i, rule))
+    }
+
+    // What is taken at a piece where a rule fits: of the rules that have the motif for their head the first that fits.
+    pub(crate) fn choose(&self, x: Part) -> Choice
+        requires on { On self.now.table.size x.piece }
+        requires fits { SomeFits (view_of self.now) self.now.rules.now x.motif x.piece }
+        ensures { result ≡ choose (view_of self.now) self.now.rules.now x.motif x.piece }
+    {
+        self.first_choice(x).unwrap()
     }
 }

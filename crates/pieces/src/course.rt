@@ -1,11 +1,12 @@
 // How the slots of the two parts of a piece run from cut to cut, so that no cut has to work them out anew.
 ghost use Rattle.std.specs.Prelude.{◌≡◌};
-ghost use Rattle.books.specs.declared.rule.Dir.TheVariants.{Across as across, Down as down};
-ghost use Rattle.pieces.specs.inner.Room.{Slotted};
-ghost use Rattle.pieces.specs.inner.Course.{step, Steps, course_of};
+ghost use Rattle.pieces.specs.inner.Room.{Lies, Slotted};
+ghost use Rattle.pieces.specs.inner.Course.{step, Steps, Spans, course_of};
 
-use crate::piece;
-use crate::piece::Piece;
+use crate::part::reach;
+use crate::piece::{Piece, stretches_of, times};
+use books::rule::Dir;
+use books::size::Size;
 
 // The first part's slot rises, each time by less, and the second part's falls, each time by as much more, so that the two steps together are the same at
 // every cut. `second` is a cut behind: before the first cut it is the slot of the whole piece.
@@ -19,73 +20,70 @@ pub(crate) struct Course {
     pub(crate) change: usize,
 }
 
-// From one cut to the next.
-pub(crate) fn next_cut(c: Course) -> Course
-    requires { Steps c }
-    ensures { result ≡ step c }
-{
-    Course {
-        cuts: c.cuts,
-        first: c.first + c.rise,
-        rise: c.rise - c.change,
-        second: c.second + c.rise - c.both,
-        both: c.both,
-        change: c.change,
+// What a direction makes of a piece and its sheet: the cells of the sheet in it, by how much the steps change, and by how much a step of the first part and one
+// of the second fall short of a whole block.
+#[derive(Clone, Copy)]
+struct Span {
+    cells: usize,
+    change: usize,
+    short: usize,
+    shorter: usize,
+}
+
+impl Span {
+    fn of(size: Size, p: Piece, d: Dir) -> Self
+        requires { Lies size.rows size.cols p }
+        ensures { Spans d size.rows size.cols p result }
+    {
+        match d {
+            Dir::Across => Span {
+                cells: size.cols,
+                change: size.rows - (p.height - 1),
+                short: p.top,
+                shorter: p.top + 1,
+            },
+            Dir::Down => Span {
+                cells: size.rows,
+                change: stretches_of(size.cols, size.cols),
+                short: stretches_of(size.cols, p.width - 1),
+                shorter: stretches_of(size.cols, p.width),
+            },
+        }
     }
 }
 
-// The course of the across cuts of a piece in a slot.
-pub(crate) fn across_course(m: usize, n: usize, p: Piece, slot: usize) -> Course
-    requires { Slotted m n p slot }
-    ensures { result ≡ course_of across m n p }
-{
-    let places = m - (p.height - 1);
-    let first = piece::slot(
-        m,
-        n,
-        Piece {
-            height: p.height,
-            width: 1,
-            top: p.top,
-            left: p.left,
-        },
-    );
-    let rise = piece::times(n, places) - p.top;
-    let fall = piece::times(n + 2 - p.width, places) - (p.top + 1);
-    Course {
-        cuts: p.width - 1,
-        first: first,
-        rise: rise,
-        second: slot,
-        both: rise + fall,
-        change: places,
+impl Course {
+    // The course of the cuts of a piece in its slot, in a direction.
+    #[inline(always)]
+    pub(crate) fn begin(size: Size, p: Piece, slot: usize, d: Dir) -> Self
+        requires { Slotted size.rows size.cols p slot }
+        ensures { result ≡ course_of d size.rows size.cols p }
+    {
+        let s = Span::of(size, p, d);
+        let long = reach(p, d);
+        let first = p.first_part(d, 1).slot(size);
+        let rise = times(s.cells, s.change) - s.short;
+        let fall = times(s.cells + 2 - long, s.change) - s.shorter;
+        Course {
+            cuts: long - 1,
+            first,
+            rise,
+            second: slot,
+            both: rise + fall,
+            change: s.change,
+        }
     }
-}
 
-// The course of the down cuts of a piece in a slot.
-pub(crate) fn down_course(m: usize, n: usize, p: Piece, slot: usize) -> Course
-    requires { Slotted m n p slot }
-    ensures { result ≡ course_of down m n p }
-{
-    let all = piece::stretches_of(n, n);
-    let first = piece::slot(
-        m,
-        n,
-        Piece {
-            height: 1,
-            width: p.width,
-            top: p.top,
-            left: p.left,
-        },
-    );
-    let rise = piece::times(m, all) - piece::stretches_of(n, p.width - 1);
-    let fall = piece::times(m + 2 - p.height, all) - piece::stretches_of(n, p.width);
-    Course {
-        cuts: p.height - 1,
-        first: first,
-        rise: rise,
-        second: slot,
-        both: rise + fall,
-        change: all,
+    // From one cut to the next.
+    pub(crate) fn step(self) -> Self
+        requires { Steps self }
+        ensures { result ≡ step self }
+    {
+        Course {
+            first: self.first + self.rise,
+            rise: self.rise - self.change,
+            second: self.second + self.rise - self.both,
+            ..self
+        }
     }
 }

@@ -12,6 +12,7 @@ pub mod masks;
 pub mod on_sheet;
 pub mod part;
 pub mod piece;
+mod pieces;
 pub mod refill;
 mod table;
 mod tree;

@@ -8,11 +8,12 @@ ghost use Rattle.pieces.specs.Most.{most};
 ghost use Rattle.pieces.specs.inner.Room.{most_cells, Factors, Lies};
 
 use books::press::WIDEST;
+use books::size::Size;
 
-// The most rows, and the most columns, that the numbers have room for.
+/// The most rows, and the most columns, that the numbers have room for.
 pub const MOST: usize = WIDEST;
 
-// So many rows and columns, from a top row and a left column on.
+/// So many rows and columns, from a top row and a left column on.
 #[derive(Clone, Copy)]
 pub struct Piece {
     pub height: usize,
@@ -38,55 +39,94 @@ pub(crate) fn stretches_of(n: usize, k: usize) -> usize
 }
 
 // The number of pieces of a sheet.
-pub(crate) fn count(m: usize, n: usize) -> usize
-    requires { Within most m n }
-    ensures { (result ≡ total m n) × (result ≤ most_cells * most_cells) }
+pub(crate) fn count(size: Size) -> usize
+    requires { Within most size.rows size.cols }
+    ensures { (result ≡ total size.rows size.cols) × (result ≤ most_cells * most_cells) }
 {
-    times(stretches_of(m, m), stretches_of(n, n))
+    times(
+        stretches_of(size.rows, size.rows),
+        stretches_of(size.cols, size.cols),
+    )
 }
 
 // How many numbers the tree of a sheet has: two a node.
-pub(crate) fn numbers(m: usize, n: usize) -> usize
-    requires { Within most m n }
-    ensures { result ≡ tree_size (whole m n) }
+pub(crate) fn numbers(size: Size) -> usize
+    requires { Within most size.rows size.cols }
+    ensures { result ≡ tree_size (whole size.rows size.cols) }
 {
-    2 * (2 * times(m, n) - 1)
+    2 * (2 * times(size.rows, size.cols) - 1)
 }
 
-// Where the table has a piece.
-pub(crate) fn slot(m: usize, n: usize, p: Piece) -> usize
-    requires { Lies m n p }
-    ensures { (result ≡ slot_of m n p) × (result < total m n) }
-{
-    let u = p.height - 1;
-    let v = p.width - 1;
-    let flatter = times(stretches_of(m, u), stretches_of(n, n));
-    let narrower = times(m - u, stretches_of(n, v));
-    flatter + (narrower + (times(p.top, n - v) + p.left))
-}
+impl Piece {
+    ghost use Rattle.pieces.specs.Pieces.{piece};
 
-// The piece after p in the table: one to the right; at the end of a row, in the next row; after the last row, one column wider; and
-// after the widest, one row taller.
-pub(crate) fn next(m: usize, n: usize, p: Piece) -> Piece
-    requires { Lies m n p }
-    ensures { NextTo m n p result }
-{
-    let mut q = p;
-    if p.left + p.width < n {
-        q.left = p.left + 1;
-        return q;
+    // One cell.
+    pub(crate) fn cell(top: usize, left: usize) -> Self
+        ensures { result ≡ piece 1 1 top left }
+    {
+        Piece {
+            height: 1,
+            width: 1,
+            top,
+            left,
+        }
     }
-    q.left = 0;
-    if p.top + p.height < m {
-        q.top = p.top + 1;
-        return q;
+
+    // The whole of a sheet.
+    pub(crate) fn whole(size: Size) -> Self
+        ensures { result ≡ whole size.rows size.cols }
+    {
+        Piece {
+            height: size.rows,
+            width: size.cols,
+            top: 0,
+            left: 0,
+        }
     }
-    q.top = 0;
-    if p.width < n {
-        q.width = p.width + 1;
-        return q;
+
+    // Where the table has a piece.
+    pub(crate) fn slot(self, size: Size) -> usize
+        requires { Lies size.rows size.cols self }
+        ensures { (result ≡ slot_of size.rows size.cols self) × (result < total size.rows size.cols) }
+    {
+        let Size { rows, cols } = size;
+        let u = self.height - 1;
+        let v = self.width - 1;
+        let flatter = times(stretches_of(rows, u), stretches_of(cols, cols));
+        let narrower = times(rows - u, stretches_of(cols, v));
+        flatter + (narrower + (times(self.top, cols - v) + self.left))
     }
-    q.width = 1;
-    q.height = p.height + 1;
-    q
+
+    // The piece after it in the table: one to the right; at the end of a row, in the next row; after the last row, one column wider; and after the widest, one
+    // row taller.
+    pub(crate) fn next(self, size: Size) -> Self
+        requires { Lies size.rows size.cols self }
+        ensures { NextTo size.rows size.cols self result }
+    {
+        if self.left + self.width < size.cols {
+            return Piece {
+                left: self.left + 1,
+                ..self
+            };
+        }
+        if self.top + self.height < size.rows {
+            return Piece {
+                top: self.top + 1,
+                left: 0,
+                ..self
+            };
+        }
+        if self.width < size.cols {
+            return Piece {
+                width: self.width + 1,
+                top: 0,
+                left: 0,
+                ..self
+            };
+        }
+        Piece {
+            height: self.height + 1,
+            ..Piece::cell(0, 0)
+        }
+    }
 }

@@ -6,7 +6,8 @@ use mathlib.Core.Bool.{Bool}
 use mathlib.Core.List.{List}
 use native.Mathlib.Omega.{arith}
 use lib.ListN.{length}
-use Rattle.names.specs.declared.number.Fault.{Fault}
+use Rattle.std.specs.Prelude.{Ok, Err}
+use Rattle.names.specs.Fault.{Fault}
 use Rattle.names.specs.Bytes.{Bytes}
 use Rattle.books.specs.Contents.{Contents}
 use Rattle.books.specs.Picture.{Picture}
@@ -27,16 +28,15 @@ use Rattle.pieces.specs.Derivation.{entries_needed, filled}
 use Rattle.pieces.specs.Pieces.{total}
 use Rattle.pieces.specs.declared.asking.Asked.{Asked}
 use Rattle.books.specs.Lent.{contents_of, picture_of}
-use Rattle.pieces.specs.declared.asking.Split.{Split}
+use Rattle.pieces.specs.Split.{Split}
 use Rattle.pieces.proofs.AskingSheets.{kept-start}
 use Rattle.pieces.proofs.AskingAnswers.{sheet-first, room-second, derived-asked, other-asked}
 use Rattle.pieces.proofs.Judging.{filled-holds, filled-length}
 use Rattle.sizes.specs.Table.{has_size_by}
 use Rattle.sizes.proofs.OneSize.{placed-has}
-use Rattle.reasons.specs.declared.calls.WhyNot.{WhyNot}
 use Rattle.reasons.specs.declared.reason.Reason.{Reason}
 use Rattle.reasons.specs.Why.{Outcome, refused, reason_of, roomed, why_not, Answers}
-use Rattle.reasons.specs.inner.FromTable.{reason_in, unexplained}
+use Rattle.reasons.specs.inner.FromTable.{reason_in, told_why}
 use Rattle.reasons.proofs.Endings.{why_not-ends}
 use Rattle.reasons.proofs.FromTables.{reason-shown}
 
@@ -98,16 +98,16 @@ refused-first : (press : ℕ) (book sheet entries : List ℕ) {a : Answer} → R
 unfolding why_not
 refused-first press book sheet entries r = refused-so press (λ a. refused a entries) book sheet (λ b p. roomed b p entries) r
 
-module _ (press : ℕ) (book sheet entries : List ℕ) (w : WhyNot) (a : Answer) (told : w ≡ unexplained a) where
-  pub told-no-press : (IsPress press → ⊥) → a ≡ plain 21 → Answers (why_not press book sheet entries) w entries
+module _ (press : ℕ) (book sheet entries : List ℕ) (a : Answer) where
+  pub told-no-press : (IsPress press → ⊥) → a ≡ plain 21 → Answers (why_not press book sheet entries) (told_why (Err a)) entries
   told-no-press n e =
       rw (refused-first press book sheet entries (no_press n))
-      (record { answers = ap (λ (x : WhyNot). x.answer) told ∙ e; reasons = ap (λ (x : WhyNot). x.reason) told; leaves = refl })
+      (record { answers = e; reasons = refl; leaves = refl })
 
-  pub told-faulty : IsPress press → (f : Fault) → f ≡ (book_of book).fault → (f.number ≡ 0 → ⊥) → a ≡ blaming 1 f → Answers (why_not press book sheet entries) w entries
+  pub told-faulty : IsPress press → (f : Fault) → f ≡ (book_of book).fault → (f.number ≡ 0 → ⊥) → a ≡ blaming 1 f → Answers (why_not press book sheet entries) (told_why (Err a)) entries
   told-faulty is f read n e =
       rw (refused-first press book sheet entries (in_book is (λ z. n (ap (λ (x : Fault). x.number) read ∙ z))))
-      (record { answers = ap (λ (x : WhyNot). x.answer) told ∙ e ∙ ap (blaming 1) read; reasons = ap (λ (x : WhyNot). x.reason) told; leaves = refl })
+      (record { answers = e ∙ ap (blaming 1) read; reasons = refl; leaves = refl })
 
   module _ (left : List ℕ) (r : Asked) {before cells : List ℕ} (asks : Asks press book sheet before entries r cells left) (is : IsPress press) (book_fine : (book_of book).fault.number ≡ 0) where
     number-asked : (n : ℕ) → r.answer.number ≡ n → (asking press book sheet entries).answer.number ≡ n
@@ -116,15 +116,15 @@ module _ (press : ℕ) (book sheet entries : List ℕ) (w : WhyNot) (a : Answer)
     other-number : (n : ℕ) → (r.answer.number ≡ n → ⊥) → (asking press book sheet entries).answer.number ≡ n → ⊥
     other-number n none e = none (ap (λ (x : Answer). x.number) asks.answers ∙ e)
 
-    pub told_in : r.answer.number ≡ 0 → a ≡ plain 15 → Answers (why_not press book sheet entries) w left
+    pub told_in : r.answer.number ≡ 0 → a ≡ plain 15 → Answers (why_not press book sheet entries) (told_why (Err a)) left
     told_in z e =
         rw ((follows press book sheet entries is book_fine).zero (number-asked 0 z))
-        (record { answers = ap (λ (x : WhyNot). x.answer) told ∙ e; reasons = ap (λ (x : WhyNot). x.reason) told; leaves = asks.leaves_work })
+        (record { answers = e; reasons = refl; leaves = asks.leaves_work })
 
-    pub told-refused : (r.answer.number ≡ 0 → ⊥) → (r.answer.number ≡ 11 → ⊥) → a ≡ r.answer → Answers (why_not press book sheet entries) w left
+    pub told-refused : (r.answer.number ≡ 0 → ⊥) → (r.answer.number ≡ 11 → ⊥) → a ≡ r.answer → Answers (why_not press book sheet entries) (told_why (Err a)) left
     told-refused n m e =
         rw ((follows press book sheet entries is book_fine).other (other-number 0 n) (other-number 11 m))
-        (record { answers = ap (λ (x : WhyNot). x.answer) told ∙ e ∙ asks.answers; reasons = ap (λ (x : WhyNot). x.reason) told; leaves = asks.leaves_work })
+        (record { answers = e ∙ asks.answers; reasons = refl; leaves = asks.leaves_work })
 
 -- ── The reason that the code finds ──
 
@@ -154,8 +154,8 @@ module _ (press : ℕ) (book sheet entries left : List ℕ) (r : Asked) {before 
       ∙ reason-shown (contents_of book) p (book-accepted book bytes book_fine).keeps.sound (within_more (greatest-few press) sizes) left
       (rw holds (filled-holds (contents_of book) p entries))
 
-  pub told-reason : Bytes book → (split : Split) (masks : List ℕ) → SplitFrom book split masks → (a : Answer) → a ≡ plain 0 → (why : Reason)
+  pub told-reason : Bytes book → (split : Split) (masks : List ℕ) → SplitFrom book split masks → (why : Reason)
       → why ≡ reason_in (has_size_by press masks split.joins split.start r.size.rows r.size.cols) left split.start r.size.rows r.size.cols
-      → Answers (why_not press book sheet entries) (record { answer = a; reason = why }) left
-  told-reason bytes split masks from a e why found =
-      rw called.is (record { answers = e; reasons = (rw asks.size at found) ∙ reason-found split masks from bytes; leaves = holds })
+      → Answers (why_not press book sheet entries) (told_why (Ok why)) left
+  told-reason bytes split masks from why found =
+      rw called.is (record { answers = refl; reasons = (rw asks.size at found) ∙ reason-found split masks from bytes; leaves = holds })

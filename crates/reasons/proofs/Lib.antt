@@ -1,9 +1,9 @@
 pub mod Naming
+pub mod FirstBare
 pub mod CellNumbers
 pub mod FirstReason
 pub mod OneReason
 pub mod FromTables
-pub mod Keeping
 pub mod Endings
 pub mod Apart
 pub mod Asked

@@ -3,7 +3,6 @@ ghost use Rattle.std.specs.Prelude.{◌≡◌};
 ghost use Rattle.sizes.specs.Table.{has_size_by};
 ghost use Rattle.reasons.specs.inner.FromTable.{PiecesHeld, reason_in};
 
-use crate::reason;
 use crate::reason::Reason;
 use crate::unnamed::first_bare;
 use books::size::Size;
@@ -25,15 +24,14 @@ pub(crate) fn reason(
         size.rows size.cols }
 {
     let cells = size.rows * size.cols;
-    let i = first_bare(work, cells);
-    if i < cells {
+    if let Some(i) = first_bare(&work[..cells]) {
         return Reason::Unnamed {
             row: i / size.cols,
             column: i % size.cols,
         };
     }
     if has_size(press, masks, joins, start, size) {
-        return reason::of_piece(largest(work, start, size));
+        return Reason::of_piece(largest(work, start, size));
     }
     Reason::NoSuchSize
 }

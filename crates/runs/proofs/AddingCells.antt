@@ -8,7 +8,7 @@ use native.Mathlib.Numerals.{add-one}
 use native.Mathlib.Omega.{arith}
 use borrow.Author.Tests.{eq-eqb, ne_eqb}
 use lib.ListN.{length, get_or, take, drop, length-set, drop_of_length-le}
-use lib.Seq.{drop-cons, get_or-set_same, get_or-set_other}
+use lib.Seq.{drop-cons, get_or-set_same, get_or-set_other, get_or-take, length-take-le}
 use Rattle.pieces.specs.declared.asking.Asked.{Asked}
 use Rattle.runs.specs.inner.Adding.{answers_from, cells_from, any_at, one_more, count_place, answered, coloured, ticketed, Spare, Colourable, area_of, with_asked, Addable}
 
@@ -41,16 +41,16 @@ unfolding coloured
 coloured-none f l i h = rw (drop_of_length-le l h)
 
 -- after its answer an accepted sheet has room for its cells
-pub cells-next : (r : Asked) (cells f : List ℕ) → Addable r cells f → r.answer.number ≡ 0 → Colourable cells (area_of r.size) (answered f r.answer.number)
+pub cells-next : (r : Asked) (cells f : List ℕ) → Addable r cells f → r.answer.number ≡ 0 → Colourable (take (area_of r.size) cells) (answered f r.answer.number)
 unfolding answered
 cells-next r cells f p z =
     let n = area_of r.size in
     let first : Spare (suc n) (one_more f 0) =
     spare-less (suc n) f 0 (omega (arith, p.spare.long)) (record { long = p.spare.long; more = λ i h. omega (arith, p.spare.more i h, p.area_few) }) in
+    let wide : length (take n cells) ≡ n = length-take-le n cells p.cells_all in
     record {
-      all = p.cells_all;
-      low = p.cells_low z;
-      spare = spare-less n (one_more f 0) (answers_from + count_place r.answer.number) (omega (arith, first.long, p.counted)) first;
+      low = λ i h. let low : i < n = omega (arith, wide) in rw (get_or-take n cells i 0 low) (p.cells_low z i low);
+      spare = rw wide (spare-less n (one_more f 0) (answers_from + count_place r.answer.number) (omega (arith, first.long, p.counted)) first);
     }
 
 -- the two ways to add a sheet that was asked

@@ -11,7 +11,7 @@ use lib.ListN.{replicate, length-replicate}
 use Rattle.names.specs.Colours.{colours_of}
 use Rattle.names.specs.Number.{number_at, number_in}
 use Rattle.names.specs.Pick.{fault, ReadersNumber}
-use Rattle.names.specs.declared.number.Fault.{Fault}
+use Rattle.names.specs.Fault.{Fault}
 use Rattle.names.proofs.Tests.{together, neither}
 use Rattle.books.specs.Book.{book_of}
 use Rattle.books.specs.Derives.{Member}

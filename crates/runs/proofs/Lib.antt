@@ -1,4 +1,5 @@
 pub mod WalkingRuns
+pub mod ToldFrames
 pub mod AddingCells
 pub mod CountingLists
 pub mod AnswersOfSheets

@@ -18,7 +18,7 @@ use Rattle.names.proofs.SpellingNumbers.{number_spelled}
 use Rattle.names.proofs.Tests.{lt-or-le}
 use Rattle.runs.specs.Run.{frame_at, sheet_in, left, faults, sheets, framing, sheets_of, spell_run}
 use Rattle.runs.specs.Numbered.{sheet_with, start_with, place_with, run_sheet_shown}
-use Rattle.runs.specs.declared.framing.Frame.{Frame}
+use Rattle.runs.specs.Run.{Frame}
 use Rattle.runs.proofs.SpelledRuns.{run-spelled}
 use Rattle.runs.proofs.WalkingRuns.{FrameLies, frame-whole, frame-lies, sheet-framed, left_end, left-stop, left-more, framing-left, run-few}
 use Rattle.runs.proofs.SheetsStand.{none-long, reach, sheet-part, sheet-inside, start_some, place-behind}
@@ -67,7 +67,7 @@ module _ (run : List ℕ) where
     none-with h = rw (le-ltb number (length (sheets_of run)) h) refl
 
     module _ (bytes : Bytes run) (at before : ℕ) (p : Passed run number at before) where
-      frame-good : at < length run → (frame_at run at).fault.number ≡ 0
+      pub frame-good : at < length run → (frame_at run at).fault.number ≡ 0
       frame-good h = go (ℕ_discrete (frame_at run at).fault.number 0)
         where
           go : Dec ((frame_at run at).fault.number ≡ 0) → (frame_at run at).fault.number ≡ 0

@@ -9,7 +9,7 @@ use lib.Dec.{eqb, ltb}
 use lib.ListN.{length, take, drop, replicate}
 use lib.Seq.{length-take-le}
 use Rattle.names.specs.Counted.{each}
-use Rattle.names.specs.declared.number.Fault.{Fault}
+use Rattle.names.specs.Fault.{Fault}
 use Rattle.names.proofs.Picking.{pick_ind}
 use Rattle.books.specs.Answer.{answer, plain, blaming, packed}
 use Rattle.books.specs.Book.{book_of}

@@ -9,9 +9,9 @@ use borrow.Author.Tests.{lt-ltb}
 use lib.ListN.{length}
 use Rattle.names.specs.Pick.{fault}
 use Rattle.names.specs.Number.{number_at}
-use Rattle.names.specs.declared.number.Fault.{Fault}
-use Rattle.names.specs.declared.number.Read.{Read}
-use Rattle.names.specs.declared.number.Read.TheVariants.{Value, Refused}
+use Rattle.names.specs.Fault.{Fault}
+use Rattle.names.specs.Read.{Read}
+use Rattle.names.specs.Read.{Value, Refused}
 use Rattle.names.proofs.Exactly.{number-exactly}
 use Rattle.names.proofs.FirstFault.{FirstFault, first-fault}
 use Rattle.names.proofs.ReadingNumbers.{number-lies, number-refused}
@@ -20,7 +20,7 @@ use Rattle.names.proofs.Tests.{lt-or-le}
 use Rattle.books.specs.InTurn.{none_yet, one_more}
 use Rattle.runs.specs.Run.{most_bytes, unframed, frame_at, sheet_in, left, faults, framing, sheets_of, spell_run}
 use Rattle.runs.specs.ReadsRun.{SheetStands, a_sheet, SheetsRead, RunFault, too_long, no_length, past_end}
-use Rattle.runs.specs.declared.framing.Frame.{Frame}
+use Rattle.runs.specs.Run.{Frame}
 use Rattle.runs.proofs.SpelledRuns.{run-spelled, sheets-read-back}
 use Rattle.runs.proofs.WalkingRuns.{framed-refused, framed-short, framed-whole, frame-whole, sheet-framed, by-turns, left_end, left-stop, left-more, framing-left, run-few}
 

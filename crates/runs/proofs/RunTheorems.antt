@@ -10,7 +10,7 @@ use lib.Dec.{eqb}
 use lib.ListN.{length, replicate}
 use Rattle.names.specs.Number.{number_at}
 use Rattle.names.specs.Pick.{fault}
-use Rattle.names.specs.declared.number.Read.TheVariants.{Value}
+use Rattle.names.specs.Read.{Value}
 use Rattle.names.proofs.Tests.{lt-or-le}
 use Rattle.books.specs.Book.{book_of}
 use Rattle.books.specs.Calls.{ticket_of}
@@ -25,7 +25,7 @@ use Rattle.runs.specs.Run.{frame_at, sheet_in, walk_from, framing, sheets_of}
 use Rattle.runs.specs.Figures.{work_room, tree_room, answer_of, answering, accepted, got, cells_of, tickets, answers_given, figures_of, no_figures}
 use Rattle.runs.specs.Lists.{those, how_many, added_up, any_in, least_in, greatest_in}
 use Rattle.runs.specs.declared.figures.Figures.{Figures}
-use Rattle.runs.specs.declared.framing.Frame.{Frame}
+use Rattle.runs.specs.Run.{Frame}
 use Rattle.runs.proofs.AnswersOfSheets.{tree-fits, of-listed, nothing-answers}
 use Rattle.runs.proofs.AskedSheets.{asked-number}
 use Rattle.runs.proofs.CountingLists.{once, how_many-none, how_many-cons, Bounds, least-bounds, greatest-bounds}

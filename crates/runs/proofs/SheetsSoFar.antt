@@ -19,7 +19,7 @@ use Rattle.runs.specs.Run.{most_bytes, frame_at, sheet_in, left, faults, sheets,
 use Rattle.runs.specs.Figures.{work_room, names_shown, showing, answering, accepted, got, cells_of, tickets, answers_given, figures_of, no_figures, figures_long, in_a_row}
 use Rattle.runs.specs.Lists.{how_many}
 use Rattle.runs.specs.declared.figures.Figures.{Figures}
-use Rattle.runs.specs.declared.framing.Frame.{Frame}
+use Rattle.runs.specs.Run.{Frame}
 use Rattle.runs.specs.inner.Adding.{most_added, Spare}
 use Rattle.runs.specs.inner.Reporting.{Adds, Counts}
 use Rattle.runs.proofs.CountingLists.{how_many-le, added-le}

@@ -12,7 +12,7 @@ use Rattle.names.proofs.ReadingNumbers.{number-lies}
 use Rattle.names.specs.Bytes.{Bytes}
 use Rattle.names.proofs.SpellingNumbers.{number_spelled, number-reads-at}
 use Rattle.runs.specs.Run.{most_bytes, frame_at, sheet_in, left, faults, sheets, framing, sheets_of, spell_run}
-use Rattle.runs.specs.declared.framing.Frame.{Frame}
+use Rattle.runs.specs.Run.{Frame}
 use Rattle.runs.proofs.WalkingRuns.{framed-whole, frame-whole, sheet-framed, frame-lies, by-turns, left_end, left-stop, left-more, framing-left, run-few}
 
 module _ (run : List ℕ) (bytes : Bytes run) where

@@ -10,14 +10,14 @@ use lib.Dec.{ltb}
 use lib.ListN.{length, take, drop}
 use Rattle.names.specs.Pick.{fault}
 use Rattle.names.specs.Number.{number_at}
-use Rattle.names.specs.declared.number.Fault.{Fault}
-use Rattle.names.specs.declared.number.Read.TheVariants.{Value, Refused}
+use Rattle.names.specs.Fault.{Fault}
+use Rattle.names.specs.Read.{Value, Refused}
 use Rattle.names.proofs.Onwards.{onward-ind}
 use Rattle.names.proofs.Picking.{pick_ind}
 use Rattle.names.proofs.ReadingNumbers.{Blamed, blamed-later, number-lies, number-refused}
 use Rattle.names.proofs.Tests.{lt-or-le}
 use Rattle.runs.specs.Run.{most_bytes, unframed, framed, frame_at, sheet_in, Walk, walk_from, left, faults, framing}
-use Rattle.runs.specs.declared.framing.Frame.{Frame}
+use Rattle.runs.specs.Run.{Frame}
 
 -- ── One length ──
 

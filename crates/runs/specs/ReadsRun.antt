@@ -2,8 +2,8 @@
 use Rattle.std.specs.Prelude.{ℕ, ◌+◌, ◌-◌, ◌<◌, ◌≤◌, ◌≡◌, List, length, take, drop}
 use Rattle.names.specs.Pick.{fault}
 use Rattle.names.specs.Reads.{Reads}
-use Rattle.names.specs.declared.number.Fault.{Fault}
-use Rattle.names.specs.declared.number.Read.TheVariants.{Value, Refused}
+use Rattle.names.specs.Fault.{Fault}
+use Rattle.names.specs.Read.{Value, Refused}
 use Rattle.books.specs.InTurn.{InTurn}
 use Rattle.runs.specs.Run.{most_bytes}
 

@@ -3,12 +3,17 @@ use Rattle.std.specs.Prelude.{ℕ, zero, suc, ◌+◌, ◌-◌, List, [], ◌∷
 use Rattle.names.specs.Pick.{pick, fault}
 use Rattle.names.specs.Onward.{onward, faultless}
 use Rattle.names.specs.Number.{number_at, spell_number}
-use Rattle.names.specs.declared.number.Fault.{Fault}
-use Rattle.runs.specs.declared.framing.Frame.{Frame}
+use Rattle.names.specs.Fault.{Fault}
 
 -- a run has at most so many bytes
 abbrev pub most_bytes : ℕ
 most_bytes = 65536
+
+-- where a sheet starts and ends, and the fault of its length, where the number 0 is none
+pub record Frame : Type 0 where
+  pub fault : Fault
+  pub start : ℕ
+  pub end : ℕ
 
 -- where a sheet starts and ends, or the fault of its length
 abbrev pub framed : ℕ → ℕ → Frame

@@ -4,18 +4,18 @@ ghost use Rattle.runs.specs.Outcome.{report, run_report, Answers, Leaves};
 use crate::figures;
 use crate::figures::{FIGURES_LONG, Figures};
 use crate::report::report_into;
-use books::answer;
-use books::answer::Answer;
+use books::answer::{Answer, pack};
 use books::press::PRESSES;
+use books::reply::Reply;
 
-// The answer, and the figures of the run.
+/// The answer, and the figures of the run. A struct, and no Result: `Answers` names both fields, and a C host gets both.
 #[derive(Clone, Copy)]
 pub struct RunReport {
     pub answer: Answer,
     pub figures: Figures,
 }
 
-// Reports a run on a press against a book. After a report the front of the work slice, as far as any sheet can need it, is 0.
+/// Reports a run on a press against a book. After a report the front of the work slice, as far as any sheet can need it, is 0.
 pub fn report(press: usize, book: &[u8], run: &[u8], work: &mut [u32]) -> RunReport
     ensures { Answers (report press book.now run.now work.old) result work.new }
 {
@@ -25,7 +25,7 @@ pub fn report(press: usize, book: &[u8], run: &[u8], work: &mut [u32]) -> RunRep
     RunReport { answer, figures }
 }
 
-// The same for the C host, with the figures one after another in a lent slice.
+/// The same for the C host, with the figures one after another in a lent slice.
 pub fn dv_run_report(
     press: usize,
     book: &[u8],
@@ -37,10 +37,10 @@ pub fn dv_run_report(
         figures.new }
 {
     if press >= PRESSES {
-        return answer::pack(answer::unblamed(21), 0);
+        return pack(Reply::NoPress.answer(), 0);
     }
     if figures.len() < FIGURES_LONG {
-        return answer::pack(answer::unblamed(13), 0);
+        return pack(Reply::OutShort.answer(), 0);
     }
-    answer::pack(report_into(press, book, run, work, figures), 0)
+    pack(report_into(press, book, run, work, figures), 0)
 }

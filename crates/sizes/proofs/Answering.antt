@@ -27,7 +27,7 @@ use Rattle.books.proofs.ReadingBooks.{book-lies, book-accepted}
 use Rattle.names.specs.Counted.{each}
 use Rattle.pieces.specs.Asking.{kept_with, split_book}
 use Rattle.pieces.specs.Masks.{all_masks}
-use Rattle.pieces.specs.declared.asking.Split.{Split}
+use Rattle.pieces.specs.Split.{Split}
 use Rattle.pieces.proofs.AskingSheets.{kept-fault, kept-start, kept_from, book-serves}
 use Rattle.sizes.specs.Card.{sized?, sizes_of}
 use Rattle.sizes.specs.Outcome.{Outcome, refused, carded, roomed, size_card, Answers}

@@ -11,7 +11,7 @@ use lib.ListN.{length, get_or, replicate, length-replicate}
 use Rattle.names.specs.Bits.{bit}
 use Rattle.names.specs.Counted.{each}
 use Rattle.names.specs.Name.{listed}
-use Rattle.names.specs.declared.number.Fault.{Fault}
+use Rattle.names.specs.Fault.{Fault}
 use Rattle.names.proofs.Listing.{listed_found}
 use Rattle.names.specs.Bytes.{Bytes}
 use Rattle.books.specs.Answer.{packed}

@@ -10,8 +10,8 @@ use native.Mathlib.Omega.{arith}
 use lib.Arith.{digits_lt}
 use lib.Dec.{eqb}
 use lib.Count.{ones, ones-le}
-use lib.ListN.{length, get_or, set, drop, length-append, length-drop}
-use lib.Seq.{set_at, drop-cons}
+use lib.ListN.{length, get_or, set, drop, replicate, length-append, length-drop, length-set, length-replicate}
+use lib.Seq.{set_at, drop-cons, get_or-take, get_or-drop, length-take-le}
 use borrow.Author.Tests.{eq-eqb, ne_eqb}
 use Rattle.names.specs.Pick.{pick}
 use Rattle.names.proofs.Tests.{true-or-false}
@@ -26,11 +26,13 @@ use Rattle.pieces.proofs.Entries.{bits-lt, bits-has, has-bits}
 use Rattle.books.specs.declared.size.Size.{Size}
 use Rattle.sizes.specs.Test.{has_size?}
 use Rattle.sizes.specs.Card.{sized?, card_row, card, sizes_of, set_bits}
-use Rattle.sizes.specs.Table.{slot, table_by}
+use Rattle.pieces.specs.Firing.{fire_of, painted_of}
+use Rattle.sizes.specs.Table.{slot, sizes_by, table_by}
 use Rattle.sizes.specs.inner.Entries.{entry, OfTable, RightBefore}
-use Rattle.sizes.specs.inner.Rows.{row_of, rows_of, RowsWrote}
+use Rattle.sizes.specs.inner.Rows.{row_of, row_in, rows_of, RowsWrote}
 use Rattle.sizes.proofs.CardRight.{card-length}
-use Rattle.sizes.proofs.EntriesRight.{table-right}
+use Rattle.sizes.proofs.EntriesRight.{entries-length, table-right}
+use Rattle.sizes.proofs.Slots.{row_fits}
 use Rattle.sizes.proofs.Counting.{sizes-counted, set_bits-append}
 use Rattle.sizes.proofs.Listing.{each-length}
 
@@ -42,29 +44,33 @@ bit-worth (suc zero) j h = one-mul (2 ^ j)
 bit-worth (suc (suc x)) j h = absurd (omega arith)
 
 -- the first j bits of a row
-unfoldable pub row_up_to : List ℕ → ℕ → ℕ → ℕ → ℕ
-row_up_to t a at j = bits j (λ i. eqb (bit (get_or t (at + i) 0) a) 1)
+unfoldable pub row_up_to : List ℕ → ℕ → ℕ → ℕ
+row_up_to entries a j = bits j (λ i. eqb (bit (get_or entries i 0) a) 1)
 
-pub row_more : (t : List ℕ) (a at j : ℕ) → bit (get_or t (at + j) 0) a < 2 → row_up_to t a at (j + 1) ≡ row_up_to t a at j + bit (get_or t (at + j) 0) a * 2 ^ j
+pub row_more : (entries : List ℕ) (a j : ℕ) → bit (get_or entries j 0) a < 2 → row_up_to entries a (j + 1) ≡ row_up_to entries a j + bit (get_or entries j 0) a * 2 ^ j
 unfolding row_up_to bits
-row_more t a at j h = rw (add-one j) (ap (λ (x : ℕ). row_up_to t a at j + x) (sym (bit-worth (bit (get_or t (at + j) 0) a) j h)))
+row_more entries a j h = rw (add-one j) (ap (λ (x : ℕ). row_up_to entries a j + x) (sym (bit-worth (bit (get_or entries j 0) a) j h)))
 
-pub row_lt : (t : List ℕ) (a at j : ℕ) → row_up_to t a at j < 2 ^ j
+pub row_lt : (entries : List ℕ) (a j : ℕ) → row_up_to entries a j < 2 ^ j
 unfolding row_up_to
-row_lt t a at j = bits-lt j (λ i. eqb (bit (get_or t (at + i) 0) a) 1)
+row_lt entries a j = bits-lt j (λ i. eqb (bit (get_or entries i 0) a) 1)
 
-pub row-ones : (t : List ℕ) (n a at : ℕ) → ones (row_of t n a at) ≤ n
+pub row-ones : (entries : List ℕ) (a : ℕ) → ones (row_of entries a) ≤ length entries
 unfolding row_of
-row-ones t n a at = ones-le n _ (bits-lt n (λ j. eqb (bit (get_or t (at + j) 0) a) 1))
+row-ones entries a = ones-le (length entries) _ (bits-lt (length entries) (λ j. eqb (bit (get_or entries j 0) a) 1))
 
 -- ── All rows, one after the other ──
 
 module _ (t : List ℕ) (n a : ℕ) where
   pub rows-length : (i : ℕ) → length (rows_of t n a i) ≡ i
   unfolding rows_of
-  rows-length i = each-length (λ k. row_of t n a (k * n)) i
+  rows-length i = each-length (λ k. row_of (row_in t n k) a) i
 
-  rows_next : (i : ℕ) → rows_of t n a (i + 1) ≡ rows_of t n a i ++ (row_of t n a (i * n) ∷ [])
+  -- a row has its entries
+  pub row-long : (i m : ℕ) → i < m → m * n ≤ length t → length (row_in t n i) ≡ n
+  row-long i m h long = length-take-le n _ (omega (arith, length-drop (i * n) t, row_fits i m n h))
+
+  rows_next : (i : ℕ) → rows_of t n a (i + 1) ≡ rows_of t n a i ++ (row_of (row_in t n i) a ∷ [])
   unfolding rows_of each
   rows_next i = rw (add-one i)
 
@@ -73,13 +79,13 @@ module _ (t : List ℕ) (n a : ℕ) where
 
   -- one more row is written behind the others, and its bits are counted
   pub one_written : (before : List ℕ) (i : ℕ) → i < length before
-      → set (rows_of t n a i ++ drop i before) i (row_of t n a (i * n)) ≡ rows_of t n a (i + 1) ++ drop (i + 1) before
+      → set (rows_of t n a i ++ drop i before) i (row_of (row_in t n i) a) ≡ rows_of t n a (i + 1) ++ drop (i + 1) before
   one_written before i h =
-      rw (drop-cons before i 0 h, set_at (rows_of t n a i) _ _ (row_of t n a (i * n)) i (rows-length i), rows_next i, add-one i, append_assoc)
+      rw (drop-cons before i 0 h, set_at (rows_of t n a i) _ _ (row_of (row_in t n i) a) i (rows-length i), rows_next i, add-one i, append_assoc)
 
-  pub one-counted : (i : ℕ) → set_bits (rows_of t n a (i + 1)) ≡ set_bits (rows_of t n a i) + ones (row_of t n a (i * n))
+  pub one-counted : (i : ℕ) → set_bits (rows_of t n a (i + 1)) ≡ set_bits (rows_of t n a i) + ones (row_of (row_in t n i) a)
   unfolding set_bits
-  one-counted i = ap set_bits (rows_next i) ∙ set_bits-append (rows_of t n a i) (row_of t n a (i * n) ∷ []) ∙ omega arith
+  one-counted i = ap set_bits (rows_next i) ∙ set_bits-append (rows_of t n a i) (row_of (row_in t n i) a ∷ []) ∙ omega arith
 
   pub all-written : (before : List ℕ) (i count : ℕ) (after : List ℕ) → i ≡ n → count ≡ set_bits (rows_of t n a i) → after ≡ rows_of t n a i ++ drop i before
       → RowsWrote (rows_of t n a n) before count after
@@ -110,7 +116,7 @@ entry-tells b s a h =
     (λ (e : has_size? b a s ≡ false). ne_eqb _ 1 (λ o. true≢false (sym (bits-has b.motifs test a o).1 ∙ e)) ∙ sym e)
     (true-or-false (has_size? b a s))
 
-module _ (b : Contents) (n : ℕ) (t : List ℕ) (right : RightBefore b n (n * n) t) (fits : b.start < b.motifs) where
+module _ (b : Contents) (n : ℕ) (t : List ℕ) (right : RightBefore b n (n * n) t) (long : n * n ≤ length t) (fits : b.start < b.motifs) where
   entry_here : (i j : ℕ) → i < n → j < n → get_or t (i * n + j) 0 ≡ entry b (by (suc i) (suc j))
   entry_here i j h l =
       let ei : suc i - 1 ≡ i = omega arith in
@@ -119,11 +125,12 @@ module _ (b : Contents) (n : ℕ) (t : List ℕ) (right : RightBefore b n (n * n
       let low : slot n (by (suc i) (suc j)) < n * n = rw (ei, ej) (digits_lt h l) in
       rw (ei, ej) at (right (by (suc i) (suc j)) w low)
 
-  row-right : (i : ℕ) → i < n → row_of t n b.start (i * n) ≡ card_row b n i
+  row-right : (i : ℕ) → i < n → row_of (row_in t n i) b.start ≡ card_row b n i
   unfolding row_of card_row sized?
   row-right i h =
-      bits-same n _ _
-      (λ j l. ap (λ (x : ℕ). eqb (bit x b.start) 1) (entry_here i j h l) ∙ entry-tells b (by (suc i) (suc j)) b.start fits)
+      rw (row-long t n b.start i n h long) (bits-same n _ _
+      (λ j l. ap (λ (x : ℕ). eqb (bit x b.start) 1) (get_or-take n (drop (i * n) t) j 0 l ∙ get_or-drop (i * n) t j 0 ∙ entry_here i j h l)
+      ∙ entry-tells b (by (suc i) (suc j)) b.start fits))
 
   rows_right : rows_of t n b.start n ≡ card b n
   unfolding rows_of card
@@ -134,7 +141,11 @@ module _ (b : Contents) (n : ℕ) (t : List ℕ) (right : RightBefore b n (n * n
 module _ (b : Contents) (keeps : Keeps b) (masks : List ℕ) (j : Joins) (serves : Serves b.rules masks j) (most : ℕ) (some : 1 ≤ most) (few : most * most ≤ room)
     (before : List ℕ) (count : ℕ) (after : List ℕ) (wrote : RowsWrote (rows_of (table_by masks j most (most * most)) most b.start most) before count after) where
   rows_are : rows_of (table_by masks j most (most * most)) most b.start most ≡ card b most
-  rows_are = rows_right b most _ (table-right b keeps masks j serves most (most * most) (mul-le-mul some some) few) keeps.sound.start_fits
+  unfolding sizes_by
+  rows_are =
+      let begun = set (replicate room 0) 0 (painted_of masks) in
+      let long : most * most ≤ length (table_by masks j most (most * most)) = omega (arith, entries-length (fire_of masks j) most (most * most - 1) begun, length-set {A = ℕ}, length-replicate {A = ℕ}, few) in
+      rows_right b most _ (table-right b keeps masks j serves most (most * most) (mul-le-mul some some) few) long keeps.sound.start_fits
 
   pub card-counted : count ≡ length (sizes_of b most)
   card-counted = wrote.counted ∙ ap set_bits rows_are ∙ sizes-counted b most

@@ -22,7 +22,7 @@ use Rattle.books.proofs.Area.{within-room}
 use Rattle.books.proofs.SizesWithin.{within-exactly}
 use Rattle.pieces.specs.Asking.{SplitFrom}
 use Rattle.pieces.specs.Rights.{Serves}
-use Rattle.pieces.specs.declared.asking.Split.{Split}
+use Rattle.pieces.specs.Split.{Split}
 use Rattle.pieces.specs.declared.masks.Joins.{Joins}
 use Rattle.pieces.proofs.AskingSheets.{kept-start, book-serves}
 use Rattle.sizes.specs.Promise.{Sized}

@@ -1,3 +1,4 @@
 pub mod Along
 pub mod Entries
 pub mod Rows
+pub mod Told

@@ -15,7 +15,7 @@ use Rattle.books.specs.Derives.{Member}
 use Rattle.books.specs.Keeps.{KeepsBy}
 use Rattle.books.specs.Lent.{contents_by, contents_of}
 use Rattle.books.specs.SpellBook.{spell_book}
-use Rattle.books.specs.declared.book.BookRead.{BookRead}
+use Rattle.books.specs.BookRead.{BookRead}
 use Rattle.books.proofs.TwoReaders.{accepted-alike, contents-alike}
 use Rattle.books.proofs.LongestBook.{spelling-bytes}
 use Rattle.drafts.specs.NewBook.{NewBook}

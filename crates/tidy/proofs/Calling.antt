@@ -5,29 +5,35 @@ use mathlib.Core.Bool.{Bool, true, false}
 use mathlib.Core.List.{List, [], append-nil}
 use native.Mathlib.Omega.{arith}
 use lib.Seq.{length-sets}
+use Rattle.std.specs.Prelude.{Ok}
 use Rattle.names.specs.Bits.{is_set}
 use Rattle.names.specs.Colours.{no_colours}
 use Rattle.names.specs.Pick.{pick}
 use Rattle.names.specs.Spelling.{most_colours}
 use Rattle.names.specs.declared.colours.Colours.{Colours}
 use Rattle.names.specs.Bytes.{Bytes}
-use Rattle.books.specs.Answer.{plain}
+use Rattle.books.specs.Answer.{plain, packed}
 use Rattle.books.specs.Book.{untidy_of}
 use Rattle.books.specs.Contents.{Contents}
 use Rattle.books.specs.ContentsIn.{contents_in}
 use Rattle.books.specs.Keeps.{most_motifs}
-use Rattle.books.specs.declared.book.BookRead.{BookRead}
+use Rattle.books.specs.BookRead.{BookRead}
+use Rattle.books.specs.Told.{told_book}
 use Rattle.books.specs.declared.family.Family.{Family}
 use Rattle.books.proofs.GreaterCounts.{rule-more}
 use Rattle.books.proofs.ReadingBooks.{book-lies-by, book-accepted-by}
 use Rattle.books.proofs.StandingRules.{there-length}
-use Rattle.drafts.specs.Draft.{draft_in, DraftFits}
-use Rattle.drafts.specs.Outcome.{refused, written}
+use Rattle.drafts.specs.Draft.{draft_in, DraftFits, WroteDraft}
+use Rattle.drafts.specs.Outcome.{Leaves, refused, written}
+use Rattle.drafts.specs.Written.{Written}
+use Rattle.drafts.proofs.NewBooks.{written-by}
+use Rattle.drafts.proofs.SpellingDrafts.{draft-wrote}
 use Rattle.tidy.specs.Marking.{rewritten, reached}
 use Rattle.tidy.specs.Outcome.{tidied_out}
 use Rattle.tidy.specs.Tidied.{leaving, tidied}
 use Rattle.tidy.specs.inner.Cleared.{left_after, cleared}
-use Rattle.tidy.specs.inner.Steps.{rules_standing, RulesKept, rewritten_in, reached_in}
+use Rattle.tidy.specs.inner.Kept.{rules_standing, RulesKept}
+use Rattle.tidy.specs.inner.Steps.{rewritten_in, reached_in}
 use Rattle.tidy.proofs.LeftRules.{left-few, cleared-contents}
 
 -- ── A book that was read ──
@@ -45,8 +51,9 @@ fitted s bytes z =
       fit = λ r i. rule-more _ _ most_motifs most_colours r keeps.motifs_few keeps.colours_ok.few (keeps.sound.rules_fit r i);
     }
 
-pub read-fitted : (s : List ℕ) (b : BookRead) → b ≡ untidy_of s → Bytes s → b.fault.number ≡ 0 → RulesKept b.family
-read-fitted s b read bytes z = rw read (fitted s bytes (rw read at z))
+pub read-fitted : (s : List ℕ) {f : Family} → told_book (Ok f) ≡ untidy_of s → Bytes s → RulesKept f
+read-fitted s read bytes =
+    rw (ap (λ (b : BookRead). b.family) read) (fitted s bytes (sym (ap (λ (b : BookRead). b.fault.number) read)))
 
 -- ── Its start ──
 
@@ -90,10 +97,11 @@ module _ (s : List ℕ) (f : Family) (m : ℕ) (fits : RulesKept f) where
         rules = (contents_in s (cleared m f)).rules;
       }) ∙ is
 
-  -- the same of the family and the colours that the code has
-  pub drafted-fits : {g : Family} {more : Colours} → g ≡ cleared m f → more ≡ no_colours → DraftFits (record { family = g; more = more })
-  drafted-fits e n = rw (e, n) left-fits
-
-  pub drafted-is : {g : Family} {more : Colours} → g ≡ cleared m f → more ≡ no_colours
-      → draft_in s s (record { family = g; more = more }) ≡ leaving m (contents_in s f)
-  drafted-is e n = rw (e, n) left-draft
+  -- The same of the family and the colours that the code has: they are written, and the call answers what the writer answers.
+  pub left-written : {g : Family} {more : Colours} {out after : List ℕ} {w : Written} {r : ℕ} → g ≡ cleared m f → more ≡ no_colours
+      → WroteDraft s s (record { family = g; more = more }) out w after → r ≡ packed (plain w.number) w.count
+      → Leaves (written (leaving m (contents_in s f)) out) r after
+  left-written e n wrote told =
+      let book = draft-wrote left-fits (rw (e, n) at wrote) in
+      rw (← left-draft, written-by)
+      (record { answers = told ∙ ap (λ (w : Written). packed (plain w.number) w.count) book.answers; leaves = book.leaves })

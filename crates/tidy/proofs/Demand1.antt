@@ -9,7 +9,7 @@ use native.Mathlib.Omega.{arith}
 use lib.ListN.{length}
 use Rattle.names.specs.Bytes.{Bytes}
 use Rattle.names.specs.Pick.{ReadersNumber}
-use Rattle.names.specs.declared.number.Fault.{Fault}
+use Rattle.names.specs.Fault.{Fault}
 use Rattle.books.specs.Answer.{answer, answer_in, count_in}
 use Rattle.books.specs.Book.{untidy_of, IsUntidy}
 use Rattle.books.specs.Lent.{contents_by}

@@ -7,7 +7,7 @@ use mathlib.Core.List.{List}
 use lib.ListN.{length}
 use Rattle.names.proofs.Picking.{pick_ind}
 use Rattle.names.specs.Bytes.{Bytes}
-use Rattle.names.specs.declared.number.Fault.{Fault}
+use Rattle.names.specs.Fault.{Fault}
 use Rattle.books.specs.Answer.{plain}
 use Rattle.books.specs.Book.{untidy_of, IsUntidy}
 use Rattle.books.specs.Contents.{Contents}

@@ -1,109 +1,80 @@
 // What is left of a family where only marked motifs are kept: the rules that use no others, of equal rules the first, renumbered in their old order.
-ghost use Rattle.std.specs.Prelude.{◌≡◌, ◌<◌, ◌≤◌};
-ghost use Rattle.names.specs.Spelling.{most_colours};
-ghost use Rattle.books.specs.Keeps.{most_motifs, RuleFits};
+ghost use Rattle.std.specs.Prelude.{◌≡◌, ◌≤◌};
+ghost use Rattle.books.specs.Keeps.{most_motifs};
 ghost use Rattle.tidy.specs.Marks.{rank};
-ghost use Rattle.tidy.specs.Tidied.{uses, renumbered};
-ghost use Rattle.tidy.specs.inner.Steps.{RulesKept};
-ghost use Rattle.tidy.specs.inner.Cleared.{is_left, cleared};
 
 use crate::marking;
+use crate::untidy::{Sound, Untidy};
 use books::equal;
 use books::family::Family;
 use books::rule::{Body, Rule};
 
 // The number of a motif among the marked ones: how many of them stand before it.
-fn rank(marks: u32, motif: usize) -> usize
+fn rank(marks: u32, motif: u8) -> u8
     requires { motif ≤ most_motifs }
-    ensures { (result ≡ rank marks motif) × (result ≤ most_motifs) }
-{
-    u64::count_ones((marks as u64) % (1u64 << (motif as u32))) as usize
-}
-
-// Whether a rule's head and motifs are all marked.
-fn is_usable(marks: u32, rule: Rule) -> bool
-    requires { RuleFits most_motifs most_colours rule }
-    ensures { result ≡ uses marks rule }
-{
-    let body = rule.body;
-    if marking::is_marked(marks, rule.head) {
-        marking::all_marked(marks, body)
-    } else {
-        false
-    }
-}
-
-// Whether a rule is left: its motifs are all marked, and its number stands not among those of the rules before it.
-fn is_left(marks: u32, rule: Rule, before: &[u32], number: u32) -> bool
-    requires { RuleFits most_motifs most_colours rule }
-    ensures { result ≡ is_left marks rule before.now number }
-{
-    if is_usable(marks, rule) {
-        if equal::stands(before, number) {
-            return false;
-        }
-        return true;
-    }
-    false
-}
-
-// A motif's number as a rule holds it.
-fn renumber(marks: u32, motif: u8) -> u8
-    requires { motif < most_motifs }
     ensures { result ≡ rank marks motif }
 {
-    rank(marks, motif as usize) as u8
+    u64::count_ones(u64::from(marks) % (1u64 << motif)) as u8
 }
 
-fn renumber_rule(marks: u32, rule: Rule) -> Rule
-    requires { RuleFits most_motifs most_colours rule }
-    ensures { result ≡ renumbered marks rule }
-{
-    let head = renumber(marks, rule.head);
-    let body = rule.body;
-    match body {
-        Body::Colour(colour) => Rule {
-            head,
-            body: Body::Colour(colour),
-        },
-        Body::Across(left, right) => Rule {
-            head,
-            body: Body::Across(renumber(marks, left), renumber(marks, right)),
-        },
-        Body::Down(upper, lower) => Rule {
-            head,
-            body: Body::Down(renumber(marks, upper), renumber(marks, lower)),
-        },
+impl Sound {
+    ghost use Rattle.tidy.specs.Tidied.{uses, renumbered};
+    ghost use Rattle.tidy.specs.inner.Cleared.{is_left};
+
+    // Whether head and motifs are all marked.
+    #[tactic(auto, unfolding(crate::specs::Tidied::uses, names::specs::Pick::and_then))]
+    fn is_usable(&self, marks: u32) -> bool
+        ensures { result ≡ uses marks self.now.rule }
+    {
+        marking::is_marked(marks, self.rule.head) && self.all_marked(marks)
     }
-}
 
-// The family that is left; its colours stay.
-pub(crate) fn clear(f: Family, marks: u32) -> Family
-    requires { RulesKept f }
-    ensures { result ≡ cleared marks f }
-{
-    let old = f.rules;
-    let count = f.count;
-    let numbers = equal::numbers_of(old, count);
-    let mut rules = f.rules;
-    let mut at = 0;
-    let mut next = 0;
-    while next < count {
-        let i = next;
-        next += 1;
-        let rule = old[i];
-        let number = numbers[i];
-        if is_left(marks, rule, &numbers[0..i], number) {
-            rules[at] = renumber_rule(marks, rule);
-            at += 1;
+    // Whether the rule is left: its motifs are all marked, and its number stands not among those of the rules before it. Equal rules are found by their numbers, as in `books::equal`.
+    #[tactic(auto, unfolding(crate::specs::inner::Cleared::is_left, names::specs::Pick::and_then))]
+    fn is_left(&self, marks: u32, before: &[u32], number: u32) -> bool
+        ensures { result ≡ is_left marks self.now.rule before.now number }
+    {
+        self.is_usable(marks) && !equal::stands(before, number)
+    }
+
+    fn renumbered(&self, marks: u32) -> Rule
+        ensures { result ≡ renumbered marks self.now.rule }
+    {
+        Rule {
+            head: rank(marks, self.rule.head),
+            body: match self.rule.body {
+                Body::Colour(colour) => Body::Colour(colour),
+                Body::Across(left, right) => Body::Across(rank(marks, left), rank(marks, right)),
+                Body::Down(upper, lower) => Body::Down(rank(marks, upper), rank(marks, lower)),
+            },
         }
     }
-    let colours = f.colours;
-    Family {
-        colours,
-        motifs: rank(marks, f.motifs),
-        start: rank(marks, f.start),
-        count: at,
-        rules,
+}
+
+impl<'a> Untidy<'a> {
+    ghost use Rattle.tidy.specs.inner.Cleared.{cleared};
+
+    // The family that is left; its colours stay.
+    pub(crate) fn cleared(&self, marks: u32) -> Family
+        ensures { result ≡ cleared marks self.now.family.now }
+    {
+        let numbers = equal::numbers_of(self.family.rules, self.family.count);
+        // With no heap they are left in a copy of the family's own array.
+        let mut rules = self.family.rules;
+        let mut count = 0;
+        for (i, rule) in self.rules().iter().enumerate() {
+            let rule = Sound { rule: *rule };
+            if rule.is_left(marks, &numbers[..i], numbers[i]) {
+                rules[count] = rule.renumbered(marks);
+                count += 1;
+            }
+        }
+        Family {
+            colours: self.family.colours,
+            motifs: usize::from(rank(marks, self.family.motifs as u8)),
+            start: usize::from(rank(marks, self.family.start as u8)),
+            count,
+            rules,
+        }
     }
 }

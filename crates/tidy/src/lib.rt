@@ -4,3 +4,4 @@
 pub mod calls;
 mod clearing;
 mod marking;
+mod untidy;

@@ -25,9 +25,7 @@ use Rattle.pieces.specs.OnSheet.{on_sheet}
 use Rattle.pieces.proofs.ComingApart.{bulk}
 use Rattle.pieces.proofs.PiecesAlike.{NumberedBy, size_of, CutsOut, whole-cuts, pieces-alike}
 use Rattle.trees.specs.declared.node.Node.{Node}
-use Rattle.trees.specs.declared.step.Step.{Step}
-use Rattle.trees.specs.declared.step.Step.TheVariants.{Wrong, Cell, Join}
-use Rattle.trees.specs.Judge.{join_step, body_step, step, Judged, past, failed, followed, on_step, judge_in, judge}
+use Rattle.trees.specs.Judge.{join_step, body_step, step, Judged, past, failed, followed, on_step, judge_in, judge, Step, Wrong, Cell, Join}
 use Rattle.trees.proofs.Steps.{PartsAt, Means, step-means}
 
 same-where : {A : Type 0} (t : Bool) (x y z : A) → (t ≡ true → x ≡ y) → pick t x z ≡ pick t y z

@@ -5,7 +5,7 @@ use mathlib.Core.List.{List, ◌∷◌, ◌++◌, append_assoc}
 use native.Mathlib.Nat.{mul-add, add-mul, mul-le-mul}
 use native.Mathlib.Omega.{arith}
 use lib.ListN.{length, length-append}
-use Rattle.names.specs.declared.number.Fault.{Fault}
+use Rattle.names.specs.Fault.{Fault}
 use Rattle.books.specs.Contents.{Contents}
 use Rattle.books.specs.Picture.{Picture, size, first, rest}
 use Rattle.books.specs.declared.rule.Dir.{Dir}

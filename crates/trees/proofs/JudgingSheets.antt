@@ -1,10 +1,11 @@
 -- Judging the pieces of a sheet, one node at a time: each is a law of judging by places, kept to the place; the parts of a join that is right lie on the sheet, and have fewer rows
 -- and columns in all than the piece.
-use Prim.Native.Nat.{ℕ, zero, suc, ◌+◌, ◌≤◌, ◌<◌}
+use Prim.Native.Nat.{ℕ, ◌+◌, ◌≤◌, ◌<◌}
 use mathlib.Core.Path.{◌≡◌, refl, sym, ap, ◌∙◌, subst}
-use mathlib.Core.List.{List, [], ◌∷◌}
+use mathlib.Core.List.{List}
 use native.Mathlib.Omega.{arith}
-use lib.ListN.{length, get_or, length-map}
+use lib.ListN.{length, get_or}
+use Rattle.std.specs.Prelude.{Ok, Err}
 use Rattle.books.specs.Search.{Cutting}
 use Rattle.books.specs.declared.rule.Dir.{Dir}
 use Rattle.books.specs.declared.rule.Rule.{Rule}
@@ -17,23 +18,13 @@ use Rattle.pieces.specs.declared.piece.Piece.{Piece}
 use Rattle.pieces.proofs.ComingApart.{bulk, pieces-lessen}
 use Rattle.pieces.proofs.PartsOfPieces.{first-inside, rest-inside}
 use Rattle.pieces.proofs.PiecesOnSheets.{parts-found}
-use Rattle.trees.specs.declared.judge.Verdict.{Verdict}
 use Rattle.trees.specs.declared.node.Node.{Node}
-use Rattle.trees.specs.declared.step.Step.{Step}
-use Rattle.trees.specs.declared.step.Step.TheVariants.{Wrong, Cell, Join}
 use Rattle.trees.specs.Trees.{no_node}
-use Rattle.trees.specs.Judge.{Judged, past, failed, followed, step}
-use Rattle.trees.specs.inner.OnSheets.{node_in, nodes_in, verdict, judged_at, Lying}
+use Rattle.trees.specs.Judge.{Judged, past, failed, followed, Step, Wrong, Cell, Join, step}
+use Rattle.trees.specs.inner.OnSheets.{verdict, judged_at, Lying}
 use Rattle.trees.specs.inner.Waiting.{after}
 use Rattle.trees.proofs.Steps.{PartsAt, Means, step-means}
 use Rattle.trees.proofs.Places.{judge_at, at-end, at-wrong, at-cell, at-parts}
-
--- ── Rows of numbers as nodes ──
-
-pub node_at : (rows : List (List ℕ)) (n : ℕ) → get_or (nodes_in rows) n no_node ≡ node_in (get_or rows n [])
-node_at [] n = refl
-node_at (r ∷ rs) zero = refl
-node_at (r ∷ rs) (suc n) = node_at rs n
 
 -- ── What a verdict says of judging ──
 
@@ -42,46 +33,31 @@ verdict-followed : (j : Judged) (go : ℕ → Judged) → verdict (followed j (�
 verdict-followed (past e left) go = refl
 verdict-followed (failed e) go = refl
 
-abbrev pub wrong_at : ℕ → Verdict
-wrong_at i = record { wrong = 1; place = i }
-
-module _ (s : Size) (cells : List ℕ) (rules : List Rule) (x : Part) (rows : List (List ℕ)) (at : ℕ) (lying : Lying s x.piece) where
+module _ (s : Size) (cells : List ℕ) (rules : List Rule) (x : Part) (ns : List Node) (at : ℕ) (lying : Lying s x.piece) where
   abbrev c : Cutting Piece
   c = on_sheet s cells
 
   abbrev q : Piece
   q = x.piece
 
-  abbrev ns : List Node
-  ns = nodes_in rows
-
   abbrev v : Node
-  v = node_in (get_or rows at [])
+  v = get_or ns at no_node
 
   abbrev k : ℕ
   k = v.cut
 
-  all : length ns ≡ length rows
-  all = length-map rows node_in
-
-  pub none_left : length rows ≤ at → wrong_at at ≡ judged_at s cells rules x ns at
+  pub none_left : length ns ≤ at → Err at ≡ judged_at s cells rules x ns at
   unfolding judged_at
-  none_left h = ap verdict (sym (at-end c rules bulk (pieces-lessen s cells) x.motif q ns at (omega (arith, all))))
+  none_left h = ap verdict (sym (at-end c rules bulk (pieces-lessen s cells) x.motif q ns at h))
 
-  module _ (below : at < length rows) where
-    here : get_or ns at no_node ≡ v
-    here = node_at rows at
-
-    stepped : (t : Step) → t ≡ step c rules x.motif q v → step c rules x.motif q (get_or ns at no_node) ≡ t
-    stepped t e = ap (λ (n : Node). step c rules x.motif q n) here ∙ sym e
-
-    pub wrong-here : Wrong ≡ step c rules x.motif q v → wrong_at at ≡ judged_at s cells rules x ns at
+  module _ (below : at < length ns) where
+    pub wrong-here : Wrong ≡ step c rules x.motif q v → Err at ≡ judged_at s cells rules x ns at
     unfolding judged_at
-    wrong-here e = ap verdict (sym (at-wrong c rules bulk (pieces-lessen s cells) x.motif q ns at (omega (arith, all)) (stepped Wrong e)))
+    wrong-here e = ap verdict (sym (at-wrong c rules bulk (pieces-lessen s cells) x.motif q ns at below (sym e)))
 
-    pub cell-here : Cell ≡ step c rules x.motif q v → record { wrong = 0; place = at + 1 } ≡ judged_at s cells rules x ns at
+    pub cell-here : Cell ≡ step c rules x.motif q v → Ok (at + 1) ≡ judged_at s cells rules x ns at
     unfolding judged_at
-    cell-here e = ap verdict (sym (at-cell c rules bulk (pieces-lessen s cells) x.motif q ns at (omega (arith, all)) (stepped Cell e)))
+    cell-here e = ap verdict (sym (at-cell c rules bulk (pieces-lessen s cells) x.motif q ns at below (sym e)))
 
     module _ (d : Dir) (l r : ℕ) (e : Join d l r ≡ step c rules x.motif q v) where
       abbrev first : Part
@@ -112,5 +88,5 @@ module _ (s : Size) (cells : List ℕ) (rules : List Rule) (x : Part) (rows : Li
       parts-in-turn =
           let one : ℕ → Judged = λ f. judge_at c rules bulk (pieces-lessen s cells) r rest.piece ns f in
           ap verdict
-          (rw here at (at-parts c rules bulk (pieces-lessen s cells) x.motif q ns at (omega (arith, all)) d l r (stepped (Join d l r) e)))
+          (at-parts c rules bulk (pieces-lessen s cells) x.motif q ns at below d l r (sym e))
           ∙ verdict-followed (judge_at c rules bulk (pieces-lessen s cells) l first.piece ns (at + 1)) one

@@ -1,5 +1,4 @@
 pub mod Steps
-pub mod StepsOfRows
 pub mod Rows
 pub mod RightOrFails
 pub mod Pictured
@@ -13,10 +12,7 @@ pub mod OwnRow
 pub mod Settled
 pub mod Agreeing
 pub mod Places
-pub mod Copying
-pub mod HeldTo
 pub mod CodeTells
-pub mod ThinCall
 pub mod JudgingSheets
 pub mod PartsWaiting
 pub mod Examples

@@ -11,9 +11,7 @@ use Rattle.books.specs.Decide.{pictures}
 use Rattle.books.proofs.Deciding.{pictures-lessen}
 use Rattle.trees.specs.declared.node.Node.{Node}
 use Rattle.trees.specs.Trees.{Paints, Joins, Right, paints, joins_two, Fails, TreeOf, leaf, node, FailsAt, missing, here, in_first, in_rest}
-use Rattle.trees.specs.declared.step.Step.{Step}
-use Rattle.trees.specs.declared.step.Step.TheVariants.{Wrong, Cell, Join}
-use Rattle.trees.specs.Judge.{step}
+use Rattle.trees.specs.Judge.{step, Step, Wrong, Cell, Join}
 use Rattle.trees.proofs.RightOrFails.{never_both, right-or-fails}
 use Rattle.trees.proofs.Steps.{Means, step-means, step-cell, step-parts}
 use Rattle.trees.proofs.Rows.{Row, leaf as leaf_taken, node as node_taken, Stops, missing as none, here as stops_here, in_first as Stops-first, in_rest as stops_rest}

@@ -11,9 +11,7 @@ use Rattle.books.specs.Search.{Cutting, Lessens}
 use Rattle.books.specs.declared.rule.Rule.{Rule}
 use Rattle.trees.specs.declared.node.Node.{Node}
 use Rattle.trees.specs.Trees.{no_node}
-use Rattle.trees.specs.declared.step.Step.{Step}
-use Rattle.trees.specs.declared.step.Step.TheVariants.{Wrong, Cell, Join}
-use Rattle.trees.specs.Judge.{step, Judged, past, failed, followed, on_step, judge_in}
+use Rattle.trees.specs.Judge.{step, Judged, past, failed, followed, on_step, judge_in, Step, Wrong, Cell, Join}
 use Rattle.trees.proofs.Rows.{Says, says, parts-less, step-on, row-passed, stops-failed}
 
 module _ {X : Type 0} (c : Cutting X) (rules : List Rule) (bulk : X → ℕ) (less : Lessens c bulk) where

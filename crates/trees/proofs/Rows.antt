@@ -8,9 +8,7 @@ use Rattle.books.specs.declared.rule.Dir.{Dir}
 use Rattle.books.specs.Search.{Cutting, Lessens}
 use Rattle.books.specs.declared.rule.Rule.{Rule}
 use Rattle.trees.specs.declared.node.Node.{Node}
-use Rattle.trees.specs.declared.step.Step.{Step}
-use Rattle.trees.specs.declared.step.Step.TheVariants.{Wrong, Cell, Join}
-use Rattle.trees.specs.Judge.{step, Judged, past, failed, followed, on_step, judge_in}
+use Rattle.trees.specs.Judge.{step, Judged, past, failed, followed, on_step, judge_in, Step, Wrong, Cell, Join}
 use Rattle.trees.proofs.Steps.{Means, step-means}
 
 -- the rows that the steps take, and the first node that they do not

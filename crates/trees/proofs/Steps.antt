@@ -19,9 +19,7 @@ use Rattle.books.specs.declared.rule.Body.{Body}
 use Rattle.books.specs.declared.rule.Body.TheVariants.{Colour, Across, Down}
 use Rattle.names.proofs.Tests.{and_both, and-make}
 use Rattle.trees.specs.declared.node.Node.{Node}
-use Rattle.trees.specs.declared.step.Step.{Step}
-use Rattle.trees.specs.declared.step.Step.TheVariants.{Wrong, Cell, Join}
-use Rattle.trees.specs.Judge.{join_step, body_step, step}
+use Rattle.trees.specs.Judge.{join_step, body_step, step, Step, Wrong, Cell, Join}
 
 pick_true : {A : Type 0} (t : Bool) (x y : A) → t ≡ true → pick t x y ≡ x
 pick_true true x y e = refl

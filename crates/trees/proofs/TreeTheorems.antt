@@ -7,7 +7,7 @@ use mathlib.Core.List.{List, ◌∷◌, ◌++◌}
 use mathlib.Core.Logic.{◌↔◌, ◌⊎◌, inl, inr}
 use native.Mathlib.Omega.{arith}
 use lib.ListN.{length}
-use Rattle.names.specs.declared.number.Fault.{Fault}
+use Rattle.names.specs.Fault.{Fault}
 use Rattle.names.proofs.Tests.{together, neither}
 use Rattle.books.specs.Answer.{InputsNumber, answer, packed, Packs}
 use Rattle.books.specs.Contents.{Contents}

@@ -1,7 +1,7 @@
 -- A row of nodes judged from the top, of whatever comes apart across and down: a node by its motif and its piece, then each part in turn.
 use Rattle.std.specs.Prelude.{ℕ, zero, suc, ◌+◌, List, [], ◌∷◌, eqb, ltb, length, get_or}
 use Rattle.names.specs.Pick.{pick, and_then, fault}
-use Rattle.names.specs.declared.number.Fault.{Fault}
+use Rattle.names.specs.Fault.{Fault}
 use Rattle.books.specs.Contents.{Contents}
 use Rattle.books.specs.Picture.{Picture}
 use Rattle.books.specs.Search.{Cutting}
@@ -13,8 +13,12 @@ use Rattle.books.specs.declared.rule.Rule.{Rule}
 use Rattle.books.specs.declared.rule.Body.{Body}
 use Rattle.books.specs.declared.rule.Body.TheVariants.{Colour, Across, Down}
 use Rattle.trees.specs.declared.node.Node.{Node}
-use Rattle.trees.specs.declared.step.Step.{Step}
-use Rattle.trees.specs.declared.step.Step.TheVariants.{Wrong, Cell, Join}
+
+-- a node fails; it is a cell; or it joins two parts, of these motifs
+pub data Step : Type 0 where
+  Wrong : Step
+  Cell : Step
+  Join : Dir → ℕ → ℕ → Step
 
 -- a join is right where its cut leaves no part empty
 unfoldable pub join_step : {X : Type 0} → Cutting X → X → ℕ → Dir → ℕ → ℕ → Step

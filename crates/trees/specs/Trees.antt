@@ -1,7 +1,7 @@
 -- Trees as rows of nodes: each node, then the nodes of its first part, then those of its second; and the first node of a row that fails.
 use Rattle.std.specs.Prelude.{ℕ, suc, ◌+◌, ◌≤◌, ◌<◌, ◌≡◌, List, [], ◌∷◌, ◌++◌, length, get_or}
 use Rattle.names.specs.Pick.{fault}
-use Rattle.names.specs.declared.number.Fault.{Fault}
+use Rattle.names.specs.Fault.{Fault}
 use Rattle.books.specs.Contents.{Contents, Called}
 use Rattle.books.specs.Picture.{Picture, joins, size, first, rest}
 use Rattle.books.specs.Rules.{no_rule}

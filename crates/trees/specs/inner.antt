@@ -1,4 +1,4 @@
+pub mod Taken
 pub mod OnSheets
-pub mod Gather
 pub mod Held
 pub mod Waiting

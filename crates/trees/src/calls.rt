@@ -3,26 +3,21 @@ ghost use Rattle.std.specs.Prelude.{◌≡◌, take};
 ghost use Rattle.books.specs.Answer.{packed};
 ghost use Rattle.trees.specs.Outcome.{tree_answer};
 
-use crate::gather::{gather, gather_own};
-use crate::held::{hold, looked_at};
+use crate::held::Held;
 use crate::node::{MOST_NODES, Node};
-use crate::tell::tell;
-use books::answer::{Answer, pack, unblamed};
-use books::press::PRESSES;
+use books::answer::{Answer, pack};
 
-// Asks whether a row of nodes is a tree that derives a sheet of a press from the start motif of a book, with nothing left over.
+/// Asks whether a row of nodes is a tree that derives a sheet of a press from the start motif of a book, with nothing left over.
 pub fn check_tree(press: usize, book: &[u8], sheet: &[u8], nodes: &[Node]) -> Answer
     ensures { result ≡ tree_answer press book.now sheet.now nodes.now }
 {
-    if press >= PRESSES {
-        return unblamed(21);
+    match Held::read(press, book, sheet) {
+        Ok(held) => held.answer(nodes),
+        Err(answer) => answer,
     }
-    let held = hold(press, book, sheet);
-    let count = looked_at(nodes.len(), held);
-    tell(held, gather(nodes, count), count)
 }
 
-// The same of the first so many nodes of a row by value, or of all where there are fewer.
+/// The same of the first so many nodes of a row by value, or of all where there are fewer.
 pub fn check_copied(
     press: usize,
     book: &[u8],
@@ -32,18 +27,10 @@ pub fn check_copied(
 ) -> Answer
     ensures { result ≡ tree_answer press book.now sheet.now (take count nodes) }
 {
-    if press >= PRESSES {
-        return unblamed(21);
-    }
-    let held = hold(press, book, sheet);
-    let most = looked_at(MOST_NODES, held);
-    if count < most {
-        return tell(held, gather_own(nodes, count), count);
-    }
-    tell(held, gather_own(nodes, most), most)
+    check_tree(press, book, sheet, &nodes[..count.min(MOST_NODES)])
 }
 
-// The same for the C host.
+/// The same for the C host.
 pub fn dv_check_tree(press: usize, book: &[u8], sheet: &[u8], nodes: &[Node]) -> u64
     ensures { result ≡ packed (tree_answer press book.now sheet.now nodes.now) 0 }
 {

@@ -1,25 +1,20 @@
-// Nodes, as rows of two numbers, held to a piece: a node by its motif and its piece, then each part in turn.
+// Nodes judged from the top: a node by its motif and its piece, then each part in turn.
 ghost use Rattle.std.specs.Prelude.{◌≡◌};
-ghost use Rattle.books.specs.RuleBytes.{rules_in};
-ghost use Rattle.trees.specs.inner.OnSheets.{Lying, nodes_in, judged_at};
 ghost use Rattle.trees.specs.inner.Waiting.{no_part};
 
-use crate::step::{Step, step_of, wide};
-use books::size::Size;
+use crate::held::Held;
+use crate::node::Node;
+use crate::step::Taken;
+use books::answer::Answer;
+use books::reply::Reply;
 use pieces::on_sheet::parts_on;
 use pieces::part::Part;
 use pieces::piece::{MOST, Piece};
 
-// The place after the nodes read, where all are right and wrong is 0; or that of the first node that fails, where it is 1.
-#[derive(Clone, Copy)]
-pub(crate) struct Verdict {
-    pub(crate) wrong: usize,
-    pub(crate) place: usize,
-}
-
 // More parts than can wait at once: each has fewer rows and columns in all than the piece whose part it is.
 const MOST_WAITING: usize = 2 * MOST;
 
+// Parts of zeros: an array of them is cleared at once, and one that repeats the sheet costs a small tree a twelfth more instructions.
 fn no_part() -> Part
     ensures { result ≡ no_part }
 {
@@ -34,60 +29,74 @@ fn no_part() -> Part
     }
 }
 
-// The nodes of a piece and its motif. The first part of a join is due next, and its second part waits, behind those that wait already; after a cell the part
-// that waited least is due. A function that called itself for each part would pass all of this on at every node, and take twice as long.
-pub(crate) fn judge(
-    rules: &[[u8; 4]],
-    cells: &[u8],
-    size: Size,
-    nodes: &[[u16; 2]],
-    x: Part,
-) -> Verdict
-    requires { Lying size x.piece }
-    ensures { result ≡ judged_at size cells.now (rules_in rules.now) x (nodes_in nodes.now) 0 }
-{
-    let mut waiting = [no_part(); MOST_WAITING];
-    let mut count = 0;
-    let mut due = x;
-    let mut next = 0;
-    while next < nodes.len() {
-        let at = next;
-        next += 1;
-        let n = nodes[at];
-        let k = wide(n[1]);
-        let step = step_of(rules, cells, size, due, wide(n[0]), k);
-        match step {
-            Step::Wrong => {
-                return Verdict {
-                    wrong: 1,
-                    place: at,
-                };
-            }
-            Step::Cell => {
-                if count == 0 {
-                    return Verdict {
-                        wrong: 0,
-                        place: next,
-                    };
-                }
-                count -= 1;
-                due = waiting[count];
-            }
-            Step::Join {
-                direction,
-                first,
-                second,
-            } => {
-                let parts = parts_on(size, due.piece, direction, k, first, second);
-                let rest = parts.rest;
-                waiting[count] = rest;
-                count += 1;
-                due = parts.first;
-            }
+impl Held {
+    ghost use Rattle.trees.specs.inner.Held.{sheet_of, judged_held, held_answer};
+
+    // The whole sheet, for the start motif.
+    fn sheet(&self) -> Part
+        ensures { result ≡ sheet_of self.now }
+    {
+        Part {
+            piece: Piece {
+                height: self.size.rows,
+                width: self.size.cols,
+                top: 0,
+                left: 0,
+            },
+            motif: self.family.start as u8,
         }
     }
-    Verdict {
-        wrong: 1,
-        place: next,
+
+    // The number of nodes read, where all are right; or the place of the first that fails. The first part of a join is due next, and its second part waits,
+    // behind those that wait already; after a cell the part that waited least is due. A function that calls itself for each part takes 1.4 times as many
+    // instructions.
+    pub(crate) fn judge(&self, nodes: &[Node]) -> Result<usize, usize>
+        ensures { result ≡ judged_held self.now nodes.now }
+    {
+        let mut due = self.sheet();
+        // A stack in fixed memory. The kit's `ArrayVec` keeps such an array and count, and asks for a `Default` of `Part`, which has no meaning in `pieces`.
+        let mut waiting = [no_part(); MOST_WAITING];
+        let mut count = 0;
+        for (at, node) in nodes.iter().enumerate() {
+            let Some(taken) = self.take(due, *node) else {
+                return Err(at);
+            };
+            match taken {
+                Taken::Cell => {
+                    if count == 0 {
+                        return Ok(at + 1);
+                    }
+                    count -= 1;
+                    due = waiting[count];
+                }
+                Taken::Join {
+                    direction,
+                    first,
+                    second,
+                } => {
+                    let cut = usize::from(node.cut);
+                    let parts = parts_on(self.size, due.piece, direction, cut, first, second);
+                    waiting[count] = parts.rest;
+                    count += 1;
+                    due = parts.first;
+                }
+            }
+        }
+        Err(nodes.len())
+    }
+
+    // A wrong tree at the node that fails, or at the number of nodes read where some are left over; else it is accepted.
+    #[tactic(auto, unfolding(crate::specs::inner::Held::held_answer))]
+    pub(crate) fn answer(&self, nodes: &[Node]) -> Answer
+        ensures { result ≡ held_answer self.now nodes.now }
+    {
+        let place = match self.judge(nodes) {
+            Ok(read) if read >= nodes.len() => return Reply::Accepted.answer(),
+            Ok(place) | Err(place) => place,
+        };
+        Answer {
+            place,
+            ..Reply::WrongTree.answer()
+        }
     }
 }

@@ -2,9 +2,8 @@
 #![tactic(auto)]
 
 pub mod calls;
-mod gather;
 mod held;
 mod judge;
 pub mod node;
+mod read;
 mod step;
-mod tell;

@@ -1,20 +1,17 @@
 // A node judged by its motif and its piece.
 ghost use Rattle.std.specs.Prelude.{◌≡◌};
-ghost use Rattle.books.specs.RuleBytes.{rules_in};
 ghost use Rattle.pieces.specs.OnSheet.{on_sheet};
-ghost use Rattle.trees.specs.Judge.{step};
-ghost use Rattle.trees.specs.inner.OnSheets.{node};
+ghost use Rattle.trees.specs.inner.Taken.{stepped};
 
-use books::lent::direction;
-use books::rule::Dir;
-use books::size::Size;
+use crate::held::Held;
+use crate::node::Node;
+use books::rule::{Body, Dir};
 use pieces::on_sheet::covers_on;
 use pieces::part::{Part, reach};
 
-// It fails; it is a cell; or it joins two parts, of these motifs.
+// What a right node is: a cell, or a join of two parts, of these motifs.
 #[derive(Clone, Copy)]
-pub(crate) enum Step {
-    Wrong,
+pub(crate) enum Taken {
     Cell,
     Join {
         direction: Dir,
@@ -23,49 +20,34 @@ pub(crate) enum Step {
     },
 }
 
-pub(crate) fn wide(x: u16) -> usize
-    ensures { result ≡ x }
-{
-    x as usize
-}
+impl Held {
+    ghost use Rattle.trees.specs.Judge.{step};
+    ghost use Rattle.trees.specs.inner.Held.{rules_of};
 
-// A node with this rule and this cut, for a piece and its motif: the rule stands in the book and has the motif for its head; a colour has cut 0, and the piece
-// is one cell of it; the cut of a join leaves no part empty.
-pub(crate) fn step_of(
-    rules: &[[u8; 4]],
-    cells: &[u8],
-    size: Size,
-    x: Part,
-    number: usize,
-    k: usize,
-) -> Step
-    ensures { result ≡ step (on_sheet size cells.now) (rules_in rules.now) x.motif x.piece (node number k) }
-{
-    if number >= rules.len() {
-        return Step::Wrong;
-    }
-    let rule = rules[number];
-    if rule[0] != x.motif {
-        return Step::Wrong;
-    }
-    if rule[1] == 0 {
-        if k == 0 {
-            if covers_on(cells, size, x.piece, rule[2]) {
-                return Step::Cell;
-            }
+    // How a node is taken for a piece and its motif, if it is right: its rule stands in the book and has the motif for its head; a colour has cut 0, and the
+    // piece is one cell of it; the cut of a join leaves no part empty.
+    #[tactic(auto, unfolding(crate::specs::Judge::step, crate::specs::Judge::body_step, crate::specs::Judge::join_step, names::specs::Pick::and_then))]
+    pub(crate) fn take(&self, due: Part, node: Node) -> Option<Taken>
+        ensures { stepped result ≡ step (on_sheet self.now.size self.now.cells) (rules_of self.now) due.motif due.piece node }
+    {
+        let rule = self.family.rules().get(usize::from(node.rule))?;
+        if rule.head != due.motif {
+            return None;
         }
-        return Step::Wrong;
-    }
-    let d = direction(rule[1]);
-    if k == 0 {
-        return Step::Wrong;
-    }
-    if k >= reach(x.piece, d) {
-        return Step::Wrong;
-    }
-    Step::Join {
-        direction: d,
-        first: rule[2],
-        second: rule[3],
+        let cut = usize::from(node.cut);
+        let (direction, first, second) = match rule.body {
+            Body::Colour(colour) => {
+                return (cut == 0 && covers_on(&self.cells, self.size, due.piece, colour)).then_some(
+                    Taken::Cell,
+                );
+            }
+            Body::Across(left, right) => (Dir::Across, left, right),
+            Body::Down(upper, lower) => (Dir::Down, upper, lower),
+        };
+        (0 < cut && cut < reach(due.piece, direction)).then_some(Taken::Join {
+            direction,
+            first,
+            second,
+        })
     }
 }

@@ -6,4 +6,4 @@ use Rattle.belongs.proofs.main.Goals as goal
 
 pub print_nodes-requires : goal.print_nodes-requires
 unfolding greatest_of
-print_nodes-requires c = omega (arith, nodes-few _ _ c.nodes.ensures, c.derive-d.auto.tree)
+print_nodes-requires c = omega (arith, nodes-few _ _ c.nodes.ensures, c.derive.auto.tree)

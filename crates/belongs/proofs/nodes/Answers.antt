@@ -18,5 +18,5 @@ area s z e = omega (arith, cells s z e, cells-few s, room_enough 0)
 pub overflow_mul-cells : goal.overflow_mul-cells
 overflow_mul-cells c = omega (arith, area _ _ c.sheet_size-size.ensures)
 
-pub overflow_mul-result : goal.overflow_mul-result
-overflow_mul-result c = omega (arith, area _ _ c.sheet_size-size.ensures)
+pub overflow_mul-cells-2 : goal.overflow_mul-cells-2
+overflow_mul-cells-2 c = omega (arith, area _ _ c.sheet_size-size.ensures)

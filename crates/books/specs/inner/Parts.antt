@@ -1,28 +1,11 @@
 -- What private readers leave in lent arrays, and what they ask for.
-use Rattle.std.specs.Prelude.{ℕ, ◌*◌, ◌≤◌, ◌≡◌, List}
+use Rattle.std.specs.Prelude.{ℕ, List, Result, Ok, Err}
 use Rattle.names.specs.Pick.{fault}
-use Rattle.names.specs.Spelling.{most_colours}
-use Rattle.books.specs.Size.{room}
-use Rattle.books.specs.Cells.{CellsRead}
-use Rattle.books.specs.Keeps.{most_motifs, most_rules}
-use Rattle.books.specs.declared.cells.CellsEnd.{CellsEnd}
-use Rattle.books.specs.declared.sheet.SheetFigures.{SheetFigures}
+use Rattle.names.specs.Fault.{told_fault}
+use Rattle.names.specs.declared.fault.Fault.{Fault as CodeFault}
+use Rattle.books.specs.Cells.{CellsRead, refused_cells}
 
--- cells told in parts: they are in an array
-pub record CellsInto (c : CellsRead) (r : CellsEnd) (numbers : List ℕ) : Type 0 where
-  pub fault : r.fault ≡ c.fault
-  pub next : r.next ≡ c.next
-  pub cells : numbers ≡ c.cells
-
--- figures whose cells can be read
-pub record Fillable (g : SheetFigures) : Type 0 where
-  pub fine : g.fault ≡ fault 0 0
-  pub colours_few : g.colours ≤ most_colours
-  pub area_some : 1 ≤ g.size.rows * g.size.cols
-  pub area_few : g.size.rows * g.size.cols ≤ room
-
--- figures whose rules can be read
-pub record FiguresFew (motifs colours count : ℕ) : Type 0 where
-  pub motifs_few : motifs ≤ most_motifs
-  pub colours_few : colours ≤ most_colours
-  pub rules_few : count ≤ most_rules
+-- cells in an array, with the place where the reader stands after them
+abbrev pub told_cells : Result (Unit {0}) CodeFault → List ℕ → ℕ → CellsRead
+told_cells (Ok _) cells next = record { fault = fault 0 0; cells = cells; next = next }
+told_cells (Err f) cells next = refused_cells (told_fault f)

@@ -17,7 +17,7 @@ changed_body Flipped = swapped down
 changed_body Transposed = turned
 
 -- the head stays
-unfoldable pub changed_rule : Change → Rule → Rule
+abbrev pub changed_rule : Change → Rule → Rule
 changed_rule c r = record { head = r.head; body = changed_body c r.body }
 
 abbrev pub paired : Pairing → Contents → Contents → Contents

@@ -1,22 +1,10 @@
 -- What merging the colours of two lent books gives.
-use Rattle.std.specs.Prelude.{ℕ, ◌+◌, ◌≤◌, ◌<◌, ◌≡◌, List, ◌++◌, length, get_or}
+use Rattle.std.specs.Prelude.{ℕ, ◌≤◌, ◌<◌, ◌≡◌, List, ◌++◌, get_or}
 use Rattle.names.specs.Name.{listed}
-use Rattle.names.specs.Spelling.{most_colours, Distinct}
 use Rattle.names.specs.Colours.{name_in, names_in}
 use Rattle.names.specs.declared.colours.Colours.{Colours}
 use Rattle.families.specs.Merged.{merged}
 use Rattle.families.specs.declared.merge.Merged.{Merged}
-
--- the colours of a lent book, as reading leaves them: parts of the book, with distinct names, and not too many
-pub record Lists (s : List ℕ) (c : Colours) : Type 0 where
-  pub few : c.count ≤ most_colours
-  pub inside : (i : ℕ) → i < c.count → get_or c.starts i 0 + get_or c.lens i 0 ≤ length s
-  pub distinct : Distinct (names_in s c)
-
--- ... and those of two
-pub record ListsBoth (s : List ℕ) (f : Colours) (t : List ℕ) (g : Colours) : Type 0 where
-  pub first : Lists s f
-  pub second : Lists t g
 
 -- the first book's colours with these parts of the second are the merged list, where each of the second's colours has its number
 pub record Merges (s : List ℕ) (f : Colours) (t : List ℕ) (g : Colours) (m : Merged) : Type 0 where

@@ -1,11 +1,10 @@
 -- What the joins of one direction give at the cuts of a course over a table, read one after the other.
-use Rattle.std.specs.Prelude.{ℕ, ◌+◌, ◌-◌, ◌*◌, ◌≤◌, ◌<◌, ◌^◌, List, get_or, drop}
+use Rattle.std.specs.Prelude.{ℕ, ◌+◌, ◌-◌, ◌*◌, ◌<◌, ◌^◌, List, get_or, drop}
 use Rattle.std.specs.Int.Bits.{bit_or}
 use Rattle.books.specs.declared.rule.Dir.{Dir}
 use Rattle.books.specs.declared.rule.Dir.TheVariants.{Across as across, Down as down}
 use Rattle.books.specs.Keeps.{most_rules}
 use Rattle.pieces.specs.Firing.{gathered, fired_at}
-use Rattle.pieces.specs.Masks.{heads_from}
 use Rattle.pieces.specs.inner.Course.{step, after, Runs}
 use Rattle.pieces.specs.inner.Tally.{joined}
 use Rattle.pieces.specs.declared.course.Course.{Course}
@@ -32,8 +31,7 @@ along t masks count c = gathered c.cuts (at_cut t masks count c)
 abbrev pub also_along : List ℕ → List ℕ → ℕ → Course → Joined → Joined
 also_along t masks count c before = joined (bit_or before.heads (along t masks count c)) (before.trials + c.cuts * count)
 
--- what the loop asks for: a course in a table of so many entries, as many masks as hold so many joins, and trials before it that leave room for its own
-pub record AlongDue (entries masks count : ℕ) (c : Course) (before : Joined) : Type 0 where
+-- what the loop asks for: a course in a table of so many entries, and trials before it that leave room for its own
+pub record AlongDue (entries count : ℕ) (c : Course) (before : Joined) : Type 0 where
   pub runs : Runs entries c
-  pub long : heads_from + count ≤ masks
   pub few : before.trials + c.cuts * count < 2 ^ 32

@@ -1,11 +1,14 @@
 -- The course of the cuts of a piece: the slots of the two parts, carried from cut to cut by additions alone.
-use Rattle.std.specs.Prelude.{ℕ, zero, suc, ◌+◌, ◌-◌, ◌*◌, ◌≤◌, ◌<◌, ◌^◌}
+use Rattle.std.specs.Prelude.{ℕ, zero, suc, ◌+◌, ◌-◌, ◌*◌, ◌≤◌, ◌<◌, ◌^◌, ◌≡◌}
 use Rattle.books.specs.declared.rule.Dir.TheVariants.{Across as across, Down as down}
 use Rattle.books.specs.declared.rule.Dir.{Dir}
 use Rattle.pieces.specs.Pieces.{stretches, slot_of}
 use Rattle.pieces.specs.Parts.{reach, first_part}
 use Rattle.pieces.specs.declared.piece.Piece.{Piece}
+use Rattle.pieces.specs.Most.{most}
+use Rattle.pieces.specs.inner.Room.{most_cells}
 use Rattle.pieces.specs.declared.course.Course.{Course}
+use Rattle.pieces.specs.declared.course.Span.{Span}
 
 -- from one cut to the next
 abbrev pub step : Course → Course
@@ -53,6 +56,15 @@ short down n p = stretches n (p.width - 1)
 abbrev pub shorter : Dir → ℕ → Piece → ℕ
 shorter across n p = p.top + 1
 shorter down n p = stretches n p.width
+
+-- what the code takes of a direction: these numbers, of which there is room for the first two
+pub record Spans (d : Dir) (m n : ℕ) (p : Piece) (s : Span) : Type 0 where
+  pub cells_are : s.cells ≡ cells d m n
+  pub change_is : s.change ≡ change d m n p
+  pub short_is : s.short ≡ short d n p
+  pub shorter_is : s.shorter ≡ shorter d n p
+  pub cells_few : s.cells ≤ most
+  pub change_few : s.change ≤ most_cells
 
 -- the steps of the first cut, ...
 abbrev pub first_rise : Dir → ℕ → ℕ → Piece → ℕ

@@ -1,16 +1,13 @@
 -- What filling a table asks of the masks and of the cells.
-use Rattle.std.specs.Prelude.{ℕ, ◌+◌, ◌*◌, ◌≤◌, ◌<◌, ◌^◌, ◌≡◌, List, length, get_or}
+use Rattle.std.specs.Prelude.{ℕ, ◌*◌, ◌≤◌, ◌<◌, ◌≡◌, List, length, get_or}
 use Rattle.books.specs.Keeps.{most_rules}
 use Rattle.books.specs.Size.{Within}
-use Rattle.books.specs.declared.sheet.SheetFigures.{SheetFigures}
+use Rattle.books.specs.SheetRead.{SheetFigures}
 use Rattle.books.specs.declared.size.Size.{Size}
 use Rattle.pieces.specs.Most.{most}
 use Rattle.pieces.specs.Masks.{colour_masks, all_masks}
 use Rattle.pieces.specs.declared.masks.Joins.{Joins}
-use Rattle.pieces.specs.declared.piece.Piece.{Piece}
-use Rattle.pieces.specs.inner.Room.{Slotted}
 use Rattle.pieces.specs.inner.Seen.{Tabled}
-use Rattle.pieces.specs.inner.Tally.{tried_at}
 
 -- so many masks, with a place for each join
 pub record MasksFit (masks : ℕ) (j : Joins) : Type 0 where
@@ -18,35 +15,19 @@ pub record MasksFit (masks : ℕ) (j : Joins) : Type 0 where
   pub across_few : j.across ≤ most_rules
   pub down_few : j.down ≤ most_rules
 
--- what filling a table asks for: the table of a sheet, and so many masks with a place for each join
-pub record TableDue (s : Size) (work : List ℕ) (masks : ℕ) (j : Joins) : Type 0 where
-  pub tabled : Tabled s work
-  pub fit : MasksFit masks j
-
--- what the entry of a piece asks for: the same, and the piece with its slot; ...
-pub record EntryDue (s : Size) (work : List ℕ) (masks : ℕ) (j : Joins) (p : Piece) (slot : ℕ) : Type 0 where
-  pub table : TableDue s work masks j
-  pub here : Slotted s.rows s.cols p slot
-
--- ... and where its trials are counted, so few before it that there is room for its own
-pub record CountDue (s : Size) (work : List ℕ) (masks : ℕ) (j : Joins) (p : Piece) (slot trials : ℕ) : Type 0 where
-  pub entry : EntryDue s work masks j p slot
-  pub few : trials + tried_at j p < 2 ^ 32
-
 -- so many cells, with painters for each one's colour
 pub record Paintable (cells : List ℕ) (count : ℕ) : Type 0 where
   pub all : count ≤ length cells
   pub low : (i : ℕ) → i < count → get_or cells i 0 < colour_masks
 
--- what painting so many cells asks for: all masks, a table that has their entries, and the cells
-pub record PaintDue (masks : ℕ) (cells : List ℕ) (count entries : ℕ) : Type 0 where
-  pub all : masks ≡ all_masks
+-- what painting so many cells asks for: a table that has their entries, and the cells
+pub record PaintDue (cells : List ℕ) (count entries : ℕ) : Type 0 where
   pub room : count ≤ entries
   pub painted : Paintable cells count
 
 -- what filling a table from the cells on asks for
-pub record FillDue (s : Size) (work : List ℕ) (masks : ℕ) (j : Joins) (cells : List ℕ) : Type 0 where
-  pub table : TableDue s work masks j
+pub record FillDue (s : Size) (work cells : List ℕ) : Type 0 where
+  pub tabled : Tabled s work
   pub painted : Paintable cells (s.rows * s.cols)
 
 -- the figures of a sheet with no fault, and the numbers of its cells

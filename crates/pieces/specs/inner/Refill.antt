@@ -3,20 +3,19 @@ use Rattle.std.specs.Prelude.{ℕ, ◌+◌, ◌≤◌, ◌<◌, Bool, List, ltb}
 use Rattle.names.specs.Pick.{and_then}
 use Rattle.books.specs.Size.{Within}
 use Rattle.books.specs.declared.size.Size.{Size}
-use Rattle.pieces.specs.declared.masks.Joins.{Joins}
 use Rattle.pieces.specs.declared.piece.Piece.{Piece}
 use Rattle.pieces.specs.Most.{most}
 use Rattle.pieces.specs.Pieces.{Inside, total, slot_of}
 use Rattle.pieces.specs.Refill.{HasCell}
-use Rattle.pieces.specs.inner.ForTable.{TableDue}
+use Rattle.pieces.specs.inner.Seen.{Tabled}
 
 -- a stretch, one place further, still has the cell and lies in the row
-unfoldable pub further? : ℕ → ℕ → ℕ → ℕ → Bool
-further? n cell from long = and_then (ltb from cell) (λ _. ltb (from + long) n)
+unfoldable pub goes_further : ℕ → ℕ → ℕ → ℕ → Bool
+goes_further n cell from long = and_then (ltb from cell) (λ _. ltb (from + long) n)
 
--- what making entries anew asks for: what filling their table does, and a cell of the sheet
-pub record RefillDue (s : Size) (work : List ℕ) (masks : ℕ) (j : Joins) (row column : ℕ) : Type 0 where
-  pub table : TableDue s work masks j
+-- what making entries anew asks for: the table of a sheet, and a cell of the sheet
+pub record RefillDue (s : Size) (work : List ℕ) (row column : ℕ) : Type 0 where
+  pub tabled : Tabled s work
   pub row_on : row < s.rows
   pub column_on : column < s.cols
 

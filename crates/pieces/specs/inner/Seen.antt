@@ -39,27 +39,11 @@ pub record Tabled (s : Size) (work : List ℕ) : Type 0 where
   pub entries : total s.rows s.cols ≤ length work
 
 -- ... and there is a colour for each cell
-pub record Ready (s : Size) (work colours : List ℕ) : Type 0 where
-  pub tabled : Tabled s work
-  pub cells : s.rows * s.cols ≤ length colours
-
--- the same at a piece of the sheet
-pub record TabledAt (s : Size) (work : List ℕ) (q : Piece) : Type 0 where
-  pub tabled : Tabled s work
-  pub on : On s q
-
--- at both parts of a cut; ...
-pub record PartsTabled (s : Size) (work : List ℕ) (x : Parts) : Type 0 where
-  pub tabled : Tabled s work
-  pub first_on : On s x.first.piece
-  pub rest_on : On s x.rest.piece
-
--- ... and at a piece by the colours, alone and beside the table
-pub record Coloured (s : Size) (colours : List ℕ) (q : Piece) : Type 0 where
+pub record Celled (s : Size) (colours : List ℕ) : Type 0 where
   pub sizes : Within most s.rows s.cols
   pub cells : s.rows * s.cols ≤ length colours
-  pub on : On s q
 
-pub record ReadyAt (s : Size) (work colours : List ℕ) (q : Piece) : Type 0 where
-  pub ready : Ready s work colours
-  pub on : On s q
+-- both parts of a cut are pieces of the sheet
+pub record BothOn (s : Size) (x : Parts) : Type 0 where
+  pub first_on : On s x.first.piece
+  pub rest_on : On s x.rest.piece

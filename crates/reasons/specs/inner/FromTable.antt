@@ -1,8 +1,9 @@
 -- The reason as the code finds it, from a slice that holds the table of a picture.
-use Rattle.std.specs.Prelude.{ℕ, ◌*◌, ◌≤◌, Bool, List, eqb, ltb, get_or, length}
-use Rattle.names.specs.Pick.{pick, and_then}
+use Rattle.std.specs.Prelude.{ℕ, ◌*◌, ◌≤◌, Bool, List, Result, Ok, Err, eqb, ltb, get_or, length}
+use Rattle.names.specs.Pick.{pick}
+use Rattle.books.specs.Answer.{plain}
 use Rattle.books.specs.Press.{greatest_of}
-use Rattle.books.specs.Size.{room, Within}
+use Rattle.books.specs.Size.{Within}
 use Rattle.books.specs.declared.answer.Answer.{Answer}
 use Rattle.books.specs.declared.size.Size.{Size}
 use Rattle.names.specs.Counted.{least}
@@ -17,23 +18,15 @@ use Rattle.reasons.specs.Why.{cell_reason, piece_reason}
 unfoldable pub bare : List ℕ → ℕ → Bool
 bare work i = eqb (get_or work i 0) 0
 
--- what looking for a bare cell asks for: no more cells than a sheet may have, with an entry for each
-pub record CellsHeld (work : List ℕ) (cells : ℕ) : Type 0 where
-  pub few : cells ≤ room
-  pub held : cells ≤ length work
-
 -- what finding a reason asks for: a sheet of a press, with an entry for each of its pieces
 pub record PiecesHeld (press : ℕ) (size : Size) (work : List ℕ) : Type 0 where
   pub within : Within (greatest_of press) size.rows size.cols
   pub held : total size.rows size.cols ≤ length work
 
--- what is found with the entry at i: the first bare one is kept, and `cells` means that none was found yet
-unfoldable pub kept_first : ℕ → ℕ → ℕ → ℕ → ℕ
-kept_first found cells i entry = pick (and_then (eqb found cells) (λ _. eqb entry 0)) i found
-
--- an answer with no reason
-abbrev pub unexplained : Answer → WhyNot
-unexplained a = record { answer = a; reason = NoReason }
+-- what the code tells: the reason, or an answer with none
+abbrev pub told_why : Result Reason Answer → WhyNot
+told_why (Ok reason) = record { answer = plain 0; reason = reason }
+told_why (Err a) = record { answer = a; reason = NoReason }
 
 -- of a sheet of m rows and n columns: the first bare cell, then that the size card has not its size, then the largest piece
 unfoldable pub reason_in : Bool → List ℕ → ℕ → ℕ → ℕ → Reason

@@ -71,11 +71,10 @@ pub record Answerable (answer : ℕ) (f : List ℕ) : Type 0 where
   pub counted : count_place answer < answer_counts
   pub spare : Spare 1 f
 
--- so many cells, each of a colour that is counted
-pub record Colourable (cells : List ℕ) (count : ℕ) (f : List ℕ) : Type 0 where
-  pub all : count ≤ length cells
-  pub low : (i : ℕ) → i < count → get_or cells i 0 < most_colours
-  pub spare : Spare count f
+-- cells, each of a colour that is counted
+pub record Colourable (cells f : List ℕ) : Type 0 where
+  pub low : (i : ℕ) → i < length cells → get_or cells i 0 < most_colours
+  pub spare : Spare (length cells) f
 
 -- ── A sheet that was asked ──
 

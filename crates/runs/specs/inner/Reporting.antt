@@ -1,33 +1,31 @@
 -- What the functions that report a run ask for, and what they leave in the slice of the figures and in the work slice.
-use Rattle.std.specs.Prelude.{◌≡◌, List, [], ◌∷◌, ◌++◌, ℕ, ◌≤◌, eqb, length, drop}
+use Rattle.std.specs.Prelude.{◌≡◌, List, [], ◌∷◌, ◌++◌, ℕ, ◌≤◌, Result, Ok, Err, eqb, length, drop}
 use Rattle.names.specs.Pick.{pick}
-use Rattle.names.specs.declared.number.Fault.{Fault}
-use Rattle.books.specs.Answer.{blaming}
+use Rattle.names.specs.Fault.{Fault}
+use Rattle.books.specs.Answer.{plain, blaming}
 use Rattle.books.specs.Lent.{on_press}
-use Rattle.books.specs.Press.{IsPress}
 use Rattle.books.specs.declared.answer.Answer.{Answer}
-use Rattle.pieces.specs.Asking.{SplitFrom}
-use Rattle.pieces.specs.declared.asking.Split.{Split}
 use Rattle.runs.specs.Run.{framing}
 use Rattle.runs.specs.Figures.{work_room, figures_of, no_figures, figures_long, in_a_row}
 use Rattle.runs.specs.Outcome.{Told, refused_run}
 use Rattle.runs.specs.inner.Adding.{most_added, Spare}
 
+-- what the code answers of a run: that it was reported, or what refuses it
+abbrev pub told_report : Result (Unit {0}) Answer → Answer
+told_report (Ok _) = plain 0
+told_report (Err answer) = answer
+
 -- what is refused of a press, of a book that was read with a fault or with none, of a run and of so many entries
 abbrev pub refusing : ℕ → Fault → List ℕ → ℕ → Answer
 refusing press f run entries = on_press press (λ a. a) (pick (eqb f.number 0) (refused_run (work_room press) run entries) (blaming 1 f))
 
--- a press that there is, a book that was split, a work slice with room for the greatest sheet, and figures with room for a sheet more
-pub record AddingDue (press : ℕ) (book : List ℕ) (split : Split) (masks work figures : List ℕ) : Type 0 where
-  pub on_press : IsPress press
-  pub from_book : SplitFrom book split masks
+-- a work slice with room for the greatest sheet of a press, and figures with room for a sheet more
+pub record AddingDue (press : ℕ) (work figures : List ℕ) : Type 0 where
   pub work_long : work_room press ≤ length work
   pub spare : Spare most_added figures
 
--- the same with a run whose framing has no fault, and figures of no sheets
-pub record RunDue (press : ℕ) (book : List ℕ) (split : Split) (masks run work figures : List ℕ) : Type 0 where
-  pub on_press : IsPress press
-  pub from_book : SplitFrom book split masks
+-- a run whose framing has no fault, such a work slice, and figures of no sheets
+pub record RunDue (press : ℕ) (run work figures : List ℕ) : Type 0 where
   pub run_fine : (framing run).number ≡ 0
   pub work_long : work_room press ≤ length work
   pub none : figures ≡ in_a_row no_figures ++ drop figures_long figures

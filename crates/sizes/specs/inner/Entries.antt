@@ -16,14 +16,8 @@ pub record OfTable (n : ℕ) (s : Size) : Type 0 where
   pub cols_some : 1 ≤ s.cols
   pub cols_few : s.cols ≤ n
 
--- the entry of a slot asks for some columns, and that the array has the slot
-pub record SlotDue (cols due entries : ℕ) : Type 0 where
-  pub cols_some : 1 ≤ cols
-  pub below : due < entries
-
--- the entries before a slot ask for some columns, some entries, and an array with room for them
-pub record SizesDue (cols end entries : ℕ) : Type 0 where
-  pub cols_some : 1 ≤ cols
+-- the entries before a slot ask for some entries, and an array with room for them
+pub record SizesDue (end entries : ℕ) : Type 0 where
   pub some : 1 ≤ end
   pub room : end ≤ entries
 

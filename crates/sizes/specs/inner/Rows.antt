@@ -1,5 +1,5 @@
 -- The rows of the card as the code writes them, from the table of sizes.
-use Rattle.std.specs.Prelude.{ℕ, ◌+◌, ◌*◌, ◌≤◌, ◌<◌, ◌≡◌, List, [], ◌∷◌, ◌++◌, eqb, length, get_or, drop}
+use Rattle.std.specs.Prelude.{ℕ, ◌*◌, ◌≤◌, ◌<◌, ◌≡◌, List, [], ◌∷◌, ◌++◌, eqb, length, get_or, take, drop}
 use Rattle.names.specs.Counted.{each}
 use Rattle.names.specs.Bits.{bit, bits}
 use Rattle.books.specs.Keeps.{most_motifs}
@@ -17,13 +17,17 @@ pub record CardDue (most entries start numbers : ℕ) : Type 0 where
   pub start_fits : start < most_motifs
   pub room_enough : most ≤ numbers
 
--- bit j is that of motif a in the j-th entry from a slot on, of n entries
-unfoldable pub row_of : List ℕ → ℕ → ℕ → ℕ → ℕ
-row_of t n a at = bits n (λ j. eqb (bit (get_or t (at + j) 0) a) 1)
+-- bit j is that of motif a in the j-th of some entries
+unfoldable pub row_of : List ℕ → ℕ → ℕ
+row_of entries a = bits (length entries) (λ j. eqb (bit (get_or entries j 0) a) 1)
 
--- the first k rows, each of n entries
+-- the entries of row i, of n entries each
+abbrev pub row_in : List ℕ → ℕ → ℕ → List ℕ
+row_in t n i = take n (drop (i * n) t)
+
+-- the first k rows
 unfoldable pub rows_of : List ℕ → ℕ → ℕ → ℕ → List ℕ
-rows_of t n a k = each k (λ i. row_of t n a (i * n) ∷ [])
+rows_of t n a k = each k (λ i. row_of (row_in t n i) a ∷ [])
 
 -- the rows stand at the front of a slice, and their set bits are counted
 pub record RowsWrote (rows before : List ℕ) (count : ℕ) (after : List ℕ) : Type 0 where

@@ -8,7 +8,7 @@ use Rattle.books.specs.declared.family.Family.{Family}
 use Rattle.books.specs.declared.rule.Rule.{Rule}
 use Rattle.tidy.specs.Marks.{rank}
 use Rattle.tidy.specs.Tidied.{uses, usable, renumbered}
-use Rattle.tidy.specs.inner.Steps.{rules_standing}
+use Rattle.tidy.specs.inner.Kept.{rules_standing}
 
 -- whether a rule is left: its motifs are all marked, and its number stands not among those before it
 unfoldable pub is_left : ℕ → Rule → List ℕ → ℕ → Bool

@@ -1,11 +1,9 @@
 -- The parts of a sheet that wait to be judged, one after another.
-use Rattle.std.specs.Prelude.{ℕ, zero, suc, ◌*◌, List, [], ◌∷◌, eqb, get_or}
-use Rattle.names.specs.Pick.{pick}
+use Rattle.std.specs.Prelude.{ℕ, zero, suc, ◌*◌, List, [], ◌∷◌, Result, Ok, Err, get_or}
 use Rattle.books.specs.declared.rule.Rule.{Rule}
 use Rattle.books.specs.declared.size.Size.{Size}
 use Rattle.pieces.specs.Most.{most}
 use Rattle.pieces.specs.declared.part.Part.{Part}
-use Rattle.trees.specs.declared.judge.Verdict.{Verdict}
 use Rattle.trees.specs.declared.node.Node.{Node}
 use Rattle.trees.specs.inner.OnSheets.{judged_at}
 
@@ -14,12 +12,13 @@ abbrev pub most_waiting : ℕ
 most_waiting = 2 * most
 
 -- a verdict, and what comes after it where all is right
-abbrev pub after : Verdict → (ℕ → Verdict) → Verdict
-after v go = pick (eqb v.wrong 0) (go v.place) v
+abbrev pub after : Result ℕ ℕ → (ℕ → Result ℕ ℕ) → Result ℕ ℕ
+after (Ok e) go = go e
+after (Err e) go = Err e
 
 -- the nodes from a place on, held to one part after another
-unfoldable pub judged_all : Size → List ℕ → List Rule → List Part → List Node → ℕ → Verdict
-judged_all s cells rules [] ns at = record { wrong = 0; place = at }
+unfoldable pub judged_all : Size → List ℕ → List Rule → List Part → List Node → ℕ → Result ℕ ℕ
+judged_all s cells rules [] ns at = Ok at
 judged_all s cells rules (x ∷ xs) ns at = after (judged_at s cells rules x ns at) (λ e. judged_all s cells rules xs ns e)
 
 -- where no part waits

@@ -1,16 +1,14 @@
--- The colours are read first; where they have no fault, the rest is read after them, and they are at most 64.
-use borrow.Author.Tests.{eq-eqb, ne_eqb}
+-- The motifs were read as at most 32, and no list has more than 64 colours.
+use mathlib.Core.Path.{sym, ap}
+use native.Mathlib.Omega.{arith}
+use Rattle.names.specs.ColoursRead.{ColoursRead}
 use Rattle.names.proofs.ReadingColours.{colours-places}
-use Rattle.books.specs.Book.{book_by}
+use Rattle.names.proofs.ReadingNumbers.{number_in_lem}
 use Rattle.books.proofs.book.read_by.Goals as goal
 
-pub returns-then-f-ne0 : goal.returns-then-f-ne0
-unfolding book_by
-returns-then-f-ne0 c = simp (← c.read_colours-r.ensures, ne_eqb _ _ c.if-f-ne0.true) c.refused_book.ensures
-
-pub with_colours-requires : goal.with_colours-requires
-with_colours-requires c = rw c.read_colours-r.ensures (colours-places _).few
-
-pub returns : goal.returns
-unfolding book_by
-returns c = simp (← c.read_colours-r.ensures, eq-eqb _ _ c.if-f-ne0.false) c.with_colours.ensures
+pub invariant_of-counts : goal.invariant_of-counts
+invariant_of-counts c =
+    record {
+      motifs_few = omega (arith, (number_in_lem _ _ _ _ _ _ (sym c.in_ok-motifs.ensures.read)).high);
+      colours_few = omega (arith, (colours-places c.args.bytes.now).few, ap (λ (r : ColoursRead). r.colours.count) c.in_ok-colours.ensures);
+    }

@@ -1,14 +1,13 @@
 -- The rows are tested, and then the columns.
-use mathlib.Core.Path.{sym, ◌∙◌}
-use Rattle.names.proofs.Tests.{and-on, and-off}
+use Rattle.std.proofs.Common.{arith}
+use Rattle.names.specs.Pick.{and_then}
 use Rattle.books.specs.Size.{within?}
 use Rattle.books.proofs.size.within.Goals as goal
 
 pub returns-then-one_to : goal.returns-then-one_to
-unfolding within?
-returns-then-one_to c =
-    c.one_to-then-one_to.ensures ∙ sym (and-on _ _ (sym c.one_to.ensures ∙ c.if-one_to.true))
+unfolding within? and_then
+returns-then-one_to c = grind arith
 
 pub returns-else-one_to : goal.returns-else-one_to
-unfolding within?
-returns-else-one_to c = sym (and-off _ _ (sym c.one_to.ensures ∙ c.if-one_to.false))
+unfolding within? and_then
+returns-else-one_to c = grind arith

@@ -16,7 +16,7 @@ use Rattle.desk.proofs.recolour.painters.Goals.{After-number_sheet}
 few : (c : After-number_sheet) → get_or ((c.number_sheet.new.cells)) c.args.at 0 ≤ most_colours
 few c =
     subst (λ (l : List ℕ). get_or l c.args.at 0 ≤ most_colours) (sym c.number_sheet.ensures.cells)
-    (numbers-few c.args.press c.args.book.now c.args.split.colours c.args.sheet.now (replicate room 0) c.args.at c.requires.cell)
+    (numbers-few c.args.press c.args.book.now c.args.colours.now c.args.sheet.now (replicate room 0) c.args.at c.requires.cell)
 
 pub bounds-cells-at : goal.bounds-cells-at
 bounds-cells-at c = omega (arith, c.requires.cell, (sheet-lies c.args.press c.args.sheet.now c.requires.accepted).area_few)
@@ -38,4 +38,4 @@ unfolding painters_of
 returns c =
     let a = c.args in
     ap (λ (l : List ℕ). get_or a.masks.now (painters_from + get_or l a.at 0) 0)
-    (numbers-fresh a.press a.book.now a.split.colours a.sheet.now c.number_sheet.ensures)
+    (numbers-fresh a.press a.book.now a.colours.now a.sheet.now c.number_sheet.ensures)

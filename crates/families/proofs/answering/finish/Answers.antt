@@ -1,14 +1,12 @@
--- A draft within the limits is written, and the writer answers; what exceeds the limits is answered 12 and written nowhere.
-use mathlib.Core.Path.{refl}
-use Rattle.drafts.proofs.SpellingDrafts.{draft-wrote}
-use Rattle.drafts.proofs.NewBooks.{written-by}
+-- A draft is written, and the writer answers.
+use Rattle.families.proofs.Finishing.{drafted-leaves}
 use Rattle.families.proofs.answering.finish.Goals as goal
 
-pub returns-then-m : goal.returns-then-m
-returns-then-m c =
-    let within = c.if-m.true in
-    let w = draft-wrote c.requires c.write_book-w.ensures in
-    simp (within, written-by) (record { answers = simp (c.unblamed.ensures, w.answers) at c.pack.ensures; leaves = w.leaves })
+pub returns-in-Ok : goal.returns-in-Ok
+returns-in-Ok c =
+    rw c.in-Some.is (drafted-leaves (rw c.in-Some.is at c.requires) (rw c.in-Ok.is at c.write_book.ensures) (rw c.answer.ensures at c.pack.ensures))
 
-pub returns-else-m : goal.returns-else-m
-returns-else-m c = simp c.if-m.false (record { answers = simp c.unblamed-else-m.ensures at c.pack-else-m.ensures; leaves = refl })
+pub returns-in-Err : goal.returns-in-Err
+returns-in-Err c =
+    rw c.in-Some.is
+    (drafted-leaves (rw c.in-Some.is at c.requires) (rw c.in-Err.is at c.write_book.ensures) (rw (c.unblamed.ensures, c.number.ensures) at c.pack-in-Err.ensures))

@@ -1,32 +1,37 @@
 -- A refused second book is blamed; of two accepted ones the combination is made and finished.
 use mathlib.Core.Bool.{true}
+use mathlib.Core.Path.{◌≡◌, refl}
+use native.Mathlib.Omega.{arith}
+use Rattle.std.specs.Prelude.{Ok}
+use Rattle.names.proofs.Refusing.{number-some}
+use Rattle.books.specs.Book.{book_of}
 use Rattle.books.specs.ContentsIn.{contents_in}
-use Rattle.families.specs.inner.Lent.{Lent}
-use Rattle.families.specs.inner.Asked.{paired}
+use Rattle.books.specs.Told.{told_book}
 use Rattle.drafts.proofs.Outcomes.{read-accepted, blamed-leaves}
+use Rattle.families.specs.inner.Asked.{paired}
 use Rattle.families.proofs.Reading.{read-lent}
-use Rattle.families.proofs.Finishing.{finished-leaves}
+use Rattle.families.proofs.Finishing.{made-ready, finished-leaves}
 use Rattle.families.proofs.answering.on_second.Goals as goal
-use Rattle.families.proofs.answering.on_second.Goals.{Else-fault-ne0}
+use Rattle.families.proofs.answering.on_second.Goals.{In-Ok}
 
-pub returns-then-fault-ne0 : goal.returns-then-fault-ne0
-returns-then-fault-ne0 c =
-    blamed-leaves true ((c.args.second.now)) _ c.read_book-b.ensures 2 _ c.blame.ensures _ _ _ c.if-fault-ne0.true c.pack.ensures
+-- the second book was read
+read : (c : In-Ok) → told_book (Ok c.in-Ok.family) ≡ book_of c.args.second.now
+read c = rw c.in-Ok.is at c.read_book.ensures
 
--- the second book, which was accepted
-second-lent : (c : Else-fault-ne0) → Lent ((c.args.second.now)) c.read_book-b.result.family
-second-lent c =
-    read-lent ((c.args.second.now)) _ c.read_book-b.ensures (λ i. (c.shared_slice_known-2-1.given i).fits) c.if-fault-ne0.false
-
-pub make_pair-requires : goal.make_pair-requires
-make_pair-requires c = record { first = c.requires; second = second-lent (goal.at.make_pair-requires c).Else-fault-ne0 }
+pub invariant_of-paired : goal.invariant_of-paired
+invariant_of-paired c = record { lent = read-lent c.args.second.now (read (goal.at.invariant_of-paired c).In-Ok) (λ i. (c.type_inv.second i).fits) }
 
 pub finish-requires : goal.finish-requires
-finish-requires c = c.make_pair.ensures.ready
+finish-requires c = made-ready _ _ _ c.paired-made.result c.paired-made.ensures
 
-pub returns : goal.returns
-returns c =
+pub returns-in-Ok : goal.returns-in-Ok
+returns-in-Ok c =
     let a = c.args in
-    let went = read-accepted true ((c.args.second.now)) _ c.read_book-b.ensures 2 a.out.now _ c.if-fault-ne0.false in
-    finished-leaves a.first.now ((c.args.second.now)) (paired a.pairing ((contents_in c.args.first.now c.args.f)) ((contents_in ((c.args.second.now)) c.read_book-b.result.family))) c.make_pair.result c.make_pair.ensures
-    _ a.out.now _ _ went c.finish.ensures
+    let second = a.second.now in
+    finished-leaves a.first.bytes.now second (paired a.pairing (contents_in a.first.bytes.now a.first.family.now) (contents_in second c.in-Ok.family)) c.paired-made.result c.paired-made.ensures
+    _ a.out.now _ _ (read-accepted true second _ (read (goal.at.returns-in-Ok c).In-Ok) 2 a.out.now _ refl) c.finish.ensures
+
+pub returns-in-Err : goal.returns-in-Err
+returns-in-Err c =
+    blamed-leaves true c.args.second.now _ (rw c.in-Err.is at c.read_book.ensures) 2 _ c.blame.ensures _ _ _
+    (λ z. omega (arith, number-some c.in-Err.fault.refusal, z)) c.pack.ensures

@@ -1,28 +1,37 @@
--- The rule stands at its number in the family that was read, and a number that is not below the count finds none.
-use mathlib.Core.Path.{sym}
+-- The rules of the family are those of the contents, so that what stands at the number among them is the rule that is told. A refused book has none.
+use Prim.Native.Nat.{ℕ}
+use mathlib.Core.Path.{◌≡◌, refl, sym, ap}
+use mathlib.Core.List.{List}
 use native.Mathlib.Omega.{arith}
-use Prim.Native.Nat.{◌≤◌}
-use Rattle.lookups.proofs.BookRules.{count-few, found-read, missing-read}
-use Rattle.books.specs.Keeps.{most_rules}
+use denote.Ref.{Bor}
+use lib.Dec.{ltb}
+use lib.ListN.{length, get_or}
+use Rattle.std.specs.Prelude.{Option, Some, None}
+use Rattle.std.specs.Option.{is_some, unwrap_or, option_map, option_copied}
+use Rattle.names.specs.Pick.{pick}
+use Rattle.books.specs.Rules.{no_rule}
+use Rattle.books.specs.declared.family.Family.{Family}
+use Rattle.books.specs.declared.rule.Rule.{Rule}
+use Rattle.lookups.specs.Book.{There, Missing, told_rule, rule_with}
+use Rattle.lookups.proofs.BookFamily.{family-there, family-none}
+use Rattle.lookups.proofs.BookRules.{missing-read}
 use Rattle.lookups.proofs.book.rule.Goals as goal
-use Rattle.lookups.proofs.book.rule.Goals.{Then-number-f}
 
-few : (c : Then-number-f) → c.read_book-r.result.family.count ≤ most_rules
-few c = rw c.read_book-r.ensures (count-few c.args.book.now)
+told : (l : List Rule) (k : ℕ) (r : Option (Bor Rule)) → is_some r ≡ ltb k (length l) → unwrap_or (option_map (λ (x : Bor Rule). x.now) r) no_rule ≡ get_or l k no_rule
+    → told_rule (option_copied r) ≡ pick (ltb k (length l)) (There (get_or l k no_rule)) Missing
+told l k (Some x) there at = rw (← there, ← at) refl
+told l k None there at = rw (← there) refl
 
-pub offset_bounds-f-number : goal.offset_bounds-f-number
-offset_bounds-f-number c = omega (arith, few (goal.at.offset_bounds-f-number c).Then-number-f)
-
-pub bounds-f-number : goal.bounds-f-number
-bounds-f-number c = omega (arith, few (goal.at.bounds-f-number c).Then-number-f)
-
-pub returns-then-number-f : goal.returns-then-number-f
-returns-then-number-f c =
-    let a = c.args in
-    let read = c.read_book-r.ensures in
-    simp (found-read a.book.now a.number (rw read at c.if-number-f.true), ← read)
+pub returns-in_err-ok : goal.returns-in_err-ok
+returns-in_err-ok c =
+    let s = c.args.book.now in
+    let none = family-none s c.read_book.result c.read_book.ensures c.in_err-ok.ensures.value in
+    rw c.from_residual.ensures (sym (missing-read s c.args.number (omega (arith, ap (λ (f : Family). f.count) none))))
 
 pub returns : goal.returns
+unfolding rule_with
 returns c =
-    let a = c.args in
-    sym (missing-read a.book.now a.number (rw c.read_book-r.ensures at c.if-number-f.false))
+    let looked = c.get.ensures.lookup in
+    let family = family-there c.args.book.now c.read_book.result c.in_ok-ok.field-0 c.read_book.ensures c.in_ok-ok.ensures.value in
+    let t = told c.rules.result.now c.args.number c.get.result looked.0 (looked.4 (omega arith) no_rule) in
+    rw (c.copied.ensures) (rw (c.rules.ensures, family) at t)

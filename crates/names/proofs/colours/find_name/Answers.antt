@@ -1,42 +1,20 @@
--- The walk over the colours keeps: what is found from here on, after the colours passed, is what is found in the whole list.
-use mathlib.Core.Path.{◌≡◌, refl, sym, ◌∙◌}
+-- The walk is over the colours that the list has, and its count is one that a list can have.
+use Prim.Native.Nat.{◌≤◌}
 use native.Mathlib.Omega.{arith}
-use lib.ListN.{take}
-use borrow.Author.Tests.{lt-ltb}
-use Rattle.names.specs.Name.{same_name}
-use Rattle.names.specs.Colours.{list_of, name_in, find_name}
-use Rattle.names.proofs.Finding.{find-listed, found_from, found_all, found_here, found-later, found_nowhere}
+use Rattle.names.specs.Spelling.{most_colours}
+use Rattle.names.proofs.Count.{left-all}
+use Rattle.names.proofs.Walks.{found-by-walk, walk-inside}
 use Rattle.names.proofs.colours.find_name.Goals as goal
-use Rattle.names.proofs.colours.find_name.Goals.{After-is_named, At-loop-j}
 
--- what is found from here on is what the list gives
-found : (c : At-loop-j) → found_from c.args.s.now ((list_of c.args.count c.args.starts.now c.args.lens.now)) ((take c.args.len c.args.name.now)) c.args.count c.loop-j.j ≡ find_name c.args.s.now ((list_of c.args.count c.args.starts.now c.args.lens.now)) ((take c.args.len c.args.name.now))
-found c =
-    let s = c.args.s.now in
-    c.loop-j.invariant.1 ∙ (found_all s ((list_of c.args.count c.args.starts.now c.args.lens.now)) ((take c.args.len c.args.name.now)) c.args.count ∙ sym (find-listed s ((list_of c.args.count c.args.starts.now c.args.lens.now)) ((take c.args.len c.args.name.now)) c.if-count-gt-MOST_COLOURS.false))
+pub returns-clause-found : goal.returns-clause-found
+returns-clause-found c =
+    let a = c.args in
+    let few : a.count ≤ most_colours = omega (arith, c.in_ok-get.ensures.lookup.0.1, c.told-starts) in
+    rw (c.first_named.ensures, c.in_ok-get.ensures.lookup.0.2, c.in_ok-get-2.ensures.lookup.0.2, left-all a.count)
+    (found-by-walk a.s.now a.count a.starts.now a.lens.now a.name.now few c.told-starts c.told-lens)
 
-compared : (c : After-is_named) → c.is_named.result ≡ same_name (name_in c.args.s.now ((list_of c.args.count c.args.starts.now c.args.lens.now)) c.loop-j.j) ((take c.args.len c.args.name.now))
-compared c = c.is_named.ensures
-
-pub returns-then-count-gt-MOST_COLOURS : goal.returns-then-count-gt-MOST_COLOURS
-unfolding find_name
-returns-then-count-gt-MOST_COLOURS c = simp (lt-ltb _ _ c.if-count-gt-MOST_COLOURS.true)
-
-pub loop-j-init : goal.loop-j-init
-loop-j-init c = (omega arith, refl)
-
-pub returns-then-is_named : goal.returns-then-is_named
-returns-then-is_named c =
-    let same = sym (compared (goal.at.returns-then-is_named c).After-is_named) ∙ c.if-is_named.true in
-    sym (found_here c.args.s.now ((list_of c.args.count c.args.starts.now c.args.lens.now)) ((take c.args.len c.args.name.now)) c.args.count c.loop-j.j c.loop-j-test.true same) ∙ found (goal.at.returns-then-is_named c).At-loop-j
-
-pub loop-j-preserved : goal.loop-j-preserved
-loop-j-preserved c =
-    let other = sym (compared (goal.at.loop-j-preserved c).After-is_named) ∙ c.if-is_named.false in
-    let later = found-later c.args.s.now ((list_of c.args.count c.args.starts.now c.args.lens.now)) ((take c.args.len c.args.name.now)) c.args.count c.loop-j.j c.loop-j-test.true other in
-    (omega arith, sym later ∙ c.loop-j.invariant.1)
-
-pub returns : goal.returns
-returns c =
-    let end : c.loop-j.j ≡ c.args.count = omega arith in
-    sym end ∙ (sym (found_nowhere c.args.s.now ((list_of c.args.count c.args.starts.now c.args.lens.now)) ((take c.args.len c.args.name.now)) c.args.count c.loop-j.j c.loop-j-test.false) ∙ found (goal.at.returns c).At-loop-j)
+pub returns-clause-inside : goal.returns-clause-inside
+returns-clause-inside c =
+    let a = c.args in
+    rw (c.first_named.ensures, c.in_ok-get.ensures.lookup.0.2, c.in_ok-get-2.ensures.lookup.0.2, left-all a.count)
+    (walk-inside a.s.now a.count a.starts.now a.lens.now a.name.now c.in_ok-get.ensures.lookup.0.1)

@@ -3,13 +3,13 @@ use mathlib.Core.Path.{sym, ◌∙◌}
 use Rattle.pieces.proofs.LookedThrough.{fits-room, in_table, no_table}
 use Rattle.pieces.proofs.largest.largest.Goals as goal
 
-pub search-requires : goal.search-requires
-search-requires c =
+pub invariant_of-largest : goal.invariant_of-largest
+invariant_of-largest c =
     let (sizes, entries) = fits-room _ _ _ (sym c.fits_table.ensures ∙ c.if-fits_table.true) in
-    record { sizes = sizes; entries = entries }
+    record { tabled = record { sizes = sizes; entries = entries } }
 
 pub returns-then-fits_table : goal.returns-then-fits_table
-returns-then-fits_table c = c.search.ensures ∙ sym (in_table _ _ _ _ (sym c.fits_table.ensures ∙ c.if-fits_table.true))
+returns-then-fits_table c = c.largest.ensures ∙ sym (in_table _ _ _ _ (sym c.fits_table.ensures ∙ c.if-fits_table.true))
 
 pub returns : goal.returns
 returns c = sym (no_table _ _ _ _ (sym c.fits_table.ensures ∙ c.if-fits_table.false))

@@ -1,13 +1,12 @@
 -- After so many turns the painters of as many colours are gathered.
 use mathlib.Core.Path.{◌≡◌}
-use Prim.Native.Nat.{◌+◌, ◌-◌, ◌≤◌}
-use lib.ListN.{get_or}
-use Rattle.pieces.specs.Masks.{painters_from, colour_masks}
+use Prim.Native.Nat.{◌-◌, ◌≤◌}
+use lib.ListN.{length, get_or}
 use Rattle.pieces.specs.Firing.{gathered}
 use Rattle.pieces.proofs.masks.painted.Given as goal
 
-abbrev pub invariant-loop-c : goal.invariant-loop-c
-invariant-loop-c l = (l.c ≤ colour_masks) × (l.heads ≡ gathered l.c (λ k. get_or l.masks (painters_from + k) 0))
+abbrev pub invariant-loop-mask : goal.invariant-loop-mask
+invariant-loop-mask l = (l.mask-index ≤ length l.painters) × (l.heads ≡ gathered l.mask-index (λ k. get_or l.painters k 0))
 
-abbrev pub decreases-loop-c : goal.decreases-loop-c
-decreases-loop-c l = colour_masks - l.c
+abbrev pub decreases-loop-mask : goal.decreases-loop-mask
+decreases-loop-mask l = length l.painters - l.mask-index

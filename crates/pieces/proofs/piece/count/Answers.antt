@@ -8,6 +8,6 @@ pub returns : goal.returns
 returns c =
     let a = c.args in (
       c.times.ensures.0 ∙ ap₂ ◌*◌ c.stretches_of.ensures.0 c.stretches_of-2.ensures.0
-          ∙ sym (total-stretches a.m a.n),
+          ∙ sym (total-stretches a.size.rows a.size.cols),
       c.times.ensures.1,
     )

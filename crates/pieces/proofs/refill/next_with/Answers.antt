@@ -16,12 +16,12 @@ returns-then-further-2 c =
 
 pub returns-then-p-size : goal.returns-then-p-size
 returns-then-p-size c =
-    rw (c.first_with-then-p-size.ensures, c.first_with-2.ensures)
+    rw (c.first_with-then-p-size-2.ensures, c.first_with-then-p-size.ensures)
     (next-width c.args.size.rows c.args.size.cols c.args.row c.args.column c.args.p c.requires.inside c.requires.has
     (sym c.further.ensures ∙ c.if-further.false) (sym c.further-2.ensures ∙ c.if-further-2.false) c.if-p-size.true)
 
 pub returns : goal.returns
 returns c =
-    rw c.first_with-3.ensures
+    rw c.first_with-2.ensures
     (next-height c.args.size.rows c.args.size.cols c.args.row c.args.column c.args.p c.requires.inside c.requires.has
     (sym c.further.ensures ∙ c.if-further.false) (sym c.further-2.ensures ∙ c.if-further-2.false) c.if-p-size.false)

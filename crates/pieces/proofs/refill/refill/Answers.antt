@@ -8,10 +8,15 @@ pub refill_cells-requires : goal.refill_cells-requires
 refill_cells-requires c =
     let h = (refills-exactly _ _ _ _ _ _).0 (sym c.refills.ensures ∙ c.if-refills.true) in
     record {
-      table = record { tabled = record { sizes = h.sizes; entries = h.room }; fit = fitting-fit _ _ h.fits };
+      tabled = record { sizes = h.sizes; entries = h.room };
       row_on = h.row_on;
       column_on = h.column_on;
     }
+
+pub invariant_of-refill_cells : goal.invariant_of-refill_cells
+invariant_of-refill_cells c =
+    let h = (refills-exactly _ _ _ _ _ _).0 (sym c.refills.ensures ∙ c.if-refills.true) in
+    record { fit = fitting-fit _ _ h.fits }
 
 pub returns-then-refills : goal.returns-then-refills
 returns-then-refills c =

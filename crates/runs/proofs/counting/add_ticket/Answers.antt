@@ -1,16 +1,16 @@
--- The three figures are set to what the two functions give.
+-- The three figures stand at three places.
+use Prim.Native.Nat.{ℕ, max}
+use mathlib.Core.Path.{◌≡◌, ap, ◌∙◌}
 use native.Mathlib.Omega.{arith}
-use lib.ListN.{set}
-use lib.Seq.{lt-length-set}
+use lib.ListN.{get_or}
+use lib.Seq.{get_or-set_other}
 use Rattle.runs.specs.inner.Adding.{least_at, greatest_at, ticketed}
 use Rattle.runs.proofs.counting.add_ticket.Goals as goal
 
-pub bounds-figures-75-2 : goal.bounds-figures-75-2
-bounds-figures-75-2 c =
-    let f = c.args.figures.now in
-    let least = c.least_with-least.result in
-    lt-length-set (set f least_at least) greatest_at c.greatest_with-greatest.result (lt-length-set f least_at least (omega (arith, c.requires)))
-
 pub returns : goal.returns
 unfolding ticketed
-returns c = rw (c.least_with-least.ensures, c.greatest_with-greatest.ensures)
+returns c =
+    let f = c.args.figures.now in
+    let apart = get_or-set_other f least_at greatest_at c.least_with.result 0 (λ e. omega arith) in
+    let greatest : c.max.result ≡ max (get_or f greatest_at 0) c.args.ticket = c.max.ensures ∙ ap (λ (x : ℕ). max x c.args.ticket) apart in
+    rw (greatest, c.least_with.ensures)

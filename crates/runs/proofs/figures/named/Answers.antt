@@ -4,5 +4,4 @@ use Rattle.runs.proofs.figures.named.Goals as goal
 
 pub returns : goal.returns
 unfolding standing
-returns c =
-    rw (c.copy.ensures, c.copy-2.ensures)
+returns c = rw (c.copy_from_slice.ensures.after, c.copy_from_slice-2.ensures.after)

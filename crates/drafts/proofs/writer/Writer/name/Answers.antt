@@ -1,0 +1,7 @@
+-- The bytes are written where their length ends.
+use native.Mathlib.Omega.{arith}
+use Rattle.drafts.proofs.InARow.{wrote_then}
+use Rattle.drafts.proofs.writer.Writer.name.Goals as goal
+
+pub returns : goal.returns
+returns c = wrote_then (omega arith) c.number.ensures c.bytes.ensures

@@ -1,0 +1,36 @@
+-- What one read gives follows what was filled before it.
+use Rattle.std.proofs.Common.{◌≡◌, ℕ, ◌+◌, ◌-◌, ◌≤◌, List, ◌++◌, rules, arith, length, take, slice_range, sym, ap, ◌∙◌, subst, le_refl, drop_at, length-take-le}
+use Rattle.std.proofs.lemmas.Slice.{take-put_mid_below}
+use Rattle.std.specs.Io.KnownBytes.{Consumes}
+use Rattle.std.proofs.KnownBytes.{Consumes-trans}
+use borrow.Rule.Slice.PartMut.{put_mid, post_of}
+use lib.Seq.{take-add, take-append-le}
+use Rattle.input.proofs.fill.Goals as goal
+
+-- what stands before a place, and what stands from it up to another, is what stands before that one
+take_split : (a b : ℕ) (old new : List ℕ) → a ≤ b → take a new ≡ take a old → take a old ++ slice_range new a b ≡ take b new
+take_split a b old new h front =
+    let same : a + (b - a) ≡ b = omega arith in
+    ap (λ l. l ++ slice_range new a b) (sym front) ∙ sym (take-add a (b - a) new) ∙ ap (λ n. take n new) same
+
+-- the first items of what was put in the middle stand there
+slice_range-put_mid : (a k n : ℕ) (xs ys : List ℕ) → a ≤ length xs → n ≤ length ys → slice_range (put_mid a k xs ys) a (a + n) ≡ take n ys
+slice_range-put_mid a k n xs ys within fits =
+    let same : (a + n) - a ≡ n = omega arith in
+    let after = post_of a k xs in
+    ap (take ((a + n) - a)) (drop_at (take a xs) (ys ++ after) a (length-take-le a xs within)) ∙ ap (λ m. take m (ys ++ after)) same ∙ take-append-le n ys after fits
+
+pub loop-n-preserved : goal.loop-n-preserved
+loop-n-preserved g c =
+    let from = c.loop-n.n in
+    let room = length c.loop-n.bytes - from in
+    let within = c.loop-n.invariant.within in
+    let now = put_mid from room c.loop-n.bytes c.read.new.buf in
+    let more = c.in_ok-more.more in
+    let part = slice_range-put_mid from room more c.loop-n.bytes c.read.new.buf within c.in_ok-more.ensures.bound.0 in
+    let joined = take_split from (from + more) c.loop-n.bytes now (omega arith) (take-put_mid_below _ _ _ _ _ (le_refl _) within) in
+    record {
+      same_room = search rules;
+      within = search rules;
+      front = subst (Consumes _ _) (ap (λ l. take from c.loop-n.bytes ++ l) (sym part) ∙ joined) (Consumes-trans _ _ _ _ _ c.loop-n.invariant.front c.in_ok-more.ensures.bytes.0);
+    }
