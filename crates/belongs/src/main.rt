@@ -2,7 +2,7 @@
 // number, blamed input and place on one line, then on 0 one line for each node of the derivation, rule and cut.
 #![tactic(auto)]
 
-ghost use Rattle.std.specs.Prelude.{◌≡◌, ◌*◌, ◌≤◌, length};
+ghost use Rattle.std.specs.Prelude.{◌≡◌, ◌*◌, ◌≤◌, length, IfOk};
 ghost use Rattle.belongs.specs.Nodes.{nodes_of};
 
 use books::answer::Answer;
@@ -14,7 +14,9 @@ use std::{fs, io};
 const ROOM: usize = 8192;
 
 // A file's bytes, as far as there is room; one that cannot be opened counts as empty.
-fn load<'a>(rt: &impl Files, path: &str, room: &'a mut [u8; ROOM]) -> io::Result<&'a [u8]> {
+fn load<'a>(rt: &impl Files, path: &str, room: &'a mut [u8; ROOM]) -> io::Result<&'a [u8]>
+    ensures { IfOk result (λ bytes. length bytes.now ≤ length room.old) }
+{
     match fs::open(rt, path) {
         Ok(mut file) => {
             let length = input::fill(&mut file, room)?;

@@ -14,7 +14,10 @@ use Rattle.books.specs.Equal.{four_of}
 use Rattle.books.specs.Keeps.{most_rules}
 use Rattle.books.specs.Lent.{contents_of}
 use Rattle.books.specs.Picture.{joins}
-use Rattle.books.specs.BookRead.{BookFigures}
+use Rattle.std.specs.Prelude.{Ok}
+use Rattle.books.specs.BookRead.{BookRead, BookFigures}
+use Rattle.books.specs.Told.{told_book}
+use Rattle.books.specs.declared.family.Family.{Family}
 use Rattle.books.specs.declared.rule.Rule.{Rule}
 use Rattle.books.specs.declared.rule.Body.TheVariants.{Colour, Across, Down}
 use Rattle.books.specs.Rules.{no_rule}
@@ -67,6 +70,12 @@ unfolding lent_rules
 lent-long rules count h g =
     let first = length-map (take count rules) four_of ∙ length-take-le count rules h in
     simp length-append (omega (arith, first, length-replicate (most_rules - count) (replicate {A = ℕ} 4 0)))
+
+-- ── A book that was read ──
+
+-- the rules of its family that stand, as `Family::rules` lends them, are the book's
+pub rules-stand : (book : List ℕ) {f : Family} → told_book (Ok f) ≡ book_of book → take f.count f.rules ≡ (contents_of book).rules
+rules-stand book read = ap (λ (x : BookRead). take x.family.count x.family.rules) read
 
 -- ── A book whose rules were read into rows ──
 

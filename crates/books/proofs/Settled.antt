@@ -4,11 +4,13 @@ use mathlib.Core.Path.{◌≡◌, refl, sym, ap, ap₂, ◌∙◌}
 use mathlib.Core.List.{List}
 use Rattle.names.specs.declared.colours.Colours.{Colours}
 use lib.Dec.{eqb}
+use lib.ListN.{take}
 use Rattle.std.specs.Prelude.{Result, Ok, Err}
 use Rattle.names.specs.Pick.{pick}
-use Rattle.names.specs.Fault.{Fault, number_of, told_fault}
+use Rattle.names.specs.Fault.{Fault, number_of, told_fault, told_numbered}
 use Rattle.names.specs.declared.fault.Fault.{Fault as CodeFault}
 use Rattle.names.specs.declared.fault.Refusal.{Refusal}
+use Rattle.names.specs.declared.numbered.Numbered.{Numbered}
 use Rattle.names.specs.declared.fault.Refusal.TheVariants.{EndsEarly, Misspelt, OutOfRange, BadByte, TwiceInList, Unlisted, UnknownKind, MoreFollows, RuleAgain}
 use Rattle.names.proofs.Settled.{Settles, settles}
 pub use Rattle.names.proofs.Settled.{settled}
@@ -26,6 +28,9 @@ use Rattle.books.specs.declared.family.Family.{Family}
 use Rattle.books.specs.declared.lent.BookFigures.{BookFigures as CodeBookFigures}
 use Rattle.books.specs.declared.sheet.Sheet.{Sheet}
 use Rattle.books.specs.declared.sheet.SheetFigures.{SheetFigures as CodeSheetFigures}
+use Rattle.books.specs.declared.reply.Reply.{Reply}
+use Rattle.books.specs.declared.reply.Reply.TheVariants.{Accepted, WorkShort, TreeShort, NotDerived, TooMany, OutShort, InFamily, WrongTree, StartLost, NoSuchCell, TooManyCells, NoPress}
+use Rattle.books.specs.Reply.{number_of as reply_number}
 use Rattle.books.specs.declared.rule.Rule.{Rule}
 use Rattle.books.specs.SheetRead.{SheetRead, SheetFigures}
 use Rattle.books.specs.declared.size.Size.{Size}
@@ -38,6 +43,9 @@ unblamed-settled number = settles _
 
 pub blame-settled : (input : ℕ) (f : Fault) → Settles (blaming input f)
 blame-settled input f = settles _
+
+pub blame_numbered-settled : (input : ℕ) (f : Numbered) → Settles (blaming input (told_numbered f))
+blame_numbered-settled input f = settles _
 
 pub pack-settled : (a : Answer) (count : ℕ) → Settles (packed a count)
 pack-settled a count = settles _
@@ -139,6 +147,46 @@ rows-one (Ok f) (Ok g) e = ap (λ (b : BookFigures). Ok (record { colours = b.co
 rows-one (Err f) (Err g) e = ap Err (fault-one f g (ap (λ (b : BookFigures). b.fault) e))
 rows-one (Ok f) (Err g) e = absurd (no-fault g (ap (λ (b : BookFigures). b.fault.number) e))
 rows-one (Err f) (Ok g) e = absurd (told-some f (ap (λ (b : BookFigures). b.fault.number) e))
+
+-- A reply is known by its number too.
+reply_of : ℕ → Reply
+reply_of n =
+    pick (eqb n 0) Accepted
+    (pick (eqb n 9) WorkShort
+    (pick (eqb n 10) TreeShort
+    (pick (eqb n 11) NotDerived
+    (pick (eqb n 12) TooMany
+    (pick (eqb n 13) OutShort
+    (pick (eqb n 15) InFamily
+    (pick (eqb n 16) WrongTree
+    (pick (eqb n 17) StartLost (pick (eqb n 19) NoSuchCell (pick (eqb n 20) TooManyCells NoPress))))))))))
+
+reply-back : (r : Reply) → reply_of (reply_number r) ≡ r
+unfolding reply_of
+reply-back Accepted = refl
+reply-back WorkShort = refl
+reply-back TreeShort = refl
+reply-back NotDerived = refl
+reply-back TooMany = refl
+reply-back OutShort = refl
+reply-back InFamily = refl
+reply-back WrongTree = refl
+reply-back StartLost = refl
+reply-back NoSuchCell = refl
+reply-back TooManyCells = refl
+reply-back NoPress = refl
+
+pub reply-one : (q r : Reply) → reply_number q ≡ reply_number r → q ≡ r
+reply-one q r e = sym (reply-back q) ∙ (ap reply_of e ∙ reply-back r)
+
+pub reply_number-settled : (r : Reply) → Settles (reply_number r)
+reply_number-settled r = settles _
+
+pub reply_answer-settled : (r : Reply) → Settles (plain (reply_number r))
+reply_answer-settled r = settles _
+
+pub rules-settled : (f : Family) → Settles (take f.count f.rules)
+rules-settled f = settles _
 
 -- ── Calls ──
 

@@ -1,9 +1,10 @@
 // What a call answers.
 ghost use Rattle.std.specs.Prelude.{◌≡◌};
-ghost use Rattle.names.specs.Fault.{told_fault};
+ghost use Rattle.names.specs.Fault.{told_fault, told_numbered};
 ghost use Rattle.books.specs.Answer.{plain, blaming, packed};
 
 use names::fault::Fault;
+use names::numbered::Numbered;
 
 /// A number of the answers in docs/RULES.md, the input it blames (1 the first, 2 the second, 0 neither), and a place in that input.
 #[derive(Clone, Copy)]
@@ -32,6 +33,20 @@ pub fn blame(input: u8, f: Fault) -> Answer
         number: f.refusal.number(),
         blamed: input,
         place: f.place,
+    }
+}
+
+/// The same of a fault by any number; where there is no fault, 0, nothing is blamed.
+pub fn blame_numbered(input: u8, fault: Numbered) -> Answer
+    ensures { result ≡ blaming input (told_numbered fault) }
+{
+    if fault.number == 0 {
+        return unblamed(0);
+    }
+    Answer {
+        number: fault.number,
+        blamed: input,
+        place: fault.place,
     }
 }
 

@@ -7,7 +7,7 @@ use native.Mathlib.Omega.{arith}
 use lib.ListN.{length, get_or, take, length-append}
 use Rattle.std.proofs.lemmas.List.{take_more}
 use Rattle.names.specs.Number.{spell_number}
-use Rattle.names.specs.Put.{Puts}
+use Rattle.names.specs.Put.{Puts, put, past}
 use Rattle.names.specs.Spelling.{spell_names}
 use Rattle.names.proofs.Tests.{lt-or-le}
 use Rattle.names.proofs.Putting.{past-in, past-out, put-length, put-nil, put-put}
@@ -48,6 +48,28 @@ wrote_there w v l next p slice written counted =
     (lt-or-le w.at next))
     (lt-or-le (length w.out.now) (w.at + length l)) in
     record { slice = slice; as_long = ap length p.1 ∙ put-length w.out.now w.at l; at_most = place.0; at_least = place.1; held = λ _. p.1 }
+
+-- ── Bytes of any list ──
+
+-- bytes stand at a place of a list, and the place after them is told
+pub record PutAt (before : List ℕ) (at : ℕ) (bytes : List ℕ) (next : ℕ) (after : List ℕ) : Type 0 where
+  pub place : next ≡ at + length bytes
+  pub held : after ≡ put before at bytes
+
+pub put_at : {before after : List ℕ} {at next : ℕ} (l : List ℕ) → next ≡ past before at l → after ≡ put before at l → at + length l ≤ length before → PutAt before at l next after
+put_at {before} {after} {at} l p h room = record { place = p ∙ past-in before at l room; held = h }
+
+pub put_at-length : {before after l : List ℕ} {at next : ℕ} → PutAt before at l next after → length after ≡ length before
+put_at-length {before} {l = l} {at = at} w = ap length w.held ∙ put-length before at l
+
+pub put_at-then : {before between after a b : List ℕ} {at next end : ℕ} → at + length (a ++ b) ≤ length before
+    → PutAt before at a next between → PutAt between next b end after → PutAt before at (a ++ b) end after
+put_at-then {before} {between} {after} {a} {b} {at} {next} {end} room w v =
+    let sum : length (a ++ b) ≡ length a + length b = length-append a b in
+    record {
+      place = omega (arith, v.place, w.place);
+      held = v.held ∙ (rw (w.held, w.place) (put-put before at a b (omega arith)));
+    }
 
 -- ── Lists ──
 

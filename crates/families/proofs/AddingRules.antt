@@ -1,8 +1,8 @@
 -- Rules are gathered one after the other: what was gathered, with what is left to be gathered from a place on, makes the whole.
-use Prim.Native.Nat.{ℕ, ◌+◌, ◌≤◌, ◌<◌}
+use Prim.Native.Nat.{ℕ, suc, ◌+◌, ◌≤◌, ◌<◌}
 use native.Mathlib.Numerals.{add-one}
 use native.Mathlib.Omega.{arith}
-use mathlib.Core.Path.{◌≡◌, sym, ◌∙◌, ap}
+use mathlib.Core.Path.{◌≡◌, refl, sym, ◌∙◌, ap}
 use mathlib.Core.Bool.{Bool}
 use mathlib.Core.List.{List, [], ◌∷◌, ◌++◌, map, append_assoc, append-nil, Memᴰ}
 use lib.Dec.{eqb}
@@ -10,6 +10,7 @@ use lib.ListN.{length, get_or, drop, drop_of_length-le}
 use lib.Seq.{drop-cons}
 use Rattle.names.specs.Pick.{pick}
 use Rattle.names.proofs.Listing.{get_or-mem}
+use Rattle.names.proofs.Picking.{pick_ind}
 use Rattle.books.specs.Rules.{no_rule}
 use Rattle.books.specs.declared.rule.Rule.{Rule}
 use Rattle.books.proofs.StandingRules.{there-length}
@@ -76,3 +77,19 @@ module _ (rs : List Rule) (i : ℕ) where
 -- the rules that stand are as many as are counted
 pub so_many : (l : Rules) {rs : List Rule} → standing l ≡ rs → l.count ≡ length rs
 so_many l e = sym (there-length l.rules l.count (omega (arith, l.few, l.places))) ∙ ap length e
+
+-- Of rules those that are not found are no more, and two tests that agree on them leave the same.
+pub left-few : (found : Rule → Bool) (rs : List Rule) → length (left_by found rs) ≤ length rs
+unfolding left_by
+left-few found [] = omega arith
+left-few found (r ∷ rs) =
+    pick_ind (λ (l : List Rule). length l ≤ suc (length rs)) (found r) (left_by found rs) (r ∷ left_by found rs)
+    (λ e. omega (arith, left-few found rs))
+    (λ e. omega (arith, left-few found rs))
+
+pub left-same : (found other : Rule → Bool) (rs : List Rule) → ((r : Rule) → Memᴰ r rs → found r ≡ other r) → left_by found rs ≡ left_by other rs
+unfolding left_by
+left-same found other [] same = refl
+left-same found other (r ∷ rs) same =
+    let rest = left-same found other rs (λ q m. same q (Memᴰ.tail m)) in
+    λ i. pick (same r (Memᴰ.head refl) i) (rest i) (r ∷ rest i)

@@ -1,4 +1,6 @@
 // The plain engine, and every colouring of a small sheet by both engines.
+ghost use Rattle.std.specs.Prelude.{◌≤◌};
+
 use crate::kinds::Case;
 use crate::{printing, spelling};
 use arrayvec::ArrayVec;
@@ -14,7 +16,9 @@ pub(crate) fn plain(rt: &impl Print, case: Case<'_>) -> io::Result<()> {
 }
 
 // How many sheets of two colours there are with so many cells.
-fn colourings(cells: usize) -> usize {
+fn colourings(cells: usize) -> usize
+    ensures { result ≤ 65536 }
+{
     (0..cells).fold(1, |count, _| count % 32769 * 2)
 }
 

@@ -4,6 +4,7 @@ ghost use Rattle.std.specs.Prelude.{◌*◌, ◌^◌, ◌<◌};
 use crate::lines::Line;
 use crate::spelling::{self, Kept};
 use crate::{asking, cards, combining, engines, judging, lent, painting, reading, reports, why};
+use arrayvec::ArrayVec;
 use std::io;
 
 // What a line is for. One that begins with no letter of the list is passed over.
@@ -119,10 +120,12 @@ fn run(rt: &impl Print, case: Case<'_>, kept: &mut Kept) -> io::Result<()> {
 // The lines of a list, in their order.
 pub(crate) fn each(rt: &impl Print, list: &[u8]) -> io::Result<()> {
     let mut kept = Kept::new();
+    let mut first = ArrayVec::<u8, 1024>::new();
+    let mut second = ArrayVec::<u8, 65537>::new();
     for text in list.split(|&byte| byte == b'\n') {
         let line = Line { text };
-        let first = spelling::spell::<1024>(line.part(2), &kept);
-        let second = spelling::spell::<65537>(line.part(3), &kept);
+        spelling::spell(line.part(2), &kept, &mut first);
+        spelling::spell(line.part(3), &kept, &mut second);
         let case = Case {
             line,
             press: line.number(0),

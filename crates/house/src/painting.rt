@@ -2,6 +2,7 @@
 use crate::kinds::Case;
 use crate::spelling::{self, Kept};
 use crate::{lent, printing};
+use arrayvec::ArrayVec;
 use std::io;
 
 // The cell to recolour: its row, its column and its new colour stand in three bytes, each 0 where it is left out.
@@ -33,7 +34,8 @@ pub(crate) fn paint(rt: &impl Print, case: Case<'_>, kept: &mut Kept) -> io::Res
     let sheet = &mut sheet[..lent::room(length, 64)];
     let mut work = [7u32; 91];
     let work = &mut work[..lent::room(case.line.number(4), 91)];
-    let cells = spelling::spell::<6>(case.line.part(5), kept);
+    let mut cells = ArrayVec::<u8, 6>::new();
+    spelling::spell(case.line.part(5), kept, &mut cells);
     rt.write_all(case.line.part(1))?;
     if case.line.letter(6) == b't' {
         let mut tree = [u16::MAX; 50];

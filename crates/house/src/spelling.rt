@@ -70,11 +70,11 @@ pub(crate) fn spell_over(text: &[u8], kept: &Kept, room: &mut [u8; 64]) -> usize
     out.len()
 }
 
-// The bytes that the words of a text spell, as far as there is room.
-pub(crate) fn spell<const N: usize>(text: &[u8], kept: &Kept) -> ArrayVec<u8, N> {
-    let mut out = ArrayVec::new();
+// The bytes that the words of a text spell, as far as there is room, in place of those that were there. They are lent: by value all of the room would be
+// copied.
+pub(crate) fn spell<const N: usize>(text: &[u8], kept: &Kept, out: &mut ArrayVec<u8, N>) {
+    out.clear();
     for one in text.split(|&byte| byte == b' ') {
-        word(&mut out, one, kept);
+        word(out, one, kept);
     }
-    out
 }

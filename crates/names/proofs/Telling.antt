@@ -1,19 +1,20 @@
 -- What the code gives is told with nothing left out: from what is told it can be given back, so that two results that are told alike are the same.
-use Prim.Native.Nat.{ℕ}
+use Prim.Native.Nat.{ℕ, ◌<◌, ◌+◌}
 use mathlib.Core.Path.{◌≡◌, refl, sym, ap, ◌∙◌}
 use native.Mathlib.Omega.{arith}
-use borrow.Author.Tests.{ne_eqb}
-use lib.Dec.{eqb}
-use Rattle.std.specs.Prelude.{Result, Ok, Err}
+use borrow.Author.Tests.{ne_eqb, lt-ltb, le-ltb}
+use lib.Dec.{eqb, ltb}
+use Rattle.std.specs.Prelude.{Option, Some, None, Result, Ok, Err, IfOk, IfSome, OnErr}
 use Rattle.names.specs.Pick.{pick}
 use Rattle.names.specs.Fault.{Fault, number_of, told_fault}
 use Rattle.names.specs.Read.{Read, Value, Refused}
 use Rattle.names.specs.ColourRead.{ColourRead, At, Refused as RefusedColour}
 use Rattle.names.specs.ColoursRead.{ColoursRead, ListFigures}
-use Rattle.names.specs.Told.{told, told_name, told_colours, told_list}
+use Rattle.names.specs.Told.{told, told_by_number, told_name, told_colours, told_list, told_found, told_end}
 use Rattle.names.specs.declared.fault.Refusal.{Refusal}
 use Rattle.names.specs.declared.fault.Refusal.TheVariants.{EndsEarly, Misspelt, OutOfRange, BadByte, TwiceInList, Unlisted, UnknownKind, MoreFollows, RuleAgain}
 use Rattle.names.specs.declared.fault.Fault.{Fault as CodeFault}
+use Rattle.names.specs.declared.numbered.Numbered.{Numbered}
 use Rattle.names.specs.declared.reader.Span.{Span}
 use Rattle.names.specs.declared.colours.ColourList.{ColourList}
 use Rattle.names.specs.declared.colours.Listed.{Listed}
@@ -106,3 +107,75 @@ told_list-one r q e = sym (back r) ∙ ap list_back e ∙ back q
     back : (r : Result Listed CodeFault) → list_back (told_list r) ≡ r
     back (Ok l) = refl
     back (Err f) = kept-back f _
+
+by_number_back : Read → Result ℕ Numbered
+by_number_back (Value v next) = Ok v
+by_number_back (Refused f) = Err (record { number = f.number; place = f.place })
+
+pub told_by_number-one : (r q : Result ℕ Numbered) (n m : ℕ) → told_by_number r n ≡ told_by_number q m → r ≡ q
+unfolding by_number_back
+told_by_number-one r q n m e = sym (back r n) ∙ ap by_number_back e ∙ back q m
+  where
+    back : (r : Result ℕ Numbered) (n : ℕ) → by_number_back (told_by_number r n) ≡ r
+    back (Ok v) n = refl
+    back (Err f) n = refl
+
+end_back : Fault → Result (Unit {0}) CodeFault
+end_back f = kept f tt
+
+pub told_end-one : (r q : Result (Unit {0}) CodeFault) → told_end r ≡ told_end q → r ≡ q
+unfolding end_back
+told_end-one r q e = sym (back r) ∙ ap end_back e ∙ back q
+  where
+    back : (r : Result (Unit {0}) CodeFault) → end_back (told_end r) ≡ r
+    back (Ok tt) = refl
+    back (Err f) = kept-back f tt
+
+-- a number that is found is below the count, which tells that none is
+found_back : ℕ → ℕ → Option ℕ
+found_back count j = pick (ltb j count) (Some j) None
+
+pub told_found-one : (count : ℕ) (r q : Option ℕ) → IfSome r (λ j. j < count) → IfSome q (λ j. j < count) → told_found count r ≡ told_found count q → r ≡ q
+unfolding found_back
+told_found-one count r q below under e = sym (back r below) ∙ ap (found_back count) e ∙ back q under
+  where
+    back : (r : Option ℕ) → IfSome r (λ j. j < count) → found_back count (told_found count r) ≡ r
+    back (Some j) h = rw (lt-ltb j count h) refl
+    back None h = rw (le-ltb count count (omega arith)) refl
+
+-- ── The place after it ──
+
+-- A reader that stays where it was on a refusal stands after what it read: what is told of a number has that place.
+place_after : ℕ → Read → ℕ
+place_after at (Value v next) = next
+place_after at (Refused f) = at
+
+pub told-place : (at : ℕ) (r q : Result ℕ CodeFault) (n m : ℕ) → OnErr r (n ≡ at) → OnErr q (m ≡ at) → told r n ≡ told q m → n ≡ m
+unfolding place_after
+told-place at r q n m stays waits e = sym (after r n stays) ∙ ap (place_after at) e ∙ after q m waits
+  where
+    after : (r : Result ℕ CodeFault) (n : ℕ) → OnErr r (n ≡ at) → place_after at (told r n) ≡ n
+    after (Ok v) n h = refl
+    after (Err f) n h = sym h
+
+pub told_by_number-place : (at : ℕ) (r q : Result ℕ Numbered) (n m : ℕ) → OnErr r (n ≡ at) → OnErr q (m ≡ at) → told_by_number r n ≡ told_by_number q m → n ≡ m
+unfolding place_after
+told_by_number-place at r q n m stays waits e = sym (after r n stays) ∙ ap (place_after at) e ∙ after q m waits
+  where
+    after : (r : Result ℕ Numbered) (n : ℕ) → OnErr r (n ≡ at) → place_after at (told_by_number r n) ≡ n
+    after (Ok v) n h = refl
+    after (Err f) n h = sym h
+
+-- the place after a name
+end_of : ℕ → Result Span CodeFault → ℕ
+end_of at (Ok name) = name.start + name.len
+end_of at (Err f) = at
+
+pub name-place : (at : ℕ) (r q : Result Span CodeFault) (n m : ℕ) → IfOk r (λ name. n ≡ name.start + name.len) → OnErr r (n ≡ at)
+    → IfOk q (λ name. m ≡ name.start + name.len) → OnErr q (m ≡ at) → r ≡ q → n ≡ m
+unfolding end_of
+name-place at r q n m after stays behind waits e = stands r n after stays ∙ ap (end_of at) e ∙ sym (stands q m behind waits)
+  where
+    stands : (r : Result Span CodeFault) (n : ℕ) → IfOk r (λ name. n ≡ name.start + name.len) → OnErr r (n ≡ at) → n ≡ end_of at r
+    stands (Ok name) n h g = h
+    stands (Err f) n h g = g

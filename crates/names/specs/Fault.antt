@@ -3,6 +3,7 @@ use Rattle.std.specs.Prelude.{ℕ}
 use Rattle.names.specs.declared.fault.Refusal.{Refusal}
 use Rattle.names.specs.declared.fault.Refusal.TheVariants.{EndsEarly, Misspelt, OutOfRange, BadByte, TwiceInList, Unlisted, UnknownKind, MoreFollows, RuleAgain}
 use Rattle.names.specs.declared.fault.Fault.{Fault as CodeFault}
+use Rattle.names.specs.declared.numbered.Numbered.{Numbered}
 
 -- an answer number with its place; 0 at 0 is no fault
 pub record Fault : Type 0 where
@@ -24,3 +25,7 @@ number_of RuleAgain = 18
 -- a fault that the code gives
 abbrev pub told_fault : CodeFault → Fault
 told_fault f = record { number = number_of f.refusal; place = f.place }
+
+-- a fault that the code gives by a number of the caller's
+abbrev pub told_numbered : Numbered → Fault
+told_numbered f = record { number = f.number; place = f.place }

@@ -1,12 +1,13 @@
 -- What the code gives, as the definitions tell it.
 use Rattle.std.specs.Prelude.{ℕ, Option, Some, None, Result, Ok, Err}
 use Rattle.names.specs.Pick.{fault}
-use Rattle.names.specs.Fault.{Fault, told_fault}
+use Rattle.names.specs.Fault.{Fault, told_fault, told_numbered}
 use Rattle.names.specs.Read.{Read, Value, Refused}
 use Rattle.names.specs.ColourRead.{ColourRead, At, Refused as RefusedColour}
 use Rattle.names.specs.ColoursRead.{ColoursRead, ListFigures}
 use Rattle.names.specs.Colours.{refused_colours}
 use Rattle.names.specs.declared.fault.Fault.{Fault as CodeFault}
+use Rattle.names.specs.declared.numbered.Numbered.{Numbered}
 use Rattle.names.specs.declared.reader.Span.{Span}
 use Rattle.names.specs.declared.colours.ColourList.{ColourList}
 use Rattle.names.specs.declared.colours.Listed.{Listed}
@@ -15,6 +16,11 @@ use Rattle.names.specs.declared.colours.Listed.{Listed}
 abbrev pub told : Result ℕ CodeFault → ℕ → Read
 told (Ok v) next = Value v next
 told (Err f) next = Refused (told_fault f)
+
+-- the same, refused by any number
+abbrev pub told_by_number : Result ℕ Numbered → ℕ → Read
+told_by_number (Ok v) next = Value v next
+told_by_number (Err f) next = Refused (told_numbered f)
 
 -- the same, where the place is given beside the number
 abbrev pub told_with_place : Result (ℕ × ℕ) CodeFault → Read

@@ -5,6 +5,7 @@ pub mod colours;
 pub mod fault;
 pub mod name;
 pub mod number;
+pub mod numbered;
 pub mod reader;
 pub mod slice;
 pub mod word;

@@ -27,6 +27,7 @@ use Rattle.books.specs.declared.rule.Rule.{Rule}
 use Rattle.books.specs.declared.sheet.Sheet.{Sheet}
 use Rattle.books.specs.SheetRead.{SheetFigures}
 use Rattle.books.proofs.LentEnds.{in_book, in_sheet}
+use Rattle.books.proofs.LentRules.{rules-stand}
 use Rattle.books.proofs.NumberedCells.{numbers_for_lem, numbers-fresh}
 use Rattle.books.proofs.ReadingBooks.{book-places, book-start}
 use Prim.Native.Nat.{◌<◌}
@@ -70,7 +71,7 @@ module _ (book : List ℕ) {f : Family} (read : told_book (Ok f) ≡ book_of boo
   start-is = ap (λ (x : BookRead). x.family.start) read
 
   rules-are : rules ≡ (contents_of book).rules
-  rules-are = ap (λ (x : BookRead). take x.family.count x.family.rules) read
+  rules-are = rules-stand book read
 
   pub byte_start : f.start < 256
   byte_start = omega (arith, book-start book, start-is)

@@ -10,7 +10,10 @@ use lib.Dec.{leb}
 use lib.ListN.{length}
 use Rattle.names.proofs.Settled.{Settles, settles}
 use Rattle.names.proofs.Tests.{lt-or-le, and_both, and-make}
+use Rattle.books.specs.Reply.{number_of}
 use Rattle.books.specs.Size.{Within, within?}
+use Rattle.books.specs.declared.reply.Reply.{Reply}
+use Rattle.books.proofs.Settled.{reply-one}
 use Rattle.books.proofs.SizesWithin.{within-exactly}
 use Rattle.pieces.specs.Pieces.{total}
 use Rattle.pieces.specs.Most.{most}
@@ -55,6 +58,10 @@ fits_table-settled m n entries = settles (fits_table m n entries)
 
 pub whole_sheet-settled : (m n : ℕ) (work : List ℕ) (a : ℕ) → Settles (whole_answer m n work a)
 whole_sheet-settled m n work a = settles (whole_answer m n work a)
+
+-- the number that is answered settles the reply
+pub whole_sheet-one : (m n : ℕ) (work : List ℕ) (a : ℕ) (q r : Reply) → number_of q ≡ whole_answer m n work a → number_of r ≡ whole_answer m n work a → q ≡ r
+whole_sheet-one m n work a q r e f = reply-one q r (e ∙ sym f)
 
 pub largest-settled : (work : List ℕ) (a m n : ℕ) → Settles (largest_in work a m n)
 largest-settled work a m n = settles (largest_in work a m n)

@@ -202,7 +202,11 @@ pub fn fire(masks: &[u32], joins: Joins, d: Dir, l: u32, r: u32) -> u32
     ensures { result ≡ fire_of masks.now joins d l r }
 {
     if fits(masks.len(), joins) {
-        return Masks { masks, joins }.rows(d).join(l, r).heads;
+        let masks = Masks { masks, joins };
+        return match d {
+            Dir::Across => masks.across().join(l, r).heads,
+            Dir::Down => masks.down().join(l, r).heads,
+        };
     }
     0
 }

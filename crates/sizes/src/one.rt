@@ -19,11 +19,10 @@ pub fn has_size(press: usize, masks: &[u32], joins: Joins, motif: u8, size: Size
     if motif as usize >= MOST_MOTIFS || !size::within(greatest(press), size) {
         return false;
     }
-    let filler = Filler::new(masks, joins, size.cols);
     let end = size.rows * size.cols;
     if end <= FEW {
-        filler.last_has::<FEW>(motif, end)
+        Filler::new(masks, joins, size.cols).last_has::<FEW>(motif, end)
     } else {
-        filler.last_has::<ROOM>(motif, end)
+        Filler::new(masks, joins, size.cols).last_has::<ROOM>(motif, end)
     }
 }

@@ -33,6 +33,7 @@ impl<'a> Filler<'a> {
     }
 
     // Every join of one direction at every cut of a size: from cut to cut the first part goes on from its first entry, and the second back from the entry due.
+    #[inline(always)]
     fn along(
         &self,
         sizes: &[u32],
@@ -55,6 +56,7 @@ impl<'a> Filler<'a> {
     }
 
     // The entry of a size of more than 1 by 1, from the entries of its parts.
+    #[inline(always)]
     fn entry_at(&self, sizes: &[u32], due: usize) -> u32
         requires { due < length sizes.now }
         ensures { result ≡ entry_of (fire_of self.now.masks.now self.now.joins) self.now.cols sizes.now
@@ -67,7 +69,9 @@ impl<'a> Filler<'a> {
         beside | above
     }
 
-    // The entries before a slot: 1 by 1 has the painters, and every other size what the joins make of the entries before it.
+    // The entries before a slot: 1 by 1 has the painters, and every other size what the joins make of the entries before it. With the hints the masks are
+    // looked at once for all sizes: without them a card of a book with no joins takes seven times as long.
+    #[inline(always)]
     pub(crate) fn fill(&self, sizes: &mut [u32], end: usize)
         requires { SizesDue end (length sizes.old) }
         ensures { sizes.new ≡ sizes_by (fire_of self.now.masks.now self.now.joins)

@@ -52,8 +52,11 @@ returns-then-motif-ge-MOST_MOTIFS c =
           sym (and-on _ _ (lt-ltb a.motif most_motifs low) ∙ and-off _ _ (rw w.greatest.ensures at (sym w.within.ensures ∙ w.if-not-within.true)))
     ]
 
-pub new-filler-requires : goal.new-filler-requires
-new-filler-requires c = omega (arith, place c)
+pub new-requires : goal.new-requires
+new-requires c = omega (arith, place (goal.at.new-requires c).Else-not-within)
+
+pub new-requires-else-end-le-FEW : goal.new-requires-else-end-le-FEW
+new-requires-else-end-le-FEW c = omega (arith, place (goal.at.new-requires-else-end-le-FEW c).Else-not-within)
 
 pub overflow_mul-end : goal.overflow_mul-end
 overflow_mul-end c = omega (arith, few (goal.at.overflow_mul-end c).Else-not-within)
@@ -68,10 +71,10 @@ last_has-requires-else-end-le-FEW c =
 
 pub returns-then-end-le-FEW : goal.returns-then-end-le-FEW
 returns-then-end-le-FEW c =
-    rw (c.new-filler.ensures.masks, c.new-filler.ensures.joins, c.new-filler.ensures.cols) at c.last_has.ensures
+    rw (c.new.ensures.masks, c.new.ensures.joins, c.new.ensures.cols) at c.last_has.ensures
     ∙ told (goal.at.returns-then-end-le-FEW c).Else-not-within 64 (omega (arith, c.if-end-le-FEW.true))
 
 pub returns-else-end-le-FEW : goal.returns-else-end-le-FEW
 returns-else-end-le-FEW c =
     let e = (goal.at.returns-else-end-le-FEW c).Else-not-within in
-    rw (c.new-filler.ensures.masks, c.new-filler.ensures.joins, c.new-filler.ensures.cols) at c.last_has-else-end-le-FEW.ensures ∙ told e room (few e)
+    rw (c.new-else-end-le-FEW.ensures.masks, c.new-else-end-le-FEW.ensures.joins, c.new-else-end-le-FEW.ensures.cols) at c.last_has-else-end-le-FEW.ensures ∙ told e room (few e)
